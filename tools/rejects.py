@@ -31,15 +31,15 @@ TRIED += [(IDENT, ALL, f'{text}.chars().all(', word) for text, word in [
     ('text', None), ('text.to_lowercase()', 'to_lowercase'), ('String::new(text)', 'String')]]
 # Entries of the list of uncalled items whose file, function, method, module or variant doesn't exist; lines that aren't entries.
 TRIED += [(UNCALLED, *change) for change in [
-    ('body_unit', 'body_unit', None), ('kind.rs Kind::word', 'kinds.rs Kind::word', 'kinds.rs'),
-    ('Kind::word', 'Kind::words', 'Kind::words'), ('Kind::word', 'Sort::word', 'Sort::word'),
+    ('body_unit', 'body_unit', None), ('kind.rs Kind::description', 'kinds.rs Kind::description', 'kinds.rs'),
+    ('Kind::description', 'Kind::descriptions', 'Kind::descriptions'), ('Kind::description', 'Sort::description', 'Sort::description'),
     ('char_of_body, body_unit', 'char_of_body, body_units', 'body_units'),
     ('- rl_strict/flaws.rs Flaw::piece_in_span', '- rl_strict/flaws.rs Flaw::text_in_span', 'text_in_span'),
     ('rl_syntax/span.rs *', 'rl_syntax/spans.rs *', 'spans.rs'), ('LexKind::{Memory}', 'LexKind::{Room}', 'Room'),
     ('LexKind::{Memory}', 'Lex::{Memory}', 'Lex::'), ('Kind::struct_name: ', 'Kind::struct_name ', 'no entry'),
-    ('Kind::word, ', 'Kind::word; ', 'no entry'),
+    ('Kind::description, ', 'Kind::description; ', 'no entry'),
     ('lanes.rs * with sources or settings', 'lanes.rs * with sources, settings', 'no entry'),
-    ('run_class, ', 'run_classes, ', 'run_classes'), ('skip_word with', 'skip_words with', 'skip_words'),
+    ('run_class, ', 'run_classes, ', 'run_classes'), ('skip_id_continue with', 'skip_words with', 'skip_words'),
 ]]
 # Entries of the list of inlined functions whose file or function doesn't exist, or isn't always inlined; and a line that isn't an
 # entry. After a plus: functions that their callers compile, where the file, the crate or the function doesn't exist, or the

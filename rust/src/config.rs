@@ -5,7 +5,7 @@ use crate::common::shifted;
 use crate::help::Separators;
 use crate::lit::Lit;
 use crate::rl_lexer::{without_byte_order_mark, Tokens};
-use crate::rl_settings::{entry_step, first_error, EntryRejection, EntryStep, NextEntry};
+use crate::rl_settings::{first_error, next_config_entry, EntryRejection, EntryStep, NextEntry};
 use crate::setting::{no_such, without_suffix, Key, SettingError, Settings};
 use crate::settings::{entry_of, rejected, Entry, SettingsSyntaxError};
 use alloc::borrow::Cow;
@@ -82,7 +82,7 @@ fn entries_of(text: &str) -> Result<Vec<Entry<'_>>, SettingsSyntaxError> {
     let mut tokens = Tokens::new(text);
     let (mut entries, mut names) = (Vec::new(), BTreeSet::new());
     loop {
-        match entry_step(&mut tokens, text) {
+        match next_config_entry(&mut tokens, text) {
             EntryStep::End => return Ok(entries),
             EntryStep::Entry(NextEntry { name, value }) => {
                 let range = name.lo..name.hi;

@@ -1,6 +1,6 @@
 //! Decoded values of literals whose text differs from their value, such as strings with escapes.
 
-use crate::rl_lenient::{bytes_into, float_digits_into, Body, SegmentValue};
+use crate::rl_lenient::{decode_bytes_into, float_digits_into, Body, SegmentValue};
 use crate::rl_syntax::Kind;
 use alloc::string::String;
 use alloc::vec::Vec;
@@ -36,7 +36,7 @@ pub(crate) fn text_of(text: &str, body: Body) -> String {
 /// Returns the value of a byte string or a C string whose body has escapes.
 #[inline]
 pub(crate) fn bytes_of(kind: Kind, body: &str) -> Vec<u8> {
-    written("", body, |body, out| bytes_into(kind, body, out))
+    written("", body, |body, out| decode_bytes_into(kind, body, out))
 }
 
 /// Returns the digits of a float, where `front` and `rest` are the float's text before its suffix. `front` is copied unchanged. In

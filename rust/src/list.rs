@@ -3,7 +3,7 @@
 use crate::list_error::ListError;
 use crate::lit::Lit;
 use crate::next_literal::placed;
-use crate::rl_lenient::{list_step, ListStep};
+use crate::rl_lenient::{next_list_literal, ListStep};
 use crate::rl_lexer::Tokens;
 use core::fmt;
 use core::iter::FusedIterator;
@@ -69,7 +69,7 @@ impl<'t> Iterator for Literals<'t> {
         if self.is_done {
             return None;
         }
-        match list_step(&mut self.tokens) {
+        match next_list_literal(&mut self.tokens) {
             ListStep::Literal(next) => return Some(Ok(placed(self.text, next))),
             ListStep::End => self.is_done = true,
             ListStep::Rejected(rejection) => {

@@ -2,12 +2,12 @@
 
 use crate::kind::Kind;
 use crate::parse_error::ParseError;
-use crate::rl_lenient::{find, is_plain_integer, Body, Found};
+use crate::rl_lenient::{is_plain_integer, parse_literal, Body, Found};
 #[cfg(any(feature = "sources", feature = "settings"))]
 use crate::rl_strict::explain_value;
 use crate::rl_strict::strict_reading::{
-    front_of, read, read_character, read_non_digit_start, read_string, read_unsigned_number, Front,
-    Reading,
+    classify_start, read, read_character, read_non_digit_start, read_string, read_unsigned_number,
+    Front, Reading,
 };
 use crate::rl_strict::{is_float_by_suffix, limit_flaw, LineEnds};
 use crate::rl_syntax;
@@ -119,7 +119,7 @@ impl<'t> Lit<'t> {
     #[must_use]
     pub fn of_text(text: impl Into<Cow<'t, str>>) -> Lit<'t> {
         let text = text.into();
-        let found = find(&text);
+        let found = parse_literal(&text);
         Lit::of_token(text, found)
     }
 
@@ -156,7 +156,7 @@ impl<'t> Lit<'t> {
         let borrowed = Cow::Borrowed(text);
         // Each branch calls a function that returns only the parts of its kind of literal, in registers. A function that reads
         // every kind would return its result in memory.
-        match front_of(text) {
+        match classify_start(text) {
             Front::Quote(inside) => match read_string(text, inside) {
                 Ok(body) => Ok(Lit::Str(LitStr::of(borrowed, body))),
                 Err(flaw) => Err(ParseError::of_flaw(flaw)),
@@ -620,7 +620,7 @@ impl FromStr for Lit<'static> {
 mod tests {
     use super::*;
     use crate::is_token;
-    use crate::rl_strict::limits::limit_of;
+    use crate::rl_strict::limits::limit_flaw_of_reading;
     use std::format;
 
     /// Calls `check` for each text that consists of `front` and up to `most` characters of `characters` after it.
@@ -669,7 +669,7 @@ mod tests {
             }
             Err(error) => {
                 let flaw = match read(text, LineEnds::Text, true) {
-                    Ok(reading) => limit_of(text, reading),
+                    Ok(reading) => limit_flaw_of_reading(text, reading),
                     Err(flaw) => Some(flaw),
                 };
                 assert_eq!(flaw.map(ParseError::of_flaw), Some(error), "{text:?}");

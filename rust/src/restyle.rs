@@ -1,7 +1,7 @@
 //! Rewriting of the literals of whole sources in a style.
 
 use crate::list_error::ListError;
-use crate::rl_style::{all_rules, changes, may_restyle, Restylable, Restylables};
+use crate::rl_style::{all_rules, is_changed_by_style, may_restyle, Restylable, Restylables};
 use crate::style::{rewrite_in_context, Style};
 use alloc::borrow::Cow;
 use alloc::string::String;
@@ -190,7 +190,12 @@ impl<'t> Edits<'t> {
 #[inline]
 fn rules_after(before: &str, text: &str, style: Style) -> Vec<&'static str> {
     let (style, mut room) = (style.proved(), vec![0; 4 * text.len() + 1]);
-    let mut is_of = |rule| matches!(changes(before, text, style.only(rule), &mut room), Ok(true));
+    let mut is_of = |rule| {
+        matches!(
+            is_changed_by_style(before, text, style.only(rule), &mut room),
+            Ok(true)
+        )
+    };
     let rules = all_rules().iter().copied();
     rules
         .filter(|rule| is_of(*rule))

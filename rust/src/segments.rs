@@ -123,7 +123,7 @@ impl FusedIterator for Segments<'_> {}
 impl Clone for Segments<'_> {
     #[inline]
     fn clone(&self) -> Self {
-        let lo = self.cursor.at();
+        let lo = self.cursor.next_offset();
         let left = Body { lo, ..self.parts };
         Segments {
             cursor: left.segments_in(self.kind, self.text),
@@ -135,7 +135,7 @@ impl Clone for Segments<'_> {
 /// Prints the byte offset at which the next segment begins.
 impl fmt::Debug for Segments<'_> {
     fn fmt(&self, f: &mut fmt::Formatter<'_>) -> fmt::Result {
-        let at = self.cursor.at();
+        let at = self.cursor.next_offset();
         f.debug_tuple("Segments").field(&at).finish()
     }
 }
@@ -175,7 +175,7 @@ impl OffsetMap {
             }
             at += len;
         }
-        let end = (at, segments.at());
+        let end = (at, segments.next_offset());
         OffsetMap {
             segments: places,
             end,

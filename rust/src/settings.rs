@@ -8,8 +8,7 @@ use crate::next_literal::placed;
 use crate::rl_lenient::NextLiteral;
 use crate::rl_lexer::{LexError, Tokens};
 use crate::rl_settings::{
-    first_error, lexer_error, settings_step, NextSetting, SettingRejection, SettingStep,
-    SyntaxError,
+    first_error, lexer_error, next_setting, NextSetting, SettingRejection, SettingStep, SyntaxError,
 };
 use alloc::collections::BTreeSet;
 use alloc::string::String;
@@ -213,7 +212,7 @@ pub fn parse_settings(text: &str) -> Result<Vec<Entry<'_>>, SettingsSyntaxError>
     let mut tokens = Tokens::new(text);
     let (mut entries, mut names) = (Vec::new(), BTreeSet::new());
     loop {
-        match settings_step(&mut tokens, text.len()) {
+        match next_setting(&mut tokens, text.len()) {
             SettingStep::End => return Ok(entries),
             SettingStep::Setting(NextSetting { name, value }) => {
                 let range = name.lo..name.hi;

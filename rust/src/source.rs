@@ -2,9 +2,9 @@
 
 use crate::list_error::ListError;
 use crate::lit::Lit;
-use crate::rl_lenient::{source_step, Found, SourceStep};
+use crate::rl_lenient::{next_source_literal, Found, SourceStep};
 use crate::rl_lexer::{SourceToken, Sources};
-use crate::rl_recovery::{recovery_step, Recovery};
+use crate::rl_recovery::{next_recovered_literal, Recovery};
 use alloc::borrow::Cow;
 use core::fmt;
 use core::iter::FusedIterator;
@@ -117,7 +117,7 @@ impl<'t> Iterator for Source<'t> {
         if self.is_done {
             return None;
         }
-        match source_step(&mut self.tokens) {
+        match next_source_literal(&mut self.tokens) {
             SourceStep::Literal(token, found) => return Some(Ok(literal_of(token, found))),
             SourceStep::End => self.is_done = true,
             SourceStep::Rejected(error) => {
@@ -168,7 +168,7 @@ impl<'t> Iterator for Recover<'t> {
     type Item = Item<'t>;
 
     fn next(&mut self) -> Option<Self::Item> {
-        match recovery_step(&mut self.tokens) {
+        match next_recovered_literal(&mut self.tokens) {
             SourceStep::Literal(token, found) => Some(Ok(literal_of(token, found))),
             SourceStep::End => None,
             SourceStep::Rejected(error) => Some(Err(ListError::of_source(self.text, error))),

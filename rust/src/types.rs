@@ -2,7 +2,7 @@
 
 use crate::lit::Lit;
 use crate::rl_flaws::{self, TypeError};
-use crate::rl_lenient::find;
+use crate::rl_lenient::parse_literal;
 use core::fmt;
 use core::hash::{Hash, Hasher};
 use core::mem::discriminant;
@@ -75,5 +75,5 @@ impl Lit<'_> {
 /// it.
 #[inline]
 fn type_error_of(body: &str, is_negated: bool) -> Option<TypeError> {
-    rl_flaws::type_error(body, &find(body)?, is_negated)
+    rl_flaws::type_error(body, &parse_literal(body)?, is_negated)
 }

@@ -4,8 +4,8 @@
 use crate::numbers::Base;
 use crate::rl_syntax::{write_bytes_into, write_char_into, write_str_into, Kind};
 use crate::rl_writing::{
-    self, raw_form, raw_hashes, write_char_ascii_into, write_integer_into, write_raw_into,
-    write_str_ascii_into,
+    self, min_raw_hashes, raw_text_and_hashes, write_char_ascii_into, write_integer_into,
+    write_raw_into, write_str_ascii_into,
 };
 use crate::value::Integer;
 use alloc::string::String;
@@ -151,7 +151,7 @@ fn raw(kind: Kind, text: &str, hashes: usize) -> String {
 #[inline]
 #[must_use]
 pub fn write_raw_str(value: &str) -> Option<String> {
-    let hashes = raw_hashes(Kind::Str, value)?;
+    let hashes = min_raw_hashes(Kind::Str, value)?;
     Some(raw(Kind::Str, value, hashes))
 }
 
@@ -168,7 +168,7 @@ pub fn write_raw_str(value: &str) -> Option<String> {
 #[inline]
 #[must_use]
 pub fn write_raw_byte_str(value: &[u8]) -> Option<String> {
-    let (text, hashes) = raw_form(Kind::ByteStr, value)?;
+    let (text, hashes) = raw_text_and_hashes(Kind::ByteStr, value)?;
     Some(raw(Kind::ByteStr, text, hashes))
 }
 
@@ -185,7 +185,7 @@ pub fn write_raw_byte_str(value: &[u8]) -> Option<String> {
 #[inline]
 #[must_use]
 pub fn write_raw_c_str(value: &CStr) -> Option<String> {
-    let (text, hashes) = raw_form(Kind::CStr, value.to_bytes())?;
+    let (text, hashes) = raw_text_and_hashes(Kind::CStr, value.to_bytes())?;
     Some(raw(Kind::CStr, text, hashes))
 }
 

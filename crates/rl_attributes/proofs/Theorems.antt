@@ -7,7 +7,7 @@ use Rattle.std.proofs.Common.{◌↔◌, List, All, Any}
 use Rattle.rl_attributes.specs.declared.attributes.Entry.{Entry}
 use Rattle.rl_attributes.specs.Attributes.{Attribute}
 use Rattle.rl_attributes.specs.Entries.{attribute_of, attributes_of}
-use Rattle.rl_attributes.specs.Laws.{AStringReadsFromItsText, ABoolReadsFromItsText, TheTextTellsTheKind, TheTextTellsTheSuffix, AMalformedLiteralHasNoReading, AStringIsRejectedForMemory, ABoolIsAccepted, KnownNamesAreTheSettings}
+use Rattle.rl_attributes.specs.Laws.{AStringReadsFromItsText, ABoolReadsFromItsText, TheTextTellsTheKind, TheTextTellsTheSuffix, AMalformedLiteralHasNoReading, OnlyAnAllocationFailureRejectsAString, ABoolIsAccepted, KnownNamesAreTheSettings}
 use Rattle.rl_attributes.proofs.TextLemmas.{string_in_text, truth_reads, is_kind, suffix_is, malformed, string_memory, truth_fits, knows_one, one_known, all_map, all_unmap, any_map, any_unmap}
 
 pub a_string_reads_from_its_text : {A B : Type 0} → AStringReadsFromItsText A B
@@ -25,8 +25,8 @@ the_text_tells_the_suffix = suffix_is
 pub a_malformed_literal_has_no_reading : {A : Type 0} → AMalformedLiteralHasNoReading A
 a_malformed_literal_has_no_reading = malformed
 
-pub a_string_is_rejected_for_memory : {A : Type 0} → AStringIsRejectedForMemory A
-a_string_is_rejected_for_memory = string_memory
+pub only_an_allocation_failure_rejects_a_string : {A : Type 0} → OnlyAnAllocationFailureRejectsAString A
+only_an_allocation_failure_rejects_a_string = string_memory
 
 pub a_bool_is_accepted : {A : Type 0} → ABoolIsAccepted A
 a_bool_is_accepted = truth_fits

@@ -44,8 +44,8 @@ AMalformedLiteralHasNoReading A =
 
 -- A theorem: the only error for a setting whose value is a string, and which must be a string, is an allocation
 -- failure.
-abbrev pub AStringIsRejectedForMemory : (A : Type 0) → Type 0
-AStringIsRejectedForMemory A =
+abbrev pub OnlyAnAllocationFailureRejectsAString : (A : Type 0) → Type 0
+OnlyAnAllocationFailureRejectsAString A =
     (s : Setting) (l : Lit A) (e : SettingError A) → kind_of l ≡ Some StrKind → RejectsString s l e
     → IsMemoryError e
 

@@ -53,7 +53,7 @@ impl<A: Allocator> Attrs<A> {
 
     /// Returns the span of the error for a missing name. For attributes that [`read`] parsed it is the empty span at
     /// the text's end. For attributes that were parsed from a parse buffer it is the buffer's scope.
-    pub fn end(&self) -> Span
+    pub fn end_span(&self) -> Span
         ensures { result ≡ attrs_end self.now }
     {
         self.end

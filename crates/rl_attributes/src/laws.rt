@@ -1,7 +1,7 @@
 //! Theorems about the values of attributes and about settings. Each function here does nothing when it is called: its
 //! contract is a theorem.
 
-ghost use Rattle.rl_attributes.specs.Laws.{AStringReadsFromItsText, ABoolReadsFromItsText, TheTextTellsTheKind, TheTextTellsTheSuffix, AMalformedLiteralHasNoReading, AStringIsRejectedForMemory, ABoolIsAccepted, KnownNamesAreTheSettings};
+ghost use Rattle.rl_attributes.specs.Laws.{AStringReadsFromItsText, ABoolReadsFromItsText, TheTextTellsTheKind, TheTextTellsTheSuffix, AMalformedLiteralHasNoReading, OnlyAnAllocationFailureRejectsAString, ABoolIsAccepted, KnownNamesAreTheSettings};
 
 use std::alloc::Allocator;
 
@@ -33,8 +33,8 @@ pub fn a_malformed_literal_has_no_reading<A: Allocator>()
 
 /// Proves that the only error for a setting whose value is a string, and which must be a string, is an allocation
 /// failure.
-pub fn a_string_is_rejected_for_memory<A: Allocator>()
-    ensures { AStringIsRejectedForMemory A }
+pub fn only_an_allocation_failure_rejects_a_string<A: Allocator>()
+    ensures { OnlyAnAllocationFailureRejectsAString A }
 {}
 
 /// Proves that there is no error for a setting whose value is a `bool`, and which must be a `bool`.

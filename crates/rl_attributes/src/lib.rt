@@ -7,14 +7,14 @@
 //! use rl_attributes::{Setting, read};
 //! use std::alloc::Global;
 //!
-//! pub fn host_in(alloc: Global, text: &str) -> Option<String> {
+//! pub fn required_host(alloc: Global, text: &str) -> Option<String> {
 //!     let host = Setting {
 //!         name: "host",
 //!         expected: "a string",
 //!     };
 //!     read(alloc, text, 0).ok()?.required_string(alloc, host).ok()
 //! }
-//! // host_in(alloc, "host = \"a\", port = 80") == Some("a")
+//! // required_host(alloc, "host = \"a\", port = 80") == Some("a")
 //! ```
 #![tactic(auto)]
 

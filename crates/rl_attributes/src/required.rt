@@ -25,14 +25,14 @@ impl<A: Allocator> Attrs<A> {
     /// use rl_attributes::{Setting, read};
     /// use std::alloc::Global;
     ///
-    /// pub fn host_in(alloc: Global, text: &str) -> Option<String> {
+    /// pub fn required_host(alloc: Global, text: &str) -> Option<String> {
     ///     let host = Setting {
     ///         name: "host",
     ///         expected: "a string",
     ///     };
     ///     read(alloc, text, 0).ok()?.required_string(alloc, host).ok()
     /// }
-    /// // host_in(alloc, "host = \"a\", port = 80") == Some("a")
+    /// // required_host(alloc, "host = \"a\", port = 80") == Some("a")
     /// ```
     pub fn required_string(&self, alloc: A, setting: Setting) -> Result<String<A>, SettingError<A>>
         ensures set { IfOk result
@@ -43,7 +43,7 @@ impl<A: Allocator> Attrs<A> {
     {
         match self.string(alloc, setting) {
             Ok(Some(text)) => Ok(text),
-            Ok(None) => Err(self.missing(setting)),
+            Ok(None) => Err(self.missing_error(setting)),
             Err(error) => Err(error),
         }
     }
@@ -72,7 +72,7 @@ impl<A: Allocator> Attrs<A> {
     {
         match self.number::<N>(alloc, setting) {
             Ok(Some(number)) => Ok(number),
-            Ok(None) => Err(self.missing(setting)),
+            Ok(None) => Err(self.missing_error(setting)),
             Err(error) => Err(error),
         }
     }
@@ -81,19 +81,19 @@ impl<A: Allocator> Attrs<A> {
     ///
     /// # Errors
     ///
-    /// Returns the errors of [`Attrs::truth`]. Returns `Missing` at the end of the settings if no attribute has the
+    /// Returns the errors of [`Attrs::bool`]. Returns `Missing` at the end of the settings if no attribute has the
     /// setting's name.
     ///
     /// See the example of [`Attrs::required_string`].
-    pub fn required_truth(&self, setting: Setting) -> Result<bool, SettingError<A>>
+    pub fn required_bool(&self, setting: Setting) -> Result<bool, SettingError<A>>
         ensures set { IfOk result (λ truth. IsTruthAt setting.name.now truth (list_of self.now)) }
         ensures exactly { (value : Bool) → IsTruthAt setting.name.now value (list_of self.now)
             → result ≡ Ok value }
         ensures rejected { IfErr result (RejectsRequired setting self.now (RejectsTruth setting)) }
     {
-        match self.truth(setting) {
+        match self.bool(setting) {
             Ok(Some(truth)) => Ok(truth),
-            Ok(None) => Err(self.missing(setting)),
+            Ok(None) => Err(self.missing_error(setting)),
             Err(error) => Err(error),
         }
     }
@@ -102,17 +102,17 @@ impl<A: Allocator> Attrs<A> {
     ///
     /// # Errors
     ///
-    /// Returns the errors of [`Attrs::truth`].
+    /// Returns the errors of [`Attrs::bool`].
     ///
     /// See the example of [`Attrs::required_string`].
-    pub fn truth_or(&self, setting: Setting, default: bool) -> Result<bool, SettingError<A>>
+    pub fn bool_or(&self, setting: Setting, default: bool) -> Result<bool, SettingError<A>>
         ensures set { IfOk result (λ truth. IsTruthOr setting.name.now default truth (list_of self.now)) }
         ensures exactly { (value : Bool) → IsTruthOr setting.name.now default value (list_of self.now)
             → result ≡ Ok value }
         ensures rejected { IfErr result
             (RejectsSetValue setting (entries_of self.now) (RejectsTruth setting)) }
     {
-        let found = self.truth(setting);
+        let found = self.bool(setting);
         match found {
             Ok(found) => Ok(found.unwrap_or(default)),
             Err(error) => Err(error),

@@ -121,7 +121,7 @@ impl<A: Allocator> From<AllocError> for SettingError<A> {
     ghost from_gives = { λ failed setting. setting ≡ Text (memory_at nowhere) };
 
     fn from(_failed: AllocError) -> SettingError<A> {
-        SettingError::Text(Error::memory(Span::call_site()))
+        SettingError::Text(Error::out_of_memory(Span::call_site()))
     }
 }
 

@@ -156,7 +156,7 @@ impl<A: Allocator> Attrs<A> {
     /// use rl_attributes::{Setting, read};
     /// use std::alloc::Global;
     ///
-    /// pub fn host_of(alloc: Global, text: &str) -> Option<String> {
+    /// pub fn optional_host(alloc: Global, text: &str) -> Option<String> {
     ///     let host = Setting {
     ///         name: "host",
     ///         expected: "a string",
@@ -164,7 +164,7 @@ impl<A: Allocator> Attrs<A> {
     ///     let attrs = read(alloc, text, 0).ok()?;
     ///     attrs.string(alloc, host).ok()?
     /// }
-    /// // host_of(alloc, "host = \"a\", port = 80") == Some("a")
+    /// // optional_host(alloc, "host = \"a\", port = 80") == Some("a")
     /// ```
     pub fn string(&self, alloc: A, setting: Setting) -> Result<Option<String<A>>, SettingError<A>>
         ensures set { IfOk result (IsSetAs setting (entries_of self.now) IsStringSet) }
@@ -224,7 +224,7 @@ impl<A: Allocator> Attrs<A> {
     /// other literal that is neither `true` nor `false`.
     ///
     /// See the example of [`Attrs::string`].
-    pub fn truth(&self, setting: Setting) -> Result<Option<bool>, SettingError<A>>
+    pub fn bool(&self, setting: Setting) -> Result<Option<bool>, SettingError<A>>
         ensures set { IfOk result (IsSetAs setting (entries_of self.now) IsTruthSet) }
         ensures rejected { IfErr result
             (RejectsSetValue setting (entries_of self.now) (RejectsTruth setting)) }
@@ -248,7 +248,7 @@ impl<A: Allocator> Attrs<A> {
     /// use rl_attributes::{Setting, read};
     /// use std::alloc::Global;
     ///
-    /// pub fn missing_at(alloc: Global, text: &str) -> Option<usize> {
+    /// pub fn missing_host_offset(alloc: Global, text: &str) -> Option<usize> {
     ///     let host = Setting {
     ///         name: "host",
     ///         expected: "a string",
@@ -256,14 +256,14 @@ impl<A: Allocator> Attrs<A> {
     ///     let attrs = read(alloc, text, 0).ok()?;
     ///     match attrs.get(host.name) {
     ///         Some(_) => None,
-    ///         None => Some(attrs.missing(host).span().lo),
+    ///         None => Some(attrs.missing_error(host).span().lo),
     ///     }
     /// }
-    /// // missing_at(alloc, "port = 80") == Some(9)
+    /// // missing_host_offset(alloc, "port = 80") == Some(9)
     /// ```
-    pub fn missing(&self, setting: Setting) -> SettingError<A>
+    pub fn missing_error(&self, setting: Setting) -> SettingError<A>
         ensures { result ≡ Missing setting (attrs_end self.now) }
     {
-        SettingError::Missing(setting, self.end())
+        SettingError::Missing(setting, self.end_span())
     }
 }

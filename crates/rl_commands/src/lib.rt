@@ -12,6 +12,6 @@ pub mod run;
 
 pub use crate::attribute_lines::entry_lines;
 pub use crate::command::Command;
-pub use crate::exit::call;
-pub use crate::lit_line::{line_of, push_literal_line};
+pub use crate::exit::run_with_arguments;
+pub use crate::lit_line::{output_line, push_literal_line};
 pub use rl_program::{Ending, ProgramError};

@@ -6,7 +6,7 @@ ghost use Rattle.rl_program.specs.Lines.{IsLineOfKind, Appends};
 ghost use Rattle.rl_lenient.specs.Founds.{is_quoted};
 ghost use Rattle.rl_commands.specs.LitLines.{IsLineOfLit};
 
-use rl_program::{push_found, push_line_of_kind, push_verbatim_line, truth_word};
+use rl_program::{bool_word, push_found_line, push_line_of_kind, push_verbatim_line};
 use rl_quoted::{Quoted, QuotedKind};
 use rl_tokens::Kind;
 use rust_literals::Lit;
@@ -22,7 +22,7 @@ fn push_quoted_literal<K: QuotedKind, A: Allocator + Copy>(
     ensures { OnOk result (Appends (IsLineOfKind K.KIND (chars literal.now.text))
         (chars (string_bytes out.old)) (chars (string_bytes out.new))) }
 {
-    push_found(alloc, out, literal.text(), Some(literal.found()))
+    push_found_line(alloc, out, literal.text(), Some(literal.found()))
 }
 
 /// Appends the output line of a literal.
@@ -56,7 +56,7 @@ pub fn push_literal_line<A: Allocator + Copy>(
             number.base10_digits(),
             number.suffix(),
         ),
-        Lit::Bool(truth) => push_line_of_kind(out, Kind::Bool, truth_word(truth.value()), ""),
+        Lit::Bool(truth) => push_line_of_kind(out, Kind::Bool, bool_word(truth.value()), ""),
         Lit::Verbatim(token) => push_verbatim_line(out, token.text()),
     }
 }
@@ -66,7 +66,7 @@ pub fn push_literal_line<A: Allocator + Copy>(
 /// # Errors
 ///
 /// Returns an error if an allocation fails. The error is the standard library's and has no position.
-pub fn line_of<A: Allocator + Copy>(alloc: A, literal: &Lit<A>) -> Result<String<A>, AllocError>
+pub fn output_line<A: Allocator + Copy>(alloc: A, literal: &Lit<A>) -> Result<String<A>, AllocError>
     ensures { IfOk result (λ line. IsLineOfLit literal.now (chars (string_bytes line))) }
 {
     let mut line = String::new(alloc);

@@ -11,7 +11,7 @@ ghost use Rattle.rl_commands.specs.Runs.{whole_token, Shows, Prints, IsLiteralEr
 use crate::attribute_lines::attribute_lines;
 use crate::command::Command;
 use crate::list::literal_lines;
-use crate::lit_line::line_of;
+use crate::lit_line::output_line;
 use rl_program::{ProgramError, read_whole, text_of, write_whole};
 use rl_tokens::{Literal, Span};
 use rust_literals::Lit;
@@ -56,7 +56,7 @@ fn literal_line<A: Allocator + Copy>(
 {
     let token = token_of(alloc, bytes)?;
     let literal = literal_of(alloc, token)?;
-    let line = line_of(alloc, &literal)?;
+    let line = output_line(alloc, &literal)?;
     Ok(line)
 }
 

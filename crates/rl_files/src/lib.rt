@@ -16,7 +16,7 @@ pub use crate::host::{Host, LONGEST};
 pub use crate::memory::{
     MemoryDirectory, MemoryFile, MemoryReplacement, MemoryReplacements, MemoryTree, Unwritable,
 };
-pub use crate::path_texts::{escaped_path, path_text};
+pub use crate::path_texts::{escaped_non_utf8_path, path_text};
 pub use crate::replace::Replace;
 pub use crate::tree::{PathError, Tree};
 pub use crate::visible::{make_visible, push_visible};

@@ -46,7 +46,7 @@ pub fn path_text<A: Allocator>(alloc: A, bytes: &[u8]) -> Result<String<A>, Allo
 }
 
 /// Returns the escaped bytes if the text represents a path that isn't UTF-8: the text without its NUL. Else the result is `None`.
-pub fn escaped_path(text: &str) -> Option<&str>
+pub fn escaped_non_utf8_path(text: &str) -> Option<&str>
     ensures { MatchOption result (marked text.now ≡ false)
         (λ shown. (marked text.now ≡ true) × (shown.now ≡ unmarked text.now)) }
 {

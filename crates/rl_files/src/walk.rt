@@ -6,7 +6,7 @@ ghost use Rattle.rl_files.specs.Trees.{string_texts};
 ghost use Rattle.rl_files.specs.Walks.{has_extension as has_ending, are_of_package as of_package, is_left_out as left_out, is_wanted as wanted, has_one_of as has_ending_of, is_directory as directory, given_length as base, path_in as path_of, waypoint, waypoint_of, visited, waypoints_of, waypoints_in, given_waypoint, given_waypoints, EndsEarly, EntersInOrder, WalksOn, VisitsFirst, VisitsNone};
 
 use crate::glob::is_excluded;
-use crate::path_texts::escaped_path;
+use crate::path_texts::escaped_non_utf8_path;
 use crate::tree::{PathError, Tree};
 use std::alloc::{AllocError, Allocator, Global};
 use std::fmt;
@@ -221,7 +221,7 @@ fn pending_of<A: Allocator>(
 fn entry_given<A: Allocator>(alloc: A, path: String<A>) -> Result<WalkEntry<A>, AllocError>
     ensures { IfOk result (λ entry. waypoint entry ≡ given_waypoint (string_bytes path)) }
 {
-    if let Some(shown) = escaped_path(path.as_str()) {
+    if let Some(shown) = escaped_non_utf8_path(path.as_str()) {
         return Ok(WalkEntry::BadPath(String::from_str(alloc, shown)?));
     }
     Ok(WalkEntry::Directory(None, path))

@@ -1,15 +1,16 @@
--- The flaw of a character or byte literal's suffix, after a flaw before its closing quote.
+-- After a flaw before the closing quote of a character or byte literal, the literal's suffix may have another flaw.
 use Rattle.rl_flaws.proofs.Names.{◌≡◌, ◌+◌, ℕ, Bool, Bor, true, false, List, [], ◌∷◌, ◌++◌, codes, None, Some, drop, length, refl, sym, ap, subst, inr, ◌∙◌, append_assoc, both_ways, IsUtf8, chars, first_passes, Byte, Char, Itself, Kind, is_single, is_strict_unit, opener, SingleForm, is_apostrophe, is_equal, IsRestOf, read_of, FlawAt, FlawKind, LineEnds, unit_rest, suffix_read_at, found_flaw, suffix_piece, IsFlawAt, IsToken, free_of, step_in, suffix_in, unit_rest_complete, quote_read, single_bad, single_good, piece_place, after_bad_piece, is_flaw_of_unit, EndsWhere, HasNoFlaw, ReadsFrom, TakesFlaw, state_of, InvalidPiece, Closed, Nothing, close_token}
 use Rattle.rl_flaws.proofs.PlaceLemmas.{place_at, place_in}
 use Rattle.rl_flaws.proofs.WalkLemmas.{flaw_after, no_unit_suffix}
 
--- ---- the closing quote, and the text after it
+-- ---- the closing quote of the literal, and the text after it
 
 pub begins_quote : (t : List ℕ) → first_passes is_apostrophe t ≡ true → t ≡ 39 ∷ drop 1 t
 begins_quote [] h = absurd (both_ways false refl h)
 begins_quote (c ∷ cs) h = ap (λ z. z ∷ cs) (is_equal c 39 h)
 
--- A text with the valid character `x` (code 120) in front begins with a character of a character or byte literal.
+-- A character or byte literal may contain the character `x` (code 120). So if `x` precedes a text, the parser consumes `x`,
+-- and the text remains.
 good_unit : (k : Kind) (closing : List ℕ) → is_single k ≡ true → unit_rest k (120 ∷ closing) ≡ Some closing
 good_unit k closing s = unit_rest_complete k (Itself 120) closing (good k s) tt
   where
@@ -41,7 +42,7 @@ closed_token how k closing suffix s quote none =
     (after_opener how k closing)
     (single_good how k (120 ∷ closing) closing suffix s (good_unit k closing s) quote none)
 
--- ---- the piece and the flaw are in the unchecked text
+-- ---- the piece and the flaw of the suffix begin inside the unchecked text
 
 pub closed_piece : (how : LineEnds) (closing suffix piece : List ℕ) (k : FlawKind) → closing ≡ 39 ∷ suffix
     → piece ≡ suffix_piece k closing suffix → IsRestOf how closing piece
@@ -54,7 +55,7 @@ closed_stop how closing suffix f quote flaw =
     step_in how closing suffix (chars f.rest.now) (quote_read how closing suffix 39 quote refl).1
     (suffix_in how SingleForm suffix (found_flaw f.kind (chars f.rest.now)) flaw)
 
--- ---- the flaw that the cursor returns
+-- ---- the flaw that the cursor returns for the suffix
 
 no_unit_end : (u : Bool) (GoesOnAt : ℕ → Type 0) (hi end : ℕ) → (u ≡ true → ⊥) → EndsWhere u GoesOnAt hi end → end ≡ hi
 no_unit_end true GoesOnAt hi end none e = absurd (none refl)

@@ -10,7 +10,7 @@ no_empty test t e h = both_ways (first_passes test t) (ap (first_passes test) e)
 no_first : (test : ℕ → Bool) (t cs : List ℕ) (c : ℕ) → t ≡ c ∷ cs → test c ≡ false → first_passes test t ≡ true → ⊥
 no_first test t cs c e n h = both_ways (first_passes test t) (ap (first_passes test) e ∙ n) h
 
--- If the text doesn't begin with its closing quote, a first part of the text precedes the quote.
+-- If the text doesn't begin with its closing quote, the text before this quote begins with a plain character or an escape.
 first_part : (c : ℕ) (t closing : List ℕ) → (c == 39) ≡ false → (r : ReachesQuote (c ∷ t) closing)
     → (p : BodyPart) × (parts : List BodyPart) × (r.parts ≡ p ∷ parts)
 first_part c t closing other r = go r.parts refl
@@ -20,7 +20,7 @@ first_part c t closing other r = go r.parts refl
         (sym (r.inside_is ∙ ap (λ z. body_text z ++ closing) e)) other r.is_quote)
     go (p ∷ more) e = (p, more, e)
 
--- ---- the search at a quote, and at the text's end
+-- ---- the search for the closing quote at a quote, and at the text's end
 
 pub quote_here : (t cs : List ℕ) (c : ℕ) → t ≡ c ∷ cs → (c == 39) ≡ true → ReachesQuote t t
 quote_here t cs c e h =
@@ -39,7 +39,7 @@ none_at_end t closing e r = go r.parts refl
         ∙ ap (λ z. body_text z ++ closing) p in
         absurd (cc)
 
--- ---- the search after a part of the text
+-- ---- the search for the closing quote after a character or escape
 
 three_false : (a b d : Bool) → not (a || b || d) ≡ true → (a ≡ false) × (b ≡ false) × (d ≡ false)
 three_false true b d h = absurd (cc)
@@ -47,7 +47,8 @@ three_false false true d h = absurd (cc)
 three_false false false true h = absurd (cc)
 three_false false false false h = (refl, refl, refl)
 
--- The first part of a text that doesn't begin with a quote.
+-- The text before the closing quote begins with `c`. Either `c` is a plain character, or it is a backslash that escapes the
+-- next character.
 abbrev Parted : ℕ → List ℕ → List ℕ → Type 0
 Parted c t closing =
     ((parts : List BodyPart) × IsQuoteBody (PlainPart c ∷ parts) × (t ≡ body_text parts ++ closing))
@@ -68,7 +69,7 @@ parted c t closing other r = go (first_part c t closing other r)
         let tail : t ≡ d ∷ (body_text parts ++ closing) = cc in
         inr (head, (d, parts, subst IsQuoteBody e r.is_body, tail))
 
--- If the text begins with the closing quote, no part of the text precedes the quote.
+-- If the text begins with the closing quote, nothing precedes the quote.
 no_parts : (t : List ℕ) (closing : List ℕ) (r : ReachesQuote t closing) → begins_char 39 t ≡ true → r.parts ≡ []
 no_parts t closing r quote = go r.parts refl
   where
@@ -123,7 +124,7 @@ escape_passes e t closing = (λ r. past r (parted 92 (e ∷ t) closing refl r), 
       is_quote = r.is_quote;
     }
 
--- ---- the positions where the search ends
+-- ---- the positions where the search for the closing quote ends
 
 pub escape_ends : (t closing : List ℕ) → t ≡ [] → ReachesQuote (92 ∷ t) closing → ⊥
 escape_ends t closing none r = go (parted 92 t closing refl r)
@@ -151,7 +152,7 @@ line_ends c t closing quote line none r = go (parted c t closing quote r)
         both_ways (begins_char 39 t) none (ap (begins_char 39) same ∙ r.is_quote)
     go (inr (same, more)) = both_ways (c == 10) (ap (λ z. z == 10) same) line
 
--- ---- the steps of the search as tests in the code
+-- ---- the search for the closing quote, as tests in the code
 
 pub escape_part : (c e : ℕ) (t r closing : List ℕ) → c ≡ 92 → t ≡ e ∷ r
     → ReachesQuote (c ∷ t) closing ↔ ReachesQuote r closing
@@ -185,7 +186,8 @@ search_passes how c t closing quote escape on = go (c == 47) (c == 10) (begins_c
     go false true false x y z h = absurd (both_ways true h refl)
     go false false d x y z h = passes x (λ e. absurd (both_ways (c == 10) y (ap (λ w. w == 10) e)))
 
--- The search skips one more part of the text, after the parts that it skipped before.
+-- The search has skipped the first characters of the text, and the closing quote of the rest is that of the whole text. If the
+-- search skips one more character or escape, this still holds.
 pub passes_on : (t s f r closing : List ℕ) (c : ℕ) → ReachesQuote t closing ↔ ReachesQuote s closing → s ≡ c ∷ f
     → ReachesQuote (c ∷ f) closing ↔ ReachesQuote r closing → ReachesQuote t closing ↔ ReachesQuote r closing
 passes_on t s f r closing c before e part = (
@@ -197,7 +199,7 @@ pub quote_begins : (how : LineEnds) (t closing : List ℕ) → ReachesQuote t (r
     → first_passes is_apostrophe closing ≡ true
 quote_begins how t closing r = sym (first_of how is_apostrophe refl closing) ∙ r.is_quote
 
--- ---- a text that begins with two quotes
+-- ---- a text that begins with two single quotes
 
 two_quotes : (t cs : List ℕ) → t ≡ 39 ∷ cs → begins_two_quotes t ≡ begins_char 39 cs
 two_quotes t cs e = ap begins_two_quotes e

@@ -1,4 +1,4 @@
--- The end of an invalid character or escape, step by step. The invalid piece isn't empty.
+-- The code finds the end of an invalid character or escape step by step. The invalid piece isn't empty.
 use Rattle.rl_flaws.proofs.Names.{◌≡◌, ◌≢◌, ◌≤◌, ◌<◌, ◌==◌, ◌||◌, ℕ, Bool, true, false, List, [], ◌∷◌, ◌++◌, length, length-append, refl, sym, ap, ◌∙◌, arith, cond, both_ways, chars, is_hex_digit, IsTail, is_underscore, is_some_text, read_of, LineEnds, some_text_of, after_bad_piece, after_brace, after_code_digits, after_escape, after_hex, after_one, after_unicode}
 
 -- ---- the digits of an invalid escape
@@ -19,7 +19,7 @@ pub digits_end : (q : ℕ) (t : List ℕ) → t ≡ [] → t ≡ after_code_digi
 unfolding after_code_digits
 digits_end q t e = e ∙ sym (ap (after_code_digits q) e)
 
--- ---- the text after an invalid piece is shorter than the text with it
+-- ---- the text after an invalid piece is shorter than the text that begins with this piece
 
 of_either : (b : Bool) (n : ℕ) (x y : List ℕ) → length x ≤ n → length y ≤ n → length (cond b x y) ≤ n
 of_either true n x y p q = p

@@ -14,7 +14,7 @@ use Rattle.rl_syntax.specs.declared.integer_type.IntegerType.TheVariants.{U8, U1
 use Rattle.rl_flaws.specs.declared.number_types.NumberType.{NumberType}
 use Rattle.rl_flaws.specs.declared.number_types.NumberType.TheVariants.{Integer, F32, F64}
 
--- A suffix is the name of at most one number type.
+-- The names of number types are mapped to different numbers. So a suffix is the name of at most one number type.
 number_of : List ℕ → ℕ
 number_of [] = 0
 number_of (b ∷ bs) = b + 256 * number_of bs
@@ -65,7 +65,7 @@ some_name s t a none =
     let e : Some t ≡ None = sym (name_tells t) ∙ ap (λ z. named_by (number_of z)) (sym a ∙ none) in
     absurd (cc)
 
--- No type is both an integer type and a float type.
+-- An integer type has a greatest value, and a float type has none. So no type is both.
 none_some : (o : Option ℕ) (g : ℕ) → o ≡ None → o ≡ Some g → ⊥
 none_some o g a b = let e : None ≡ Some g = sym a ∙ b in absurd (cc)
 
@@ -81,7 +81,7 @@ integers_only t n l some infinite = go (greatest_of t n) refl
     go None h = some h
     go (Some g) h = one_kind t n g l h infinite
 
--- ---- the kinds of literals
+-- ---- a literal has only one kind
 
 no_quoted : (k : Kind) → is_quoted k ≡ true → (k ≡ BoolKind) ⊎ ((k ≡ Int) ⊎ (k ≡ Float)) → ⊥
 no_quoted k q (inl e) = both_ways false refl (sym (ap is_quoted e) ∙ q)
@@ -174,7 +174,7 @@ no_both OutOfRange k text m n s (inr (f, (t, typed, out))) (inr (inr (u, inr o))
 
 -- ---- a literal has at most one type error
 
--- A quoted literal has no type error other than `QuotedSuffix`.
+-- If a quoted literal has a type error, the error is `QuotedSuffix`.
 quoted_alone : (error : TypeError) (k : Kind) (text : List ℕ) (m : ℕ) (n : Bool) (s : List ℕ) → is_quoted k ≡ true
     → HasTypeError error k text m n s → QuotedSuffix ≡ error
 quoted_alone QuotedSuffix k text m n s q h = refl
@@ -185,7 +185,7 @@ quoted_alone BasedFloat k text m n s q h = absurd (no_quoted k q (inr (inl h.0))
 quoted_alone OutOfRange k text m n s q (inl h) = absurd (no_quoted k q (inr (inl h.0)))
 quoted_alone OutOfRange k text m n s q (inr h) = absurd (no_quoted k q (inr (inr h.0)))
 
--- The error for a suffix that isn't the name of a number type excludes the other errors.
+-- If a suffix has the error that it isn't the name of a number type, the literal has no other type error.
 unknown_alone : (error : TypeError) (k : Kind) (text : List ℕ) (m : ℕ) (n : Bool) (s : List ℕ)
     → HasTypeError UnknownSuffix k text m n s → HasTypeError error k text m n s → UnknownSuffix ≡ error
 unknown_alone QuotedSuffix k text m n s h q = sym (quoted_alone UnknownSuffix k text m n s q.0 h)
@@ -198,7 +198,7 @@ unknown_alone OutOfRange k text m n s (number, some, unknown) (inl (i, no_base, 
 unknown_alone OutOfRange k text m n s (number, some, unknown) (inr (f, (t, typed, out))) =
     absurd (not_named s t unknown some typed)
 
--- The error for a float with the suffix of an integer type excludes the other errors.
+-- If a float has the error that its suffix is an integer type, the literal has no other type error.
 integers_alone : (error : TypeError) (k : Kind) (text : List ℕ) (m : ℕ) (n : Bool) (s : List ℕ)
     → HasTypeError FloatSuffix k text m n s → HasTypeError error k text m n s → FloatSuffix ≡ error
 integers_alone QuotedSuffix k text m n s h q = sym (quoted_alone FloatSuffix k text m n s q.0 h)

@@ -3,7 +3,7 @@ use Rattle.rl_flaws.proofs.Names.{◌≡◌, ◌≤◌, ◌<◌, ◌+◌, ◌-�
 use Rattle.rl_strict.proofs.OneFileFlaw.{more_read, place_once, whole_seam}
 use Rattle.rl_strict.proofs.OneStrictFlaw.{meets}
 
--- ---- bytes
+-- ---- the number of bytes of a text
 
 pub first_bytes : (c : ℕ) (cs : List ℕ) → byte_len (c ∷ cs) ≡ length (encode_utf8 c) + byte_len cs
 first_bytes c cs = length-append (encode_utf8 c) (encode_utf8_all cs)
@@ -11,7 +11,7 @@ first_bytes c cs = length-append (encode_utf8 c) (encode_utf8_all cs)
 some_bytes : (c : ℕ) (cs : List ℕ) → 0 < byte_len (c ∷ cs)
 some_bytes c cs = omega (arith, first_bytes c cs, length-encode c, len_utf8_bounds c)
 
--- The number of bytes of a text is that of its first character and of the text after it.
+-- The number of bytes of a text is the number of bytes of its first character, plus the number of bytes of the text after it.
 pub after_first_bytes : (t : List ℕ) → byte_len t ≡ first_len t + byte_len (drop 1 t)
 after_first_bytes [] = refl
 after_first_bytes (c ∷ cs) = first_bytes c cs
@@ -61,7 +61,7 @@ place_of_rest t read len at long p =
       at_is = omega (arith, long, p.at_is, ap byte_len p.rest_in.text_is, byte_len-append p.rest_in.front p.rest);
     }
 
--- ---- an end of a text that is read unchanged
+-- ---- byte offsets in a text in which CR LF isn't read as LF
 
 pub rest_in_text : (t before read : List ℕ) (at : ℕ) → t ≡ before ++ read → at ≡ byte_len before
     → ReadsFrom Text (byte_len t) t read at

@@ -26,7 +26,7 @@ explains_strictly t piece stop flaw f from lo hi =
       kind = f.says;
     }
 
--- In a file, the first flaw explains the text too, with byte offsets in the file.
+-- The first flaw also explains a text in a file. The flaw's offsets are byte offsets in the file.
 explains_in_file : (t piece stop : List ℕ) (flaw : Flaw) (len : ℕ) → len ≡ byte_len t → IsFlawAt (lf_text t) flaw.kind
     piece stop → ReadsFrom File len t piece flaw.from → ReadsFrom File len t stop flaw.lo → ReadsFrom File len t (drop 1
     stop) flaw.hi → ExplainsInFile t flaw

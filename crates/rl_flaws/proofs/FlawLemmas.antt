@@ -5,7 +5,7 @@ use Rattle.rl_flaws.proofs.EndLemmas.{less_after}
 use Rattle.rl_flaws.proofs.PlaceLemmas.{ends_in, place_at, place_in}
 use Rattle.rl_strict.proofs.ReadQuoted.{not_string}
 
--- ---- flaws inside a literal
+-- ---- the state of a cursor inside a literal
 
 len_of : (how : LineEnds) (len : ℕ) (left : Left) → (state_of how len left).len ≡ len
 len_of how len (Whole t) = refl
@@ -29,7 +29,7 @@ open_left how o rest len piece (Inside p after) r f = record {
   some_left = refl;
 }
 
--- ---- the unchecked text after a flaw, by the two tests
+-- ---- the unchecked text after a flaw, as two tests of the code determine it
 
 pub after_single : (how : LineEnds) (o : Opened) (inside piece : List ℕ) (left : Left) (b d : Bool) → b ≡ false
     → d ≡ true → FollowsCharacter how o.kind inside left → IsLeftAfter b d how o inside piece left
@@ -41,9 +41,9 @@ pub after_other : (how : LineEnds) (o : Opened) (inside piece : List ℕ) (left 
 after_other how o inside piece left b d e h f = subst (λ z. IsLeftAfter z d how o inside piece left) (sym e)
     (subst (λ z. IsLeftAfter false z how o inside piece left) (sym h) f)
 
--- ---- a character or byte literal
+-- ---- the flaws of a character or byte literal
 
--- The opening delimiter of a character or byte literal.
+-- For a character or byte literal, the text before the content is only the opening delimiter, without hashes.
 single_front : (form : QuotedForm) (k : Kind) (h : List ℕ) → is_single k ≡ true → HasForm form k h
     → front_of form k h ≡ opener k
 single_front CookedForm k h s has = refl

@@ -8,7 +8,7 @@ use native.Mathlib.Numerals.{unary_clauses}
 use Rattle.rl_flaws.specs.FloatRange.{IsAtLeast, after_point, power_part, decimal_part, digits_only, exponent, has_minus, lowered, raised, significand}
 use Rattle.rl_flaws.specs.Mirrors.Floats.{IsBound, not_below, without_zeros}
 
--- ---- digits
+-- ---- the values of decimal digits
 
 digit_code : (c : ℕ) → is_ascii_digit c ≡ true → (48 + digit_value c ≡ c) × (digit_value c < 10)
 digit_code c h =
@@ -90,7 +90,7 @@ unfolding onto zeros
 zeros_least x y [] h = h
 zeros_least x y (a ∷ us) h = zeros_least (x * 10 + 0) (y * 10 + digit_value a) us (omega (arith, h))
 
--- ---- numbers whose first digits have the same power of ten
+-- ---- numbers whose first digits have one power of ten
 
 same_digit : (d b : ℕ) → (d == b) ≡ true → d ≡ b
 same_digit d b h = eqb-true d b h
@@ -115,7 +115,7 @@ length_zeros (suc n) = ap suc (length_zeros n)
 padded : (ds : List ℕ) (n : ℕ) → length (ds ++ zeros n) ≡ length ds + n
 padded ds n = length-append ds (zeros n) ∙ ap (λ k. length ds + k) (length_zeros n)
 
--- Digits represent a number that is at least the number represented by zeros.
+-- If digits and zeros are appended to a number, the result is at least the number with as many zeros appended.
 past_zeros : (x : ℕ) (ds : List ℕ) (up down : ℕ) → length ds + up ≡ down → onto x (zeros down) ≤ onto x (ds ++ zeros up)
 past_zeros x ds up down e =
     subst (λ n. onto x (zeros n) ≤ onto x (ds ++ zeros up)) (padded ds up ∙ e)
@@ -134,7 +134,7 @@ all_padded : (ds : List ℕ) (n : ℕ) → list_all is_ascii_digit ds ≡ true �
 all_padded ds n h = list_all-append is_ascii_digit ds (zeros n) ∙ and_from (list_all is_ascii_digit ds)
     (list_all is_ascii_digit (zeros n)) h (all_zeros n)
 
--- The comparison of two numbers continues with their next digits.
+-- If two lists of digits begin with one digit, the comparison of their numbers continues with the next digits.
 same_front : (r : Bool) (x d : ℕ) (ours least : List ℕ) → Ordered r (x * 10 + digit_value d) ours least
     → Ordered r x (d ∷ ours) (d ∷ least)
 unfolding onto
@@ -228,7 +228,7 @@ same_digits ds bs up down hd hb e = go (not_below ds bs) (ordered 0 ds bs up dow
     go true h = omega (arith, h, scaled ds up, scaled bs down)
     go false h = omega (arith, h, scaled ds up, scaled bs down)
 
--- ---- a number with one more digit
+-- ---- the number that digits represent, with one more digit
 
 pub place_more : (ds : List ℕ) (c : ℕ) → place_value 10 (ds ++ (c ∷ [])) ≡ place_value 10 ds * 10 + digit_value c
 place_more [] c = omega arith
@@ -236,7 +236,7 @@ place_more (d ∷ ds) c =
     let long : length (ds ++ (c ∷ [])) ≡ suc (length ds) = length-append ds (c ∷ []) ∙ omega arith in
     rw (long, place_more ds c, pow-suc 10 (length ds)) (omega arith)
 
--- The value of an exponent. It is exact if it is below 2^100.
+-- The number `capped` is the value of an exponent, or both are at least 2^100.
 abbrev pub IsCapped : ℕ → ℕ → Type 0
 IsCapped capped value = (capped ≡ value) ⊎ ((2 ^ 100 ≤ capped) × (2 ^ 100 ≤ value))
 
@@ -251,7 +251,7 @@ pub same_capped : (front : List ℕ) (c v : ℕ) → 2 ^ 100 ≤ v → IsCapped 
 same_capped front c v more (inl e) = inr (more, omega (arith, more, e, place_more front c))
 same_capped front c v more (inr p) = inr (more, omega (arith, p.1, place_more front c))
 
--- ---- numerals
+-- ---- the digits of a numeral without leading zeros
 
 digits_all : (cs : List ℕ) → list_all is_ascii_digit (digits_only cs) ≡ true
 digits_all [] = refl
@@ -290,7 +290,7 @@ first_digits : (ds : List ℕ) → IsFirst ds → list_all is_ascii_digit ds ≡
 first_digits [] h = absurd h
 first_digits (d ∷ ds) h = h.0
 
--- The digits of a numeral without leading zeros.
+-- The digits of a numeral before its exponent, without leading zeros.
 abbrev pub ours_of : List ℕ → List ℕ
 ours_of numeral = without_zeros (digits_only (decimal_part numeral))
 
@@ -325,7 +325,7 @@ none_reach n bs count bound is none reaches =
     long [] g = absurd g
     long (d ∷ ds) g = omega arith
 
--- ---- the powers of ten of the first digits, if an exponent above the limit isn't exact
+-- ---- if an exponent above the limit isn't exact, the powers of ten of the first digits still decide the comparison
 
 exactly : (m : Bool) (count places bound power value : ℕ) → IsCapped power value → count < 2 ^ 64 → places < 2 ^ 64
     → bound ≤ 309
@@ -352,7 +352,8 @@ exactly false count places bound power value (inr q) c p b = (
   (λ h. absurd (omega (arith, q.0, p, b, h)), λ h. absurd (omega (arith, q.0, p, b, h))),
 )
 
--- The parts of a numeral as the code computes them.
+-- The numbers that the code computes for a numeral are those of the definitions: the number of its digits without leading
+-- zeros, the number of digits after its dot, and its exponent.
 pub record IsMeasured (n bs : List ℕ) (count places power : ℕ) : Type 0 where
   pub bound : IsBound bs
   pub short : length bs ≤ 309
@@ -422,7 +423,7 @@ reach_same n bs count places power s h r is =
       λ x reaches. absurd (omega (arith, c, same, reaches)),
     )
 
--- ---- digits as texts
+-- ---- the digits of a numeral as texts
 
 digits_chars : (bs : List ℕ) → list_all is_ascii_digit bs ≡ true → chars bs ≡ bs
 digits_chars bs h = chars-IsAscii bs (IsAscii-from_all bs (low bs h))

@@ -4,13 +4,14 @@ use Rattle.rl_strict.proofs.StrictTokens.{digit_front}
 use Rattle.rl_flaws.proofs.LookLemmas.{by_row, minus_past}
 use Rattle.rl_flaws.proofs.WalkLemmas.{single_told, string_told}
 
--- ---- a text begins as at most one kind
+-- ---- a text begins as at most one kind of literal
 
 told_kind : FoundOpener → Option Kind
 told_kind None = None
 told_kind (Some p) = Some p.1
 
--- The opening delimiter identifies the kind of a quoted literal. Otherwise the text begins as no quoted literal.
+-- The text begins as a literal of the kind `k`. It begins with an opening delimiter of this kind, or without one, as a number,
+-- `true` or `false`.
 Told : List ℕ → Kind → Type 0
 Told t k = (told_kind (opener_at t) ≡ Some k) ⊎ ((told_kind (opener_at t) ≡ None) × (OpensNumber k t ⊎ SpellsTruth k t))
 
@@ -29,7 +30,8 @@ told t k (inr (inl s)) = let p = single_told t k s in inl (ap told_kind p.1)
 told t k (inr (inr (inl n))) = inr (ap told_kind (number_closed t k n), inl n)
 told t k (inr (inr (inr (e, (b, is))))) = inr (ap told_kind (ap opener_at is ∙ word_has_none b), inr (e, (b, is)))
 
--- The digits of a number, after its minus if it has one.
+-- If a text begins as a number, perhaps with a minus, it begins with a digit after the minus, and the text after the minus
+-- identifies the kind.
 number_digits : (t : List ℕ) (k : Kind) → OpensNumber k t → (k ≡ number_kind (after_minus t))
     × (first_passes is_ascii_digit (after_minus t) ≡ true)
 number_digits t k (d, e, digit, is) =
@@ -60,7 +62,7 @@ told_once t k l (inr a) (inr b) = plain_once t k l a.1 b.1
 pub looks_once : (t : List ℕ) → LooksLikeOne t
 looks_once t k l a b = told_once t k l (told t k a) (told t l b)
 
--- ---- a quoted token begins as its kind
+-- ---- a quoted literal token begins as a literal of its kind
 
 cooked_looks : (k : Kind) (t : List ℕ) (v : Contents) (x : List ℕ) → is_string k ≡ true → strict_opener k ≡ opener k
     → StrictCooked t k v x → OpensString k t
@@ -98,7 +100,7 @@ raw_looks k t v x s same r =
           ∙ ap (λ z. (z ++ (h ++ (34 ∷ []))) ++ (r.inside ++ (34 ∷ (h ++ x)))) same,
     )
 
--- ---- a number begins as its kind
+-- ---- a number begins as a literal of its kind
 
 plain_kind : (t : List ℕ) (m : Bool) → begins_base t ≡ false → first_passes is_float_mark (after_digits 10 t) ≡ m
     → number_kind t ≡ cond m Float Int
@@ -182,7 +184,7 @@ form_kind t numeral x text n (inr (inr (d, p, is, is_p, inr (f, is_f, e)))) =
 float_looks : (t : List ℕ) (v : Contents) (x : List ℕ) → StrictFloat t v x → OpensNumber Float t
 float_looks t v x s = (t, inl refl, float_digit t v x s, form_kind t s.numeral x s.text s.no_prefix s.form)
 
--- ---- a token begins as its kind
+-- ---- a literal token of any kind begins as a literal of its kind
 
 pub token_looks : (t : List ℕ) → TokenLooks t
 token_looks t Str v x (inl s) = inl (cooked_looks Str t v x refl refl s)

@@ -19,7 +19,7 @@ blanks_end (AsciiEscape high low ∷ us) rest b = blanks_end us rest b.1
 blanks_end (ByteEscape high low ∷ us) rest b = blanks_end us rest b.1
 blanks_end (UnicodeEscape digits ∷ us) rest b = blanks_end us rest b.1
 
--- ---- the characters and escapes of the valid content
+-- ---- the valid content consists of characters and escapes
 
 strict_units : (kind : Kind) (us : List StrictUnit) (t rest good : List ℕ)
     → Rattle.std.specs.List.list_all (is_strict_unit kind) us ≡ true → BreaksEnd us rest
@@ -46,7 +46,7 @@ good_units SingleForm kind hashes t good closing (inr (same, none)) e =
     let nothing : good ≡ [] = append_cancel_right good [] closing (sym e ∙ sym same) in
     subst (HasUnitsIn kind false) (sym nothing) (no_units kind false)
 
--- ---- the valid content
+-- ---- the valid content before a flaw
 
 pub good_left : (o : Opened) (rest : Bor (List ℕ)) (len end : ℕ) (good closing : List ℕ) → IsOpened o → byte_len
     (opened_front o) + length rest.now ≤ len → IsUtf8 good → IsUtf8 closing → rest.now ≡ good ++ closing → chars

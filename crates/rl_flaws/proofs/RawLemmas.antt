@@ -1,7 +1,7 @@
 -- The content of a raw string up to its first flaw or its closing delimiter.
 use Rattle.rl_flaws.proofs.Names.{◌≡◌, ◌≢◌, ◌==◌, ◌&&◌, ◌||◌, ℕ, Bool, true, false, not, cond, List, [], ◌∷◌, ◌++◌, drop, refl, sym, ap, subst, ◌∙◌, inl, inr, append_assoc, and_from, and_parts, both_ways, eqb-true, list_all, nat_lt, begins, first_passes, Kind, Str, ByteStr, CStr, is_string, begins_front, is_raw_character, raw_stop, EndsRaw, IsRawUpTo, MayBeRaw}
 
--- ---- the characters of a raw string
+-- ---- the characters that a raw string may contain
 
 one_may : (k : Kind) (c : ℕ) (cs : List ℕ) → is_string k ≡ true → is_raw_character k c ≡ true → MayBeRaw k cs
     → MayBeRaw k (c ∷ cs)

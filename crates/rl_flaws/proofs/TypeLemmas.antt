@@ -1,4 +1,4 @@
--- The type of a literal by its parse result.
+-- The type of a literal according to its parse result.
 use Rattle.rl_syntax.proofs.Common.{◌≡◌, ℕ, ◌^◌, ◌-◌, ◌<◌, ◌≢◌, ◌++◌, ◌∙◌, Bool, List, Option, Some, None, IfNone, refl, sym, ap, arith, rules, subst, inl, inr, length, take, chars, chars-IsAscii, chars-append, chars-nil, IsUtf8, AllByRecursion, length-append, take-append_seam}
 use Rattle.rl_lenient.proofs.Names.{Kind, Float}
 use Rattle.std.proofs.ByRecursion.{IsAscii-from_all}
@@ -26,14 +26,15 @@ float_typed text magnitude negated suffix None (inr (inl h)) = inr (inl h)
 float_typed text magnitude negated suffix None (inr (inr (t, inl h))) = absurd (let e = h.0 in cc)
 float_typed text magnitude negated suffix None (inr (inr (t, inr h))) = inr (inr (t, inr h))
 
--- An integer below 2^128 is in the range of a float type, unless the type is `f32` and the integer rounds to infinity.
+-- An integer below 2^128 is in the range of a float type. The only exception is the type `f32`, if the integer rounds to
+-- infinity in it.
 pub in_floats : (t : NumberType) (n : Bool) (m : ℕ) → greatest_of t n ≡ None → (t ≡ F32 → m < 2 ^ 128 - 2 ^ 103)
     → m < 2 ^ 128 → IsInRange t m n
 in_floats (Integer t) n m none less fits = absurd (let e = none in cc)
 in_floats F32 n m none less fits = inr (2 ^ 128 - 2 ^ 103, refl, less refl)
 in_floats F64 n m none less fits = inr (2 ^ 1024 - 2 ^ 970, refl, omega (arith, fits))
 
--- ---- the text before a suffix
+-- ---- the text of a float before its suffix
 
 name_ascii : (t : NumberType) → chars (number_name t) ≡ number_name t
 name_ascii t = chars-IsAscii (number_name t) (IsAscii-from_all (number_name t) (low t))

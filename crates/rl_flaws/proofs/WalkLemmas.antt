@@ -7,9 +7,7 @@ use Rattle.rl_strict.proofs.ReadLemmas.{form_flaw}
 use Rattle.rl_flaws.proofs.RawLemmas.{raw_up_to}
 use Rattle.rl_strict.proofs.StrictCookedFlaws.{no_unit}
 
--- ---- a string with escapes
-
--- ---- a character or a byte
+-- ---- the content of a character or byte literal
 
 pub unit_at_front : (k : Kind) (t closing : List ℕ) → is_single k ≡ true → unit_rest k t ≡ Some closing
     → BeginsStrictUnit k t closing
@@ -27,7 +25,7 @@ unit_up_to k t closing s (inr (same, none)) = inr (
       both_ways (first_passes is_apostrophe rest) (none rest e) q,
 )
 
--- ---- a text that isn't from a file
+-- ---- the content of a literal in a text that isn't from a file
 
 pub cooked_up_to : (how : LineEnds) (k : Kind) (h t r : List ℕ) → BeginsStrictUnits k (read_of how t) (read_of how r)
     → unit_rest k (read_of how r) ≡ None → how ≡ Text → IsInsideUpTo CookedForm k h t r
@@ -40,7 +38,7 @@ pub raw_in_text : (how : LineEnds) (k : Kind) (h t r : List ℕ) → is_string k
     → read_of how r ≡ raw_stop k h (read_of how t) → how ≡ Text → IsInsideUpTo RawForm k h t r
 raw_in_text how k h t r s stop e = raw_up_to k h t r s (subst (λ z. read_of z r ≡ raw_stop k h (read_of z t)) e stop)
 
--- ---- the text after the opening delimiter
+-- ---- the flaw that is found after the opening delimiter is a flaw of the whole text
 
 pub flaw_after : (how : LineEnds) (form : QuotedForm) (k : Kind) (f : FlawKind) (t inside text piece rest : List ℕ)
     → has_form form k ≡ true → t ≡ form_opener form k ++ inside → StopsAsRead how form k f inside text piece rest
@@ -48,7 +46,7 @@ pub flaw_after : (how : LineEnds) (form : QuotedForm) (k : Kind) (f : FlawKind) 
 flaw_after how form k f t inside text piece rest has e h = form_flaw t form k inside f (read_of how piece)
     (read_of how rest) (ap opener_at e ∙ front_complete form k inside has) h.stops
 
--- ---- opening delimiters
+-- ---- the opening delimiters of quoted literals
 
 -- Only raw strings have hashes.
 pub plain_form : (form : QuotedForm) (k : Kind) (h : List ℕ) → (form ≡ RawForm → ⊥) → has_form form k ≡ true
@@ -94,7 +92,7 @@ pub single_told : (t : List ℕ) (k : Kind) → OpensSingle k t → (inside : Li
     ≡ found_opener SingleForm k inside)
 single_told t k (s, (inside, text)) = (inside, ap opener_at text ∙ front_complete SingleForm k inside s)
 
--- The form that the beginning of a text identifies, and the text after the opening delimiter.
+-- The number of the form that an opening delimiter has. Different forms have different numbers.
 tag : QuotedForm → ℕ
 tag CookedForm = 1
 tag RawForm = 2

@@ -2,7 +2,7 @@
 use Rattle.rl_flaws.proofs.Names.{◌≡◌, ◌⊎◌, ℕ, Bor, false, true, List, [], ◌∷◌, ◌++◌, drop, length, refl, sym, ap, subst, inl, inr, ◌∙◌, arith, append_assoc, encodes-chars, IsUtf8, codes, list_all-append, and_from, chars, byte_len, byte_len-append, Kind, Str, opener, raw_opener, QuotedForm, CookedForm, RawForm, SingleForm, Flaw, StopsBefore, ExplainsInFile, lf_text, read_of, ExplainsOf, ExplainsStrictly, IsStrictFlawOf, IsToken, LineEnds, Text, File, free_in, free_of, self_in, lacks_cr, hashes_free, AreFlawsOf, IsOpener, ReadsFrom, TakesFlaw, state_of, OpensSingle, OpensString, HasForm, IsOpened, front_of, opened_front, Whole, Inside, Nothing, Opened}
 use Rattle.rl_flaws.proofs.FileCuts.{after_first_bytes, first_parts, rest_in_text, rest_of_place}
 
--- ---- the flaw of the whole text
+-- ---- the flaw of a whole text
 
 text_takes : (t : List ℕ) (text : Bor (List ℕ)) (len : ℕ) (flaw : Flaw) → chars text.now ≡ t → byte_len t ≡ len
     → ExplainsStrictly t flaw
@@ -113,7 +113,8 @@ front_free SingleForm k h has = opener_free k
 front_free RawForm k h (s, (n, few, e)) = both_free (raw_opener k) (h ++ (34 ∷ [])) (raw_free k)
     (both_free h (34 ∷ []) (ap lacks_cr e ∙ hashes_free n) refl)
 
--- The text after the opening delimiter is read as it is in the whole text.
+-- If CR LF is read as LF after an opening delimiter, the delimiter and the result are together the whole text with CR LF read
+-- as LF.
 pub opened_read : (how : LineEnds) (o : Opened) (t rest : List ℕ) → IsOpened o → t ≡ opened_front o ++ rest
     → opened_front o ++ read_of how rest ≡ read_of how t
 opened_read how o t rest opens e = sym (ap (read_of how) e

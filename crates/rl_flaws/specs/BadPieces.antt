@@ -9,44 +9,45 @@ use Rattle.rl_syntax.specs.Quoted.{is_hex_digit}
 use Rattle.rl_strict.specs.declared.flaws.FlawKind.{FlawKind}
 use Rattle.rl_strict.specs.declared.flaws.FlawKind.TheVariants.{UnknownEscape, NoUnicode, NoHexDigit, NoBrace, EmptyBraces, TooManyDigits, HexEscapeOutOfRange, UnicodeEscapeOutOfRange, Surrogate, Nul, NotAscii, MustEscape, CarriageReturn, TextAfterQuote, ExtraHash, UnderscoreSuffix, BadSuffix}
 
--- The text after one character. If this is a backslash or the quote, the text is unchanged.
+-- Skips the first character of a text, unless it is a backslash or the literal's closing quote.
 abbrev pub after_one : ℕ → List ℕ → List ℕ
 after_one quote [] = []
 after_one quote (c ∷ cs) = if c == code "\\" || c == quote then (c ∷ cs) else cs
 
--- The text after the two digits that follow \x. A character that isn't a digit ends the escape.
+-- Skips the digits of an escape after `\x`. If one of the two characters isn't a digit, it ends the escape.
 abbrev pub after_hex : ℕ → List ℕ → List ℕ
 after_hex quote [] = []
 after_hex quote (c ∷ cs) = if is_hex_digit c then after_one quote cs else after_one quote (c ∷ cs)
 
--- The text after the digits and underscores between braces, and after one more character, such as the closing brace.
+-- Skips the digits and underscores between the braces of `\u{..}`, and then one character, usually the closing brace. This
+-- character isn't skipped if it is a backslash or the literal's closing quote.
 unfoldable pub after_code_digits : ℕ → List ℕ → List ℕ
 after_code_digits quote [] = []
 after_code_digits quote (c ∷ cs) =
     if is_hex_digit c || is_underscore c then after_code_digits quote cs else after_one quote (c ∷ cs)
 
--- The text after the digits and the closing brace of \u{..}. It begins after the opening brace.
+-- Skips the digits and the closing brace of a `\u{..}` escape. The given text begins after the opening brace.
 abbrev pub after_brace : ℕ → List ℕ → List ℕ
 after_brace quote [] = []
 after_brace quote (c ∷ cs) = if is_hex_digit c then after_code_digits quote cs else after_one quote (c ∷ cs)
 
--- The text after an invalid \u escape. It begins after \u.
+-- Skips the rest of an invalid `\u` escape. The given text begins after `\u`.
 abbrev pub after_unicode : ℕ → List ℕ → List ℕ
 after_unicode quote [] = []
 after_unicode quote (c ∷ cs) = if c == code "{" then after_brace quote cs else after_one quote (c ∷ cs)
 
--- The text after an invalid escape. It begins after the escape's backslash.
+-- Skips the rest of an invalid escape. The given text begins after the backslash of the escape.
 abbrev pub after_escape : ℕ → List ℕ → List ℕ
 after_escape quote [] = []
 after_escape quote (c ∷ cs) =
     if c == code "x" then after_hex quote cs else (if c == code "u" then after_unicode quote cs else cs)
 
--- The text after the invalid escape or character at its beginning.
+-- Skips the invalid escape or character with which the given text begins.
 abbrev pub after_bad_piece : ℕ → List ℕ → List ℕ
 after_bad_piece quote [] = []
 after_bad_piece quote (c ∷ cs) = if c == code "\\" then after_escape quote cs else cs
 
--- The flaw is of a character or an escape between the quotes. In a string, parsing continues after it.
+-- The flaw is in a character or an escape between the quotes. In a string, parsing continues after the character or escape.
 abbrev pub is_flaw_of_unit : FlawKind → Bool
 is_flaw_of_unit UnknownEscape = true
 is_flaw_of_unit NoUnicode = true

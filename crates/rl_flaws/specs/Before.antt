@@ -17,12 +17,12 @@ has_part Passed b = is_inline b || (b == 10)
 has_part Hash b = b == 35
 has_part Word b = is_ascii_alphanumeric b || (b == 95)
 
--- The bytes without those at their beginning that are in the class `part`.
+-- The bytes of a text without its first bytes that are in the class `part`.
 abbrev pub kept : Part → List ℕ → List ℕ
 kept part [] = []
 kept part (b ∷ back) = cond (has_part part b) (kept part back) (b ∷ back)
 
--- The bytes without those at their end that are in the class `part`.
+-- The bytes of a text without its last bytes that are in the class `part`.
 abbrev pub without : Part → List ℕ → List ℕ
 without part bytes = reverse (kept part (reverse bytes))
 
@@ -37,13 +37,13 @@ holds_comment [] = false
 holds_comment (b ∷ back) =
     not (b == 10) && (((b == 47) && comes_first 47 back) || holds_comment back)
 
--- The first byte of a reversed text may end a comment: a slash, or a byte of non-ASCII white space.
+-- The first byte of a reversed text may be the end of a comment. It is a slash, or a byte of non-ASCII white space.
 abbrev pub may_end_comment : List ℕ → Bool
 may_end_comment [] = false
 may_end_comment (b ∷ back) = (b == 47) || nat_le 128 b
 
--- A comment may hide the text before a literal: a comment may end directly before the white space and opening parentheses, or
--- two slashes are in the line before the white space and opening parentheses.
+-- A comment may hide the text before a literal. Directly before the literal are white space and opening parentheses. A comment
+-- may end before them, or the line before them contains two slashes.
 abbrev pub is_hidden : List ℕ → Bool
 is_hidden before =
     may_end_comment (reverse (without Passed before))
@@ -77,7 +77,7 @@ abbrev pub is_after_word : List ℕ → Bool
 is_after_word bytes =
     begins_name (drop (length (without Word bytes)) bytes) && not (may_go_on (reverse (without Word bytes)))
 
--- The bytes end with hashes, and no double quote is before the hashes, so they don't close a raw string.
+-- The bytes end with hashes that don't close a raw string, since no double quote is before the hashes.
 abbrev pub is_after_hashes : List ℕ → List ℕ → Bool
 is_after_hashes bytes front = comes_first 35 (reverse bytes) && not (comes_first 34 (reverse front))
 
@@ -93,7 +93,7 @@ year_of E2018 = 2018
 year_of E2021 = 2021
 year_of E2024 = 2024
 
--- The edition `edition` reserves a form that is reserved from the edition `from` on.
+-- If a form is reserved from the edition `from` on, `edition` reserves it.
 abbrev pub is_in_edition : Edition → Option Edition → Bool
 is_in_edition edition None = false
 is_in_edition edition (Some from) = nat_le (year_of from) (year_of edition)

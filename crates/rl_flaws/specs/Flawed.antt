@@ -1,7 +1,7 @@
--- All flaws of a text, in order. The first flaw is the one that explains why the text isn't a literal token. In a string, the
--- next flaw is that of the text after the faulty piece, read after the same opening delimiter. In a character or byte literal,
--- the next flaw is that of the text from the closing quote on, read after the opening quote and a valid character. In a file,
--- CR LF is read as LF, and offsets are in bytes of the file.
+-- All flaws of a text, in order. The first flaw explains why the text isn't a literal token. After a flaw in a string, the
+-- text after the faulty piece is parsed as if it followed the opening delimiter. After a flaw in a character or byte literal,
+-- the text from the closing quote on is parsed as if it followed the opening quote and a valid character. In a file, CR LF is
+-- read as LF, and offsets are in bytes of the file.
 use Rattle.std.specs.Prelude.{◌≡◌, ◌⊎◌, ◌+◌, ◌&&◌, ℕ, suc, Bool, true, false, not, List, [], ◌++◌, codes, drop, length, Option, None, Some, IsFalse, IsTrue, MatchOption, if◌then◌else◌}
 use Rattle.std.specs.Str.{chars, IsUtf8}
 use Prim.Native.Char.{code}
@@ -21,7 +21,7 @@ use Rattle.rl_flaws.specs.declared.invalid_piece.InvalidPiece.{InvalidPiece}
 
 -- The state of a cursor over the flaws of a text.
 pub record FlawsState : Type 0 where
-  -- How CR LF is read.
+  -- Whether CR LF is read as LF, as in a file.
   pub ends : LineEnds
   -- The kind of the quoted literal that is open, or none if the text doesn't begin as a quoted literal.
   pub kind : Option Kind
@@ -34,7 +34,8 @@ pub record FlawsState : Type 0 where
   -- The whole text is checked.
   pub over : Bool
 
--- The literal's opening delimiter and the unchecked rest of the text as it is read.
+-- The text that is parsed for the next flaw: the opening delimiter of the literal, and the unchecked rest of the text. In a
+-- file, CR LF is read as LF.
 abbrev pub judged : FlawsState → List ℕ
 judged s = s.front ++ read_of s.ends (chars s.rest)
 
@@ -43,7 +44,7 @@ abbrev pub quote_of : Option Kind → ℕ
 quote_of (Some kind) = closer kind
 quote_of None = code "'"
 
--- A quoted literal is open.
+-- A quoted literal is open: its opening delimiter was read.
 abbrev pub is_open : Option Kind → Bool
 is_open (Some kind) = true
 is_open None = false
@@ -66,7 +67,8 @@ pub record ReadsFrom (ends : LineEnds) (len : ℕ) (text read : List ℕ) (at : 
   pub reads : read_of ends rest ≡ read
   pub at_is : at + byte_len rest ≡ len
 
--- `read` is the end of the unchecked text from the byte offset `at` of the whole text on, as rustc reads it.
+-- `read` is the end of the unchecked text from the byte offset `at` on, as rustc reads it. The offset is one of the whole
+-- text.
 abbrev pub LeftReadsFrom : FlawsState → List ℕ → ℕ → Type 0
 LeftReadsFrom s read at = ReadsFrom s.ends s.len (chars s.rest) read at
 
@@ -76,7 +78,8 @@ abbrev pub EndsWhere : Bool → (ℕ → Type 0) → ℕ → ℕ → Type 0
 EndsWhere true GoesOnAt hi end = GoesOnAt end
 EndsWhere false GoesOnAt hi end = end ≡ hi
 
--- The flaw `bad` is the next one of the unchecked text, with its byte offsets in the whole text. `piece` begins at its piece.
+-- The flaw `bad` is the next flaw of the unchecked text, with its byte offsets in the whole text. The text `piece` begins at
+-- the first character of the flaw's piece.
 pub record IsBadPiece (s : FlawsState) (bad : InvalidPiece) (piece : List ℕ) : Type 0 where
   pub stop : List ℕ
   pub flaw : IsFlawAt (judged s) bad.flaw.kind piece stop
@@ -117,7 +120,7 @@ IsLeftBy true single old piece new = FollowsPieceOf old piece new
 IsLeftBy false true old piece new = FollowsCharacterOf old new ⊎ IsNeverClosed old new
 IsLeftBy false false old piece new = IsTrue new.over
 
--- The cursor's text is unchanged.
+-- The two states are of one text: they have one length, and read CR LF in one way.
 pub record IsSameText (old new : FlawsState) : Type 0 where
   pub same_ends : new.ends ≡ old.ends
   pub same_len : new.len ≡ old.len
@@ -140,7 +143,7 @@ pub record HasNoFlaw (old new : FlawsState) : Type 0 where
 abbrev pub GivesFlaw : FlawsState → Option InvalidPiece → FlawsState → Type 0
 GivesFlaw old bad new = MatchOption bad (HasNoFlaw old new) (λ it. TakesFlaw old it new)
 
--- A number that decreases with each flaw, so that the cursor ends: about the length of the unchecked text.
+-- About the length of the unchecked text. This number decreases with each flaw, so the cursor reaches its end.
 abbrev pub left_count : FlawsState → ℕ
 left_count s = if s.over then 0 else (if is_open s.kind then suc (suc (length s.rest)) else suc (length s.rest))
 
@@ -148,7 +151,8 @@ left_count s = if s.over then 0 else (if is_open s.kind then suc (suc (length s.
 abbrev pub IsOpener : Kind → List ℕ → Type 0
 IsOpener kind front = IsStringOpener kind front ⊎ (IsTrue (is_single kind) × (front ≡ opener kind))
 
--- A quoted literal of the kind is open, with this opening delimiter; or the text begins as no quoted literal.
+-- A quoted literal of the kind is open, with the opening delimiter `front`. Without a kind, the text doesn't begin as a quoted
+-- literal.
 abbrev pub IsOpenBy : Option Kind → List ℕ → List ℕ → Type 0
 IsOpenBy (Some kind) text front = IsOpener kind front
 IsOpenBy None text front = (front ≡ []) × ((kind : Kind) → OpensString kind text ⊎ OpensSingle kind text → ⊥)
@@ -162,7 +166,7 @@ pub record AreFlawsOf (ends : LineEnds) (text : List ℕ) (s : FlawsState) : Typ
   pub len_is : s.len ≡ length text
   pub all_left : IsFalse s.over
 
--- ---- theorems
+-- ---- the theorems about flaws
 
 -- The first flaw that the cursor returns explains why the text isn't a literal token.
 abbrev pub FirstFlawExplains : LineEnds → List ℕ → Type 0

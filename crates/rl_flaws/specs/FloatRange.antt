@@ -24,7 +24,7 @@ after_point (c ∷ cs) = if c == code "." then cs else after_point cs
 abbrev pub digits_only : List ℕ → List ℕ
 digits_only cs = filter is_ascii_digit cs
 
--- The integer that the digits before a numeral's exponent represent, if the dot is ignored.
+-- The integer that the digits before a numeral's exponent represent, without the dot.
 abbrev pub significand : List ℕ → ℕ
 significand numeral = place_value 10 (digits_only (decimal_part numeral))
 
@@ -35,11 +35,12 @@ exponent numeral = place_value 10 (digits_only (power_part numeral))
 abbrev pub has_minus : List ℕ → Bool
 has_minus numeral = list_any (λ c. c == code "-") (power_part numeral)
 
--- The exponent that multiplies the significand, as a power of ten. It is 0 if the exponent is negative.
+-- The exponent of the power of ten that multiplies the significand. It is 0 if the numeral's exponent is negative.
 abbrev pub raised : List ℕ → ℕ
 raised numeral = if has_minus numeral then 0 else exponent numeral
 
--- The exponent that divides the significand: the digits after the dot, and a negative exponent.
+-- The exponent of the power of ten that divides the significand. It is the number of digits after the dot, plus the magnitude
+-- of a negative exponent.
 abbrev pub lowered : List ℕ → ℕ
 lowered numeral =
     length (digits_only (after_point (decimal_part numeral))) + (if has_minus numeral then exponent numeral else 0)

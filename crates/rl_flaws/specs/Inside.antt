@@ -22,7 +22,8 @@ IsUnitUpTo kind text closing =
 abbrev pub MayBeRaw : Kind → List ℕ → Type 0
 MayBeRaw kind body = IsRawInside kind body × HasNoCarriageReturn body
 
--- A raw string's valid content ends: at its closing delimiter, before a character that it can't contain, or at the text's end.
+-- The valid content of a raw string ends here: at the closing delimiter, before a character that a raw string can't contain,
+-- or at the end of the text.
 abbrev pub EndsRaw : Kind → List ℕ → List ℕ → Type 0
 EndsRaw kind hashes [] = ⊤
 EndsRaw kind hashes (c ∷ cs) = ((c ≡ code "\"") × IsTrue (begins hashes cs)) ⊎ (MayBeRaw kind (c ∷ []) → ⊥)

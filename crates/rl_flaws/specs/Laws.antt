@@ -11,12 +11,12 @@ use Rattle.rl_flaws.specs.declared.type_errors.TypeError.{TypeError as AnyError}
 abbrev pub ATextBeginsAsOneKind : Type 0
 ATextBeginsAsOneKind = (text : List ℕ) → LooksLikeOne text
 
--- A valid literal token begins as its own kind, the one that `guess_kind` returns for its text.
+-- A valid literal token begins as a literal of its own kind, and `guess_kind` returns this kind for its text.
 abbrev pub ATokenBeginsAsItsKind : Type 0
 ATokenBeginsAsItsKind = (text : List ℕ) → TokenLooks text
 
--- The first flaw that a `Flaws` cursor returns explains why the text isn't a literal token. `read` returns it as its error,
--- since a text has only one such flaw.
+-- The first flaw that a `Flaws` cursor returns explains why the text isn't a literal token. `read` returns this flaw as its
+-- error, since only one flaw explains a text.
 abbrev pub TheFirstFlawExplainsTheText : Type 0
 TheFirstFlawExplainsTheText = (ends : LineEnds) (text : List ℕ) → FirstFlawExplains ends text
 

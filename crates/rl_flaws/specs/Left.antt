@@ -32,7 +32,7 @@ IsLeft len (Closed kind rest) =
     IsTrue (is_single kind) × IsTrue (first_passes is_apostrophe (chars rest.now)) × (length rest.now ≤ len) × IsUtf8 rest.now
 IsLeft len Nothing = ⊤
 
--- The rest is the text after the faulty piece.
+-- The unchecked rest of the text is the text after the faulty piece.
 pub record IsAfterPiece (ends : LineEnds) (o : Opened) (piece rest : List ℕ) : Type 0 where
   pub reads : read_of ends (chars rest) ≡ after_bad_piece (closer o.kind) (read_of ends (chars piece))
   pub rest_in : IsRestOf ends (chars piece) (chars rest)
@@ -43,7 +43,8 @@ abbrev pub FollowsPiece : LineEnds → Opened → List ℕ → Left → Type 0
 FollowsPiece ends o piece (Inside p rest) = (p ≡ o) × IsAfterPiece ends o piece rest.now
 FollowsPiece ends o piece left = ⊥
 
--- The unchecked text begins at the quote that closes the character or byte literal. Without such a quote no text is left.
+-- The unchecked text begins at the quote that closes the character or byte literal. If no quote closes the literal, no text is
+-- left to check.
 abbrev pub FollowsCharacter : LineEnds → Kind → List ℕ → Left → Type 0
 FollowsCharacter ends kind inside (Closed same rest) =
     (same ≡ kind) × IsClosedBy (read_of ends (chars inside)) (read_of ends (chars rest.now))
@@ -52,7 +53,8 @@ FollowsCharacter ends kind inside (Closed same rest) =
 FollowsCharacter ends kind inside Nothing = (closing : List ℕ) → IsClosedBy (read_of ends (chars inside)) closing → ⊥
 FollowsCharacter ends kind inside left = ⊥
 
--- The unchecked text after a flaw inside or after a literal. The two flags are the tests of `IsLeftBy`.
+-- The unchecked text after a flaw inside or after a literal. The first flag is true for an invalid character or escape of a
+-- string. The second flag is true for a flaw before the closing quote of a character or byte literal.
 abbrev pub IsLeftAfter : Bool → Bool → LineEnds → Opened → List ℕ → List ℕ → Left → Type 0
 IsLeftAfter true single ends o inside piece left = FollowsPiece ends o piece left
 IsLeftAfter false true ends o inside piece left = FollowsCharacter ends o.kind inside left
@@ -65,7 +67,7 @@ StaysOpen o (Closed kind rest) = ⊤
 StaysOpen o Nothing = ⊤
 StaysOpen o (Whole text) = ⊥
 
--- The cursor's literal is the same as before.
+-- The cursor still reads the literal that it read before, or no text is left to check.
 abbrev pub IsSameLiteral : Left → Left → Type 0
 IsSameLiteral (Inside o rest) new = StaysOpen o new
 IsSameLiteral old new = new ≡ Nothing

@@ -27,8 +27,8 @@ OpensString kind text = (front : List ℕ) × (inside : List ℕ) × IsStringOpe
 abbrev pub OpensSingle : Kind → List ℕ → Type 0
 OpensSingle kind text = IsTrue (is_single kind) × ((inside : List ℕ) × (text ≡ opener kind ++ inside))
 
--- The kind of a number. A number with a base prefix is an integer. Another number is a float if a dot, `e` or `E` follows its
--- decimal digits, and an integer otherwise.
+-- The kind of a number. A number with a base prefix is an integer. A number without one is a float if a dot, `e` or `E`
+-- follows its decimal digits, and an integer otherwise.
 abbrev pub number_kind : List ℕ → Kind
 number_kind digits =
     if begins_base digits then Int
@@ -52,7 +52,7 @@ LooksLike text kind = OpensString kind text ⊎ (OpensSingle kind text ⊎ (Open
 abbrev pub LooksLikeOne : List ℕ → Type 0
 LooksLikeOne text = (kind other : Kind) → LooksLike text kind → LooksLike text other → kind ≡ other
 
--- A literal token begins as a literal of its kind does.
+-- If a text is a literal token, it begins as a literal of its kind does.
 abbrev pub TokenLooks : List ℕ → Type 0
 TokenLooks text =
     (kind : Kind) (contents : Contents) (suffix : List ℕ) → Strict text kind contents suffix → LooksLike text kind

@@ -11,11 +11,11 @@ number_name (Integer t) = type_name t
 number_name F32 = codes "f32"
 number_name F64 = codes "f64"
 
--- The greatest number of an unsigned type with this number of bits.
+-- The greatest number of an unsigned type with the given number of bits.
 abbrev pub unsigned_greatest : ℕ → ℕ
 unsigned_greatest bits = 2 ^ bits - 1
 
--- The greatest magnitude of a signed type with this number of bits. After a minus it is greater by one.
+-- The greatest magnitude of a signed type with the given number of bits. After a minus, it is greater by one.
 abbrev pub signed_greatest : ℕ → Bool → ℕ
 signed_greatest bits negated = if negated then 2 ^ (bits - 1) else 2 ^ (bits - 1) - 1
 

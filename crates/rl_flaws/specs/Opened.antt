@@ -14,7 +14,7 @@ front_of CookedForm kind hashes = opener kind
 front_of SingleForm kind hashes = opener kind
 front_of RawForm kind hashes = raw_opener kind ++ (hashes ++ codes "\"")
 
--- A literal of the kind may have the form, with these hashes.
+-- A literal of the kind may have the given form and hashes.
 abbrev pub HasForm : QuotedForm → Kind → List ℕ → Type 0
 HasForm CookedForm kind hashes = IsTrue (is_string kind)
 HasForm SingleForm kind hashes = IsTrue (is_single kind)

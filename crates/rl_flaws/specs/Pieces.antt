@@ -1,5 +1,5 @@
--- The pieces of a quoted literal, valid and invalid: each is a segment of the valid text before the next flaw, or that flaw's
--- piece.
+-- The pieces of a quoted literal, valid and invalid. A valid piece is a segment of the valid text before the next flaw, and an
+-- invalid piece is that of a flaw.
 use Rattle.std.specs.Prelude.{◌≡◌, ◌+◌, ℕ, List, [], ◌++◌, length, Option, None, Some, MatchOption}
 use Rattle.std.specs.Str.{chars}
 use Rattle.rl_syntax.specs.Texts.{byte_len}
@@ -14,15 +14,15 @@ use Rattle.rl_flaws.specs.declared.invalid_piece.InvalidPiece.{InvalidPiece}
 use Rattle.rl_flaws.specs.declared.pieces.Piece.{Piece}
 use Rattle.rl_flaws.specs.declared.pieces.Piece.TheVariants.{Good, Bad}
 
--- The state of a cursor over pieces: the segments up to the next flaw or the closing delimiter, that flaw, and the state after
--- it.
+-- The state of a cursor over pieces: the segments up to the next flaw or the closing delimiter, the next flaw, and the state
+-- after the flaw.
 pub record PiecesState : Type 0 where
   pub segments : SegmentsState
   pub bad : Option InvalidPiece
   pub flaws : FlawsState
 
--- The segments are those of the valid text inside the open literal, up to its next flaw or its closing delimiter, with their
--- byte offsets.
+-- The segments are those of the valid text inside the open literal, with their byte offsets. The valid text ends at the next
+-- flaw or at the closing delimiter.
 pub record IsGoodInside (kind : Kind) (flaws : FlawsState) (s : SegmentsState) : Type 0 where
   pub form : QuotedForm
   pub hashes : List ℕ

@@ -10,11 +10,11 @@ use Rattle.rl_flaws.specs.declared.invalid_piece.InvalidPiece.{InvalidPiece}
 use Rattle.rl_flaws.specs.declared.flaws.Left.{Left}
 use Rattle.rl_flaws.specs.declared.flaws.Left.TheVariants.{Inside}
 
--- The segments of the valid text `good`, which ends at the byte offset `end`.
+-- The segments of the valid text `good`. The text ends at the byte offset `end`.
 abbrev pub segments_at : Kind → Bool → ℕ → List ℕ → SegmentsState
 segments_at kind plain end good = record { kind = kind; plain = plain; at = end - length good; rest = good }
 
--- The valid text of the unchecked part. It ends at the byte offset `end`.
+-- The valid text at the start of the unchecked text. It ends at the byte offset `end`.
 abbrev pub IsGoodLeft : ℕ → Left → List ℕ → ℕ → Type 0
 IsGoodLeft len (Inside o rest) good end =
     IsGoodInside o.kind (state_of Text len (Inside o rest)) (segments_at o.kind (is_raw_form o.form) end good)
@@ -25,7 +25,7 @@ abbrev pub pieces_of : Kind → Bool → ℕ → List ℕ → Option InvalidPiec
 pieces_of kind plain end good bad len left =
     record { segments = segments_at kind plain end good; bad = bad; flaws = state_of Text len left }
 
--- The open literal is of this kind, and raw if `plain` is true.
+-- The open literal is of the given kind. It is a raw string if and only if `plain` is true.
 abbrev pub IsOpenAs : Kind → Bool → Left → Type 0
 IsOpenAs kind plain (Inside o rest) = (o.kind ≡ kind) × (is_raw_form o.form ≡ plain)
 IsOpenAs kind plain left = ⊤

@@ -69,14 +69,14 @@ IsOfType t kind text magnitude negated suffix =
     ((kind ≡ Int) × NamesType suffix t × (IsBasedFloat text suffix → ⊥) × IsInRange t magnitude negated)
     ⊎ ((kind ≡ Float) × IsTypeOfFloat suffix t × IsFinite t (numeral_of text suffix))
 
--- Rust has a type for the literal: it is a number of a type, or it is an integer, a string, a character or a byte without a
+-- Rust has a type for the literal: it is a number of a type, it is an integer, a string, a character or a byte without a
 -- suffix, or it is `true` or `false`.
 abbrev pub HasType : Kind → List ℕ → ℕ → Bool → List ℕ → Type 0
 HasType kind text magnitude negated suffix =
     ((kind ≢ Float) × (suffix ≡ [])) ⊎ (kind ≡ BoolKind)
     ⊎ ((t : NumberType) × IsOfType t kind text magnitude negated suffix)
 
--- A type error and a type exclude each other: a literal has at most one of the two.
+-- A literal with the type error has no type in Rust.
 abbrev pub ExcludesType : TypeError → Kind → List ℕ → ℕ → Bool → List ℕ → Type 0
 ExcludesType error kind text magnitude negated suffix =
     HasTypeError error kind text magnitude negated suffix → HasType kind text magnitude negated suffix → ⊥

@@ -8,7 +8,7 @@ ghost use Rattle.rl_strict.specs.LineEnds.{IsRestOf, read_of};
 ghost use Rattle.rl_flaws.specs.Closings.{IsClosedBy, ReachesQuote};
 
 use rl_strict::LineEnds;
-use rl_strict::walk_units::split;
+use rl_strict::walk_units::split_first_char;
 use rl_syntax::text::{begins_with_char, strip_byte};
 
 /// Whether the search for a closing quote ends at `c`: at a slash, or at an LF that a quote doesn't follow directly.
@@ -18,8 +18,8 @@ fn ends_search(c: char, following: &str) -> bool
     c == '/' || (c == '\n' && !begins_with_char(following, '\''))
 }
 
-/// Returns the text after the character `c`, or `None` if the search for a closing quote ends there. A backslash skips the
-/// character after it too.
+/// Returns the text after the character `c`, or `None` if the search for a closing quote ends at `c`. If `c` is a backslash,
+/// the character after it is skipped too.
 fn after_part(ends: LineEnds, c: char, following: &str) -> Option<&str>
     requires { c ≢ code "'" }
     ensures some { IfSome result (λ rest. (closing : List ℕ)
@@ -30,7 +30,7 @@ fn after_part(ends: LineEnds, c: char, following: &str) -> Option<&str>
     ensures shorter { IfSome result (λ rest. length rest.now ≤ length following.now) }
 {
     if c == '\\' {
-        let (_, more) = split(ends, following)?;
+        let (_, more) = split_first_char(ends, following)?;
         return Some(more);
     }
     if ends_search(c, following) {
@@ -49,7 +49,7 @@ fn next_quote(ends: LineEnds, text: &str) -> Option<&str>
     ensures following { IfSome result (λ quote. IsTail text.now quote.now) }
 {
     let mut rest = text;
-    while let Some((c, following)) = split(ends, rest) {
+    while let Some((c, following)) = split_first_char(ends, rest) {
         if c == '\'' {
             return Some(rest);
         }
@@ -58,8 +58,8 @@ fn next_quote(ends: LineEnds, text: &str) -> Option<&str>
     None
 }
 
-/// Returns the text that begins at the closing quote of a character or byte literal, or `None` if it isn't closed. `text` is
-/// the text after the opening quote. If it begins with two quotes, the second one is the closing quote.
+/// Returns the text that begins at the closing quote of a character or byte literal, or `None` if the literal isn't closed.
+/// `text` is the text after the opening quote. If `text` begins with two quotes, the second one is the closing quote.
 pub fn closing_quote(ends: LineEnds, text: &str) -> Option<&str>
     ensures some { IfSome result (λ quote. IsClosedBy (read_of ends (chars text.now)) (read_of ends (chars quote.now))) }
     ensures none { IfNone result ((closing : List ℕ) → IsClosedBy (read_of ends (chars text.now)) closing → ⊥) }

@@ -12,9 +12,9 @@ ghost use Rattle.rl_flaws.specs.Left.{IsLeft, IsLeftAfter, IsSameLiteral, StaysO
 ghost use Rattle.rl_flaws.specs.PiecesLeft.{IsGoodLeft};
 
 use crate::closings::closing_quote;
-use crate::invalid_piece::{InvalidPiece, placed};
+use crate::invalid_piece::{InvalidPiece, invalid_piece_with_offsets};
 use crate::piece_ends::{after_bad_piece, is_flaw_after_quote, is_flaw_of_unit};
-use crate::walks::{Opened, open, walk};
+use crate::walks::{Opened, parse_quoted_content, split_opening_delimiter};
 use rl_lenient::quoted_forms::QuotedForm;
 use rl_strict::read_quoted::suffix_flaw;
 use rl_strict::{FlawKind, LineEnds, read};
@@ -40,15 +40,15 @@ fn whole(text: &str) -> Left<'_>
     ensures left { IsLeft (length text.now) result }
     ensures flaws { (ends : AnyEnds) → AreFlawsOf ends text.now (state_of ends (length text.now) result) }
 {
-    match open(text) {
+    match split_opening_delimiter(text) {
         Some((opened, inside)) => Left::Inside(opened, inside),
         None => Left::Whole(text),
     }
 }
 
 /// Returns the part of the text to check after a flaw of the kind `flaw`. `inside` is the text that the flaw was found in, and
-/// `piece` the text that begins at the flaw's piece. After a flaw in a character or byte literal, this part begins at the quote
-/// that closes the literal. Without such a quote it is nothing.
+/// `piece` the text that begins at the flaw's piece. After a flaw in a character or byte literal, this part begins at the
+/// quote that closes the literal. If no quote closes the literal, nothing is left to check.
 fn left_after<'t>(
     ends: LineEnds,
     opened: Opened<'t>,
@@ -120,7 +120,7 @@ pub fn next_flaw_inside<'t>(
     ensures same { StaysOpen opened.entry result.left }
     ensures good { ends ≡ Text → IsGoodLeft len (Inside opened.entry rest.entry) result.good.now result.end }
 {
-    let stretch = walk(ends, opened, rest);
+    let stretch = parse_quoted_content(ends, opened, rest);
     let good = before(rest, stretch.closing);
     let end = len - stretch.closing.len();
     match stretch.end {
@@ -133,7 +133,7 @@ pub fn next_flaw_inside<'t>(
         Err(found) => NextFlaw {
             good,
             end,
-            bad: Some(placed(ends, len, opened.kind.quote(), found)),
+            bad: Some(invalid_piece_with_offsets(ends, len, opened.kind.quote(), found)),
             left: left_after(ends, opened, rest, found.kind, found.piece),
         },
     }
@@ -158,7 +158,7 @@ fn judge_closed<'t>(ends: LineEnds, len: usize, kind: Kind, closing: &'t str) ->
         Some(found) => NextFlaw {
             good: "",
             end: 0,
-            bad: Some(placed(ends, len, '\'', found)),
+            bad: Some(invalid_piece_with_offsets(ends, len, '\'', found)),
             left: Left::Nothing,
         },
     }
@@ -190,8 +190,8 @@ pub fn next_flaw<'t>(ends: LineEnds, len: usize, left: Left<'t>) -> NextFlaw<'t>
 ///
 /// The first flaw is the error that [`read`](rl_strict::read) returns with `signed = false`. After an invalid character or
 /// escape in a string, the search continues inside the string. After a flaw before the closing quote of a character or byte
-/// literal, only the suffix is checked. Any other flaw is the last one. Offsets are in bytes of the text as written. In a file,
-/// where CR LF is read as LF, no offset is between the two.
+/// literal, only the suffix is checked. Any other flaw is the last one. Offsets are in bytes of the text as written. In a
+/// file, where CR LF is read as LF, no offset is between the CR and the LF.
 #[derive(Drop)]
 pub struct Flaws<'t> {
     ends: LineEnds,

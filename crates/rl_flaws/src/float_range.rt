@@ -49,7 +49,7 @@ fn split_letter(numeral: &str) -> (&str, &str)
     (numeral, rest)
 }
 
-/// Returns the text after its first dot, or an empty text if it has no dot.
+/// Returns the part of the text after its first dot, or an empty text if it has no dot.
 fn after_point(text: &str) -> &str
     ensures { chars result.now ≡ after_point (chars text.now) }
 {
@@ -118,7 +118,7 @@ fn count_digits(text: &str) -> usize
     count
 }
 
-/// Returns the number that the decimal digits in the text represent. The number is exact if it is below `HUGE`; otherwise the
+/// Returns the number that the decimal digits in the text represent. The number is exact if it is below `HUGE`. Otherwise the
 /// result is at least `HUGE`.
 fn capped_value(text: &str) -> u128
     ensures value { (result ≡ place_value 10 (digits_only (chars text.now)))

@@ -8,7 +8,7 @@ ghost use Rattle.rl_flaws.specs.Flawed.{EndsWhere, ReadsFrom};
 
 use crate::piece_ends::{after_bad_piece, is_flaw_of_unit};
 use rl_strict::flaws::FlawAt;
-use rl_strict::strict_reading::after_first;
+use rl_strict::strict_reading::skip_first_char;
 use rl_strict::{Flaw, FlawKind, LineEnds};
 
 /// A flaw, and the end of its piece: the range of text to show for the flaw.
@@ -37,7 +37,12 @@ fn end_of(ends: LineEnds, len: usize, quote: char, kind: FlawKind, piece: &str, 
 
 /// Converts a flaw that was found inside a literal to byte offsets. The flaw's texts are ends of the input text, which has
 /// `len` bytes.
-pub fn placed(ends: LineEnds, len: usize, quote: char, found: FlawAt<'_>) -> InvalidPiece
+pub fn invalid_piece_with_offsets(
+    ends: LineEnds,
+    len: usize,
+    quote: char,
+    found: FlawAt<'_>,
+) -> InvalidPiece
     requires piece { length found.piece.now ≤ len }
     requires rest { length found.rest.now ≤ len }
     ensures kind { result.flaw.kind ≡ found.entry.kind }
@@ -48,7 +53,7 @@ pub fn placed(ends: LineEnds, len: usize, quote: char, found: FlawAt<'_>) -> Inv
     ensures end { EndsWhere (is_flaw_of_unit result.flaw.kind) (ReadsFrom ends len (chars found.entry.piece.now)
         (after_bad_piece quote (read_of ends (chars found.entry.piece.now)))) result.flaw.hi result.end }
 {
-    let hi = len - after_first(ends, found.rest).len();
+    let hi = len - skip_first_char(ends, found.rest).len();
     InvalidPiece {
         flaw: Flaw {
             kind: found.kind,

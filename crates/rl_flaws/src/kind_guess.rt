@@ -7,7 +7,7 @@ ghost use Rattle.rl_syntax.specs.Reading.{Contents};
 ghost use Rattle.rl_syntax.specs.Strict.{Strict};
 ghost use Rattle.rl_flaws.specs.Looks.{LooksLike, number_kind};
 
-use crate::walks::open;
+use crate::walks::split_opening_delimiter;
 use rl_lenient::bool_of;
 use rl_lenient::digit_runs::{after_minus, begins_digit, skip_digits};
 use rl_lenient::number_forms::split_radix;
@@ -34,7 +34,7 @@ fn front_kind(text: &str) -> Option<Kind>
     ensures some { IfSome result (LooksLike (chars text.now)) }
     ensures none { IfNone result ((kind : AnyKind) → LooksLike (chars text.now) kind → ⊥) }
 {
-    if let Some((opened, _)) = open(text) {
+    if let Some((opened, _)) = split_opening_delimiter(text) {
         return Some(opened.kind);
     }
     let digits = after_minus(text);

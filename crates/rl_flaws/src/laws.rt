@@ -7,13 +7,14 @@ pub fn a_text_begins_as_one_kind()
     ensures { ATextBeginsAsOneKind }
 {}
 
-/// A valid literal token begins as its own kind, the one that [`guess_kind`](crate::guess_kind) returns for its text.
+/// A valid literal token begins as a literal of its own kind, and [`guess_kind`](crate::guess_kind) returns this kind for its
+/// text.
 pub fn a_token_begins_as_its_kind()
     ensures { ATokenBeginsAsItsKind }
 {}
 
 /// The first flaw that a [`Flaws`](crate::Flaws) cursor returns explains why the text isn't a literal token.
-/// [`read`](rl_strict::read) returns it as its error, since a text has only one such flaw.
+/// [`read`](rl_strict::read) returns this flaw as its error, since only one flaw explains a text.
 pub fn the_first_flaw_explains_the_text()
     ensures { TheFirstFlawExplainsTheText }
 {}
@@ -30,7 +31,7 @@ pub fn the_rest_has_one_next_flaw()
 {}
 
 /// Rust has no type for a literal for which [`type_error`](crate::type_error) returns an error.
-pub fn an_error_excludes_a_type()
+pub fn a_literal_with_a_type_error_has_no_type()
     ensures { AnErrorExcludesAType }
 {}
 

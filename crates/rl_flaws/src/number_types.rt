@@ -14,7 +14,7 @@ pub enum NumberType {
     F64,
 }
 
-/// Returns the number type that the suffix names, or `None` if it names none.
+/// Returns the number type that the suffix names, or `None` if the suffix isn't the name of a number type.
 pub fn type_named(suffix: &str) -> Option<NumberType>
     ensures some { IfSome result (λ t. suffix.now ≡ number_name t) }
     ensures none { IfNone result ((t : AnyType) → suffix.now ≢ number_name t) }

@@ -7,18 +7,17 @@ ghost use Rattle.rl_syntax.specs.Quoted.{is_hex_digit};
 ghost use Rattle.rl_flaws.specs.BadPieces.{after_brace, after_code_digits, after_escape, after_hex, after_one, after_bad_piece, after_unicode, is_flaw_after_quote, is_flaw_of_unit};
 ghost use Rattle.rl_strict.specs.LineEnds.{IsRestOf, read_of};
 
-use rl_strict::walk_units::split;
+use rl_strict::walk_units::split_first_char;
 use rl_strict::{FlawKind, LineEnds};
 
-/// Returns the text after its first character. If that character is a backslash or the quote `quote`, the result is all of the
-/// text.
+/// Returns the text without its first character, or all of the text if this character is a backslash or the quote `quote`.
 #[tactic(auto, using(rl_syntax::proofs::TailLemmas::tail_self, rl_syntax::proofs::TailLemmas::tail_step, rl_strict::proofs::EndLemmas::self_in, rl_strict::proofs::EndLemmas::step_in))]
 fn after_one(ends: LineEnds, quote: char, text: &str) -> &str
     ensures read { read_of ends (chars result.now) ≡ after_one quote (read_of ends (chars text.now)) }
     ensures rest { IsRestOf ends (chars text.now) (chars result.now) }
     ensures following { IsTail text.now result.now }
 {
-    match split(ends, text) {
+    match split_first_char(ends, text) {
         Some((c, rest)) if c != '\\' && c != quote => rest,
         _ => text,
     }
@@ -31,7 +30,7 @@ fn after_hex(ends: LineEnds, quote: char, text: &str) -> &str
     ensures rest { IsRestOf ends (chars text.now) (chars result.now) }
     ensures following { IsTail text.now result.now }
 {
-    match split(ends, text) {
+    match split_first_char(ends, text) {
         Some((c, rest)) if c.is_ascii_hexdigit() => after_one(ends, quote, rest),
         _ => after_one(ends, quote, text),
     }
@@ -53,7 +52,7 @@ fn after_code_digits(ends: LineEnds, quote: char, text: &str) -> &str
     ensures following { IsTail text.now result.now }
 {
     let mut rest = text;
-    while let Some((c, following)) = split(ends, rest) {
+    while let Some((c, following)) = split_first_char(ends, rest) {
         if !is_code_part(c) {
             return after_one(ends, quote, rest);
         }
@@ -69,7 +68,7 @@ fn after_brace(ends: LineEnds, quote: char, text: &str) -> &str
     ensures rest { IsRestOf ends (chars text.now) (chars result.now) }
     ensures following { IsTail text.now result.now }
 {
-    match split(ends, text) {
+    match split_first_char(ends, text) {
         Some((c, rest)) if c.is_ascii_hexdigit() => after_code_digits(ends, quote, rest),
         _ => after_one(ends, quote, text),
     }
@@ -82,7 +81,7 @@ fn after_unicode(ends: LineEnds, quote: char, text: &str) -> &str
     ensures rest { IsRestOf ends (chars text.now) (chars result.now) }
     ensures following { IsTail text.now result.now }
 {
-    match split(ends, text) {
+    match split_first_char(ends, text) {
         Some(('{', rest)) => after_brace(ends, quote, rest),
         _ => after_one(ends, quote, text),
     }
@@ -95,7 +94,7 @@ fn after_escape(ends: LineEnds, quote: char, text: &str) -> &str
     ensures rest { IsRestOf ends (chars text.now) (chars result.now) }
     ensures following { IsTail text.now result.now }
 {
-    match split(ends, text) {
+    match split_first_char(ends, text) {
         Some(('x', rest)) => after_hex(ends, quote, rest),
         Some(('u', rest)) => after_unicode(ends, quote, rest),
         Some((_, rest)) => rest,
@@ -103,14 +102,15 @@ fn after_escape(ends: LineEnds, quote: char, text: &str) -> &str
     }
 }
 
-/// Returns the text after the invalid escape or character at its beginning, where parsing a string continues.
+/// Returns the text after the invalid escape or character with which the given text begins. There the parsing of a string
+/// continues.
 #[tactic(auto, using(rl_syntax::proofs::TailLemmas::tail_self, rl_syntax::proofs::TailLemmas::tail_step, rl_strict::proofs::EndLemmas::self_in, rl_strict::proofs::EndLemmas::step_in))]
 pub fn after_bad_piece(ends: LineEnds, quote: char, text: &str) -> &str
     ensures read { read_of ends (chars result.now) ≡ after_bad_piece quote (read_of ends (chars text.now)) }
     ensures rest { IsRestOf ends (chars text.now) (chars result.now) }
     ensures following { IsTail text.now result.now }
 {
-    match split(ends, text) {
+    match split_first_char(ends, text) {
         Some(('\\', rest)) => after_escape(ends, quote, rest),
         Some((_, rest)) => rest,
         None => text,

@@ -7,7 +7,7 @@ ghost use Rattle.rl_strict.specs.StrictFlawKinds.{is_raw_form};
 
 use crate::flaws::{Left, next_flaw, next_flaw_inside};
 use crate::invalid_piece::InvalidPiece;
-use crate::walks::open;
+use crate::walks::split_opening_delimiter;
 use rl_lenient::quoted_forms::QuotedForm;
 use rl_lenient::{Segment, split_segment};
 use rl_strict::LineEnds;
@@ -69,7 +69,7 @@ impl<'t> Pieces<'t> {
         ensures some { IfSome result (λ s. (flaws : FlawsState) × AreFlawsOf Text text.now flaws × BeginsPart flaws s) }
         ensures none { IfNone result ((kind : AnyKind) → OpensString kind (chars text.now) ⊎ OpensSingle kind (chars text.now) → ⊥) }
     {
-        match open(text) {
+        match split_opening_delimiter(text) {
             Some((opened, inside)) => {
                 let judged = next_flaw_inside(LineEnds::Text, text.len(), opened, inside);
                 Some(Pieces {

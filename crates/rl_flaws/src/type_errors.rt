@@ -168,13 +168,13 @@ fn float_error(text: &str, numeral: &str, suffix: &str, negated: bool) -> Option
     }
 }
 
-/// Returns the reason why Rust has no type for a literal, or `None` if it has one.
+/// Returns the reason why Rust has no type for a literal, or `None` if Rust has a type for it.
 ///
 /// The reason is a suffix that isn't the name of a fitting type, or a number that is out of its type's range. An integer
 /// without a suffix has no error: Rust infers its type. A float is out of range if it rounds to infinity in its type, which is
 /// `f64` without a suffix.
 ///
-/// `text` is the text of the literal, and `found` its parse result. If a minus may precede the literal, `negated` is true; then
+/// `text` is the text of the literal, and `found` its parse result. `negated` is true if a minus may precede the literal. Then
 /// `128i8` is in range. Nothing is allocated.
 pub fn type_error(text: &str, found: &Found, negated: bool) -> Option<TypeError>
     requires { IsFound text.now found.now }

@@ -18,7 +18,7 @@ ghost use Rattle.rl_flaws.specs.Opened.{IsOpened, opened_front};
 use rl_lenient::quoted_forms::{QuotedForm, split_opener};
 use rl_strict::LineEnds;
 use rl_strict::walk::{
-    QuotedContent, open_raw, parse_cooked_content, parse_raw_content, parse_single_unit,
+    QuotedContent, parse_cooked_content, parse_raw_content, parse_single_unit, split_raw_opening,
 };
 use rl_syntax::Kind;
 
@@ -27,19 +27,19 @@ use rl_syntax::Kind;
 pub struct Opened<'t> {
     pub form: QuotedForm,
     pub kind: Kind,
-    /// The hashes of a raw string; empty for other forms.
+    /// The hashes of a raw string, or an empty text for other forms.
     pub hashes: &'t str,
 }
 
 /// Returns the opening delimiter of the quoted literal that `text` begins with, and the text after it.
-pub fn open(text: &str) -> Option<(Opened<'_>, &str)>
+pub fn split_opening_delimiter(text: &str) -> Option<(Opened<'_>, &str)>
     ensures some { IfSome result (λ p. IsOpened p.0) }
     ensures cut { IfSome result (λ p. chars text.now ≡ opened_front p.0 ++ chars p.1.now) }
     ensures none { IfNone result ((k : AnyKind) → OpensString k (chars text.now) ⊎ OpensSingle k (chars text.now) → ⊥) }
 {
     match split_opener(text) {
         Some((form, kind, inside)) => match form {
-            QuotedForm::Raw => match open_raw(kind, inside) {
+            QuotedForm::Raw => match split_raw_opening(kind, inside) {
                 Ok((hashes, rest)) => Some((Opened { form, kind, hashes }, rest)),
                 Err(_) => None,
             },
@@ -81,7 +81,11 @@ fn walk_unit(ends: LineEnds, kind: Kind, text: &str) -> QuotedContent<'_>
 
 /// Parses a quoted literal whose opening delimiter is `opened`. `text` begins after that delimiter, or at a later character or
 /// escape inside the literal.
-pub fn walk<'t>(ends: LineEnds, opened: Opened<'t>, text: &'t str) -> QuotedContent<'t>
+pub fn parse_quoted_content<'t>(
+    ends: LineEnds,
+    opened: Opened<'t>,
+    text: &'t str,
+) -> QuotedContent<'t>
     requires { IsOpened opened }
     ensures good { ends ≡ Text → IsInsideUpTo opened.entry.form opened.entry.kind (chars opened.entry.hashes.now)
         (chars text.now) (chars result.closing.now) }

@@ -11,7 +11,7 @@ ghost use Rattle.rl_lenient.specs.Decoded.{HoldsBytes};
 ghost use Rattle.rl_lenient.specs.Mirrors.Decodes.{Decodes};
 
 use rl_lenient::contents::decode_into;
-use rl_lenient::found::found_in;
+use rl_lenient::found::parse_known_literal;
 use rl_tokens::{Error, Kind};
 use std::alloc::{AllocError, Allocator};
 
@@ -59,13 +59,13 @@ fn body_bytes<A: Allocator>(
 /// use rl_grammar::{Kind, shape, str_of};
 /// use std::alloc::Global;
 ///
-/// pub fn contents(alloc: Global, text: &str) -> Option<String> {
+/// pub fn decoded_string(alloc: Global, text: &str) -> Option<String> {
 ///     match shape(text)?.kind {
 ///         Kind::Str => str_of(alloc, text).ok(),
 ///         _ => None,
 ///     }
 /// }
-/// // contents(alloc, "\"a\\x41\"") == Some("aA")
+/// // decoded_string(alloc, "\"a\\x41\"") == Some("aA")
 /// ```
 pub fn str_of<A: Allocator>(alloc: A, text: &str) -> Result<String<A>, Error<A>>
     requires { ReadsAs Kind.Str (chars text.now) }
@@ -73,7 +73,7 @@ pub fn str_of<A: Allocator>(alloc: A, text: &str) -> Result<String<A>, Error<A>>
         (λ s. HasContents Kind.Str (chars text.now) (Characters (chars (string_bytes s)))) }
     ensures memory { IfErr result (λ e. e ≡ memory_at nowhere) }
 {
-    let found = found_in(text);
+    let found = parse_known_literal(text);
     str_of_body(alloc, found.body_in(text), found.body.plain)
 }
 
@@ -90,12 +90,12 @@ pub fn bytes_of<A: Allocator>(alloc: A, text: &str) -> Result<Vec<u8, A>, Error<
         ⊎ HasContents Kind.CStr (chars text.now) (Bytes bytes.items)) }
     ensures memory { IfErr result (λ e. e ≡ memory_at nowhere) }
 {
-    let found = found_in(text);
+    let found = parse_known_literal(text);
     bytes_of_body(alloc, found.kind, found.body_in(text), found.body.plain)
 }
 
 /// Returns the decoded value of a string literal from `body`, the text between its quotes. `plain` tells whether the
-/// decoded value equals the body. [`find`](crate::find) returns both.
+/// decoded value equals the body. [`parse_literal`](crate::parse_literal) returns both.
 ///
 /// # Errors
 ///

@@ -11,7 +11,7 @@ ghost use Rattle.rl_lenient.specs.Founds.{IsFoundNumber};
 ghost use Rattle.rl_lenient.specs.NumberShapes.{AreDigits, IsNumber};
 
 use rl_lenient::digit_runs::is_negative;
-use rl_lenient::found::found_in;
+use rl_lenient::found::parse_known_literal;
 use rl_lenient::{Found, find_float, float_digits_into};
 use rl_tokens::{Error, Kind};
 use std::alloc::{AllocError, Allocator};
@@ -45,7 +45,7 @@ fn found_number(kind: Kind, text: &str) -> Found
     ensures kind { result.kind ≡ kind }
 {
     match kind {
-        Kind::Int => found_in(text),
+        Kind::Int => parse_known_literal(text),
         _ => match find_float(text) {
             Some(found) => found,
             None => unreachable!(),

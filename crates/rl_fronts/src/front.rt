@@ -12,7 +12,7 @@ ghost use Rattle.rl_fronts.specs.Fronts.{IsFront, HasNoFront, HasFrontOf, RunsAs
 ghost use Rattle.rl_lenient.specs.Founds.{IsFound};
 ghost use Rattle.rl_fronts.specs.FrontTokens.{HasNoWord, HasNoMinus};
 
-use rl_lenient::{Found, bool_of, find, find_negative};
+use rl_lenient::{Found, bool_of, find_negative, parse_literal};
 use rl_tokens::{Error, Ident, Kind, Literal, ParseBuffer, Punct, Span};
 use std::alloc::Allocator;
 use std::marker::Model;
@@ -131,13 +131,13 @@ impl<'a, A: Allocator> Front<'a, A> {
     /// Returns the literal's parse result, or `None` if the text of the literal token isn't a valid literal or is an
     /// integer above 128 bits. The byte offsets in the result count from the start of the literal's text, which
     /// includes a minus.
-    pub fn find(&self) -> Option<Found>
+    pub fn parse_result(&self) -> Option<Found>
         ensures none { IfNone result (HasNoReading (chars (front_token self.now).text)) }
         ensures found { IfSome result (IsFound (front_token self.now).text) }
     {
         match self {
-            Front::Literal(token) => find(token.text()),
-            Front::Word(word) => find(word.text()),
+            Front::Literal(token) => parse_literal(token.text()),
+            Front::Word(word) => parse_literal(word.text()),
             Front::Negative(negative) => Some(negative.found),
         }
     }
@@ -148,7 +148,7 @@ impl<'a, A: Allocator> Front<'a, A> {
         ensures some { IfSome result (λ k. ReadsAs k (chars (front_token self.now).text)) }
         ensures none { IfNone result (HasNoReading (chars (front_token self.now).text)) }
     {
-        let found = self.find()?;
+        let found = self.parse_result()?;
         Some(found.kind)
     }
 
@@ -158,7 +158,7 @@ impl<'a, A: Allocator> Front<'a, A> {
         ensures kind { IfSome result (λ f. f.kind ≡ kind) }
         ensures none { IfNone result (ReadsAs kind (chars (front_token self.now).text) → ⊥) }
     {
-        let found = self.find()?;
+        let found = self.parse_result()?;
         if found.kind == kind {
             Some(found)
         } else {
@@ -174,7 +174,7 @@ impl<'a, A: Allocator> Front<'a, A> {
     }
 
     /// Returns the value of a literal `true` or `false`, or `None` for any other literal.
-    pub fn truth(&self) -> Option<bool>
+    pub fn bool_value(&self) -> Option<bool>
         ensures some { IfSome result
             (λ b. Reads (chars (front_token self.now).text) BoolKind (Truth b) []) }
         ensures bytes { IfSome result (λ b. (front_token self.now).text ≡ truth_text b) }
@@ -212,7 +212,7 @@ impl<'a, A: Allocator> Front<'a, A> {
         match self {
             Front::Literal(token) => Literal::clone(token, alloc),
             Front::Word(word) => Literal::from_text(alloc, word.text(), word.span()),
-            Front::Negative(negative) => negative.number.after_minus(alloc, self.span()),
+            Front::Negative(negative) => negative.number.with_minus(alloc, self.span()),
         }
     }
 }

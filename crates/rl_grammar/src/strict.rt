@@ -20,11 +20,11 @@ pub use rl_strict::{Number, Reading, read};
 /// ```
 /// use rl_grammar::strict::is_token;
 ///
-/// pub fn is_rust(text: &str) -> bool {
+/// pub fn is_rust_literal(text: &str) -> bool {
 ///     is_token(text)
 /// }
-/// // is_rust("0xFF_u8") == true
-/// // is_rust("-1") == false
+/// // is_rust_literal("0xFF_u8") == true
+/// // is_rust_literal("-1") == false
 /// ```
 pub fn is_token(text: &str) -> bool
     ensures { IsTrue result ↔ IsToken (chars text.now) }

@@ -1,4 +1,4 @@
--- Texts that don't begin with an ASCII character.
+-- Lemmas on texts that don't begin with an ASCII character.
 use Rattle.rl_syntax.proofs.Common.{◌≡◌, ℕ, ◌≤◌, ◌<◌, false, ltb, eqb, List, [], ◌∷◌, None, refl, arith, ltb-false, nat_tests, is_ascii_digit, digit_value}
 use Rattle.rl_lenient.proofs.Names.{le-ltb, Kind, Str, ByteStr, first_passes, NoSign}
 use Rattle.std.specs.Char.{is_ascii}

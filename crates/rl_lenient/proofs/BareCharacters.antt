@@ -1,4 +1,4 @@
--- An ASCII character that is its own value between single quotes.
+-- Character and byte literals whose body is one ASCII character that is its own value.
 use Rattle.rl_syntax.proofs.Common.{◌≡◌, ◌<◌, ◌≤◌, ℕ, suc, zero, false, not, eqb, List, [], ◌∷◌, length, drop, get_or, refl, sym, ap, subst, ◌∙◌, arith, inl, inr, eqb-true, cases_Bool, IsUtf8-drop, IsCharBoundary, IsAscii, IsUtf8}
 use Rattle.rl_lenient.proofs.Names.{Char, Plain}
 use Rattle.std.proofs.lemmas.Str.{IsCharBoundary-after_ascii, chars-IsAscii}
@@ -12,7 +12,7 @@ use Rattle.rl_lenient.specs.Founds.{IsFound, IsQuotedAt}
 use Rattle.rl_lenient.proofs.FoundLemmas.{OfUnit, quoted_found}
 use Rattle.rl_lenient.proofs.SingleBodies.{byte_unit}
 
--- The text after the first character of a UTF-8 text, if that is ASCII, is UTF-8.
+-- The text after the first character of a UTF-8 text is UTF-8, if the first character is ASCII.
 after : (c : ℕ) (x : List ℕ) → c < 128 → IsUtf8 (c ∷ x) → IsUtf8 x
 after c x small u = IsUtf8-drop (c ∷ x) 1 u (IsCharBoundary-after_ascii (c ∷ x) 0 u (omega arith) small)
 

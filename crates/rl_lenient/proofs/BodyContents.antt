@@ -27,7 +27,7 @@ body_reads : (kind : Kind) (t body : List ℕ) (plain : Bool) (has : HasBody kin
     → ReadsQuoted t kind (quoted_contents kind has.value) has.suffix
 body_reads kind t body plain has = parts_read has.form kind t has.value (chars body) has.suffix has.parts
 
--- If the bytes are those of a string's value, they are UTF-8, and their characters are the value.
+-- If bytes are those of a string literal's value, they are UTF-8, and their characters are the value.
 pub str_of_has : (t body bytes : List ℕ) (plain : Bool) → HasBody Str t body plain → IsUtf8 body → HoldsBytes t bytes
     → IsUtf8 bytes × HasContents Str t (Characters (chars bytes))
 str_of_has t body bytes plain has u held =
@@ -59,7 +59,7 @@ bytes_of_has CStr t body bytes plain which has held =
     )
 bytes_of_has kind t body bytes plain which has held = absurd (other_kind kind which refl)
 
--- If a string's body is plain, its characters are the value.
+-- If the body of a string literal is plain (its own value), the characters of the body are the value.
 pub plain_contents : (body : List ℕ) (plain : Bool) → plain ≡ true → IsUtf8 body
     → Represents Str body plain (Characters (chars body))
 plain_contents body plain is u = λ t has. (str_of_has t body body plain has u

@@ -1,6 +1,6 @@
--- A string's body that is its value byte for byte, or is longer than the value.
+-- The body of a string literal is its value byte for byte, or it is longer than the value.
 use Rattle.rl_syntax.proofs.Common.{◌≡◌, ℕ, ◌<◌, ◌≤◌, ◌⊎◌, inl, inr, Bool, true, false, not, ltb, ◌==◌, drop, List, [], ◌∷◌, ◌++◌, length, refl, sym, ap, subst, ◌∙◌, arith, encode_utf8_all, AllByRecursion, list_all, IsUtf8, append_cancel_right, and_from, and_parts, both_ways, or_right, encodes-append, encodes-chars, length-encode}
-use Rattle.rl_lenient.proofs.Names.{append_cancel_left, Kind, Str, ByteStr, CStr, first_passes, Contents, Characters, Bytes, ReadsQuoted, quoted_contents, QuotedUnit, Letter, Plain, CrLf, Named, Hex, Unicode, Continuation, LowerN, LowerR, LowerT, Backslash, Apostrophe, Quote, Zero, letter_value, unit_text, unit_value, hex_value, unicode_value, holds_characters, content_of, allows_code, is_string, is_plain, IsUnit, opener, raw_opener, texts, values}
+use Rattle.rl_lenient.proofs.Names.{append_cancel_left, Kind, Str, ByteStr, CStr, first_passes, Contents, Characters, Bytes, ReadsQuoted, quoted_contents, QuotedUnit, Letter, Plain, CrLf, Named, Hex, Unicode, Continuation, LowerN, LowerR, LowerT, Backslash, Apostrophe, Quote, Zero, letter_value, unit_text, unit_value, hex_value, unicode_value, decodes_to_chars, content_of, allows_code, is_string, is_plain, IsUnit, opener, raw_opener, texts, values}
 use Rattle.std.proofs.Common.{length-append}
 use Rattle.std.specs.Str.{chars}
 use Rattle.std.proofs.lemmas.Str.{length-le-encodes, len_utf8_bounds}
@@ -52,12 +52,12 @@ unit_shrinks kind (Plain c) h = record { no_longer = omega (arith, ap length (he
 unit_shrinks kind CrLf h = shorter kind _ _ (omega (
   arith,
   one_byte_of kind 10
-      (or_right (not (holds_characters kind)) true refl),
+      (or_right (not (decodes_to_chars kind)) true refl),
 ))
 unit_shrinks kind (Named l) h = shorter kind _ _ (omega (
   arith,
   one_byte_of kind (letter_value l)
-      (or_right (not (holds_characters kind)) _ (letter_small l)),
+      (or_right (not (decodes_to_chars kind)) _ (letter_small l)),
 ))
 unit_shrinks kind (Hex high low) h = shorter kind _ _ (omega
     (arith, one_byte_of kind (hex_value high low) (and_parts (allows_code kind (hex_value high low)) _ h.2).1))
@@ -111,7 +111,7 @@ cooked_shortens kind t w b x other ub p =
       )
     ]
 
--- If the body of a string isn't plain, the string isn't raw.
+-- If the body of a string literal isn't plain (its own value), the string isn't raw.
 pub cooked_other : (form : QuotedForm) (kind : Kind) (t w b x : List ℕ) → is_string kind ≡ true
     → is_plain_body form kind b ≡ false → PartsAre form kind t w b x → PartsAre CookedForm kind t w b x
     × (list_all (is_plain kind) b ≡ false)
@@ -121,7 +121,7 @@ cooked_other SingleForm kind t w b x s other p = absurd (not_both kind s p.0.sin
 
 -- ---- plain bodies
 
--- The text is a string literal of the kind whose value, in bytes, is this body.
+-- A string literal of a kind, the bytes of whose value are `body`.
 record HeldIn (kind : Kind) (t body x : List ℕ) : Type 0 where
   pub contents : Contents
   pub reads : ReadsQuoted (chars t) kind contents x
@@ -144,7 +144,7 @@ held_in ByteStr t s p = record { contents = Bytes p.body; reads = p.reads; held_
 held_in CStr t s p = record { contents = Bytes p.body; reads = p.reads; held_are = λ ub. sym (bytes_are p.body p.reads.value p.reads.contents_is) }
 held_in kind t s p = absurd (cc)
 
--- For the three kinds of strings, the split of a literal into its parts (`IsSplit`) is that of a quoted literal
+-- For the three kinds of strings, splitting a literal into body and suffix (`IsSplit`) is splitting a quoted literal
 -- (`IsQuotedSplit`).
 string_cut : (kind : Kind) (t b x : List ℕ) → is_string kind ≡ true → IsSplit kind t b x → IsQuotedSplit kind t b x
 string_cut Str t b x s c = c
@@ -155,14 +155,14 @@ string_cut kind t b x s c = absurd (cc)
 abbrev is_quote : ℕ → Bool
 is_quote c = c == 34
 
--- No text begins like a string with escapes and like a raw string.
+-- No text begins both like a string with escapes and like a raw string.
 pub openers_differ : (kind : Kind) (a b : List ℕ) → is_string kind ≡ true → opener kind ++ a ≡ raw_opener kind ++ b → ⊥
 openers_differ Str a b s e = let h : true ≡ false = ap (first_passes is_quote) e in absurd (cc)
 openers_differ ByteStr a b s e = let h : true ≡ false = ap (λ l. first_passes is_quote (drop 1 l)) e in absurd (cc)
 openers_differ CStr a b s e = let h : true ≡ false = ap (λ l. first_passes is_quote (drop 1 l)) e in absurd (cc)
 openers_differ kind a b s e = absurd (cc)
 
--- A string with escapes is split into parts in one way.
+-- A string literal that isn't raw can be split into body and suffix in only one way.
 cut_once : (kind : Kind) (t b d x : List ℕ) → IsCookedSplit kind t b x → IsQuotedSplit kind t d x → b ≡ d
 cut_once kind t b d x c q = elim q [
   | inl e ↦ append_cancel_right b d (34 ∷ x) (append_cancel_left (opener kind) (b ++ (34 ∷ x)) (d ++ (34 ∷ x))
@@ -173,7 +173,7 @@ cut_once kind t b d x c q = elim q [
   ]
 ]
 
--- A body that isn't plain is longer than the value.
+-- If the body of a string literal isn't plain, the body isn't the literal's value byte for byte.
 not_shorter : (form : QuotedForm) (kind : Kind) (t w b x : List ℕ) → is_string kind ≡ true
     → is_plain_body form kind (chars b) ≡ false → IsUtf8 t → IsUtf8 b → IsUtf8 x
     → PartsAre form kind (chars t) w (chars b) (chars x) → (p : IsPlain kind t) → encode_utf8_all p.suffix ≡ x
@@ -190,7 +190,7 @@ not_shorter form kind t w b x s other ut ub ux parts p suffix holds =
           (holds (subst IsUtf8 same ub) ∙ sym same),
     )
 
--- If a string's body is plain, its parts show that the text is plain.
+-- If the body of a string literal is plain, the text is a literal whose body is its value byte for byte (`IsPlain`).
 pub plain_parts : (form : QuotedForm) (kind : Kind) (t w b x : List ℕ) → is_string kind ≡ true
     → is_plain_body form kind (chars b) ≡ true → IsUtf8 t → IsUtf8 b → IsUtf8 x
     → PartsAre form kind (chars t) w (chars b) (chars x) → IsPlain kind t
@@ -212,7 +212,8 @@ not_false : (z : Bool) → (z ≡ false → ⊥) → z ≡ true
 not_false true n = refl
 not_false false n = absurd (n refl)
 
--- If a string literal's body is its value (`IsPlain`), the body of the given parts is plain.
+-- If the body of a string literal is its value byte for byte (`IsPlain`), each split of the text into parts has the literal's
+-- kind, and a body that passes the test `is_plain_body`.
 pub parts_plain : (form : QuotedForm) (kind k : Kind) (t w b x : List ℕ) → is_string k ≡ true → IsUtf8 t → IsUtf8 b
     → IsUtf8 x → PartsAre form kind (chars t) w (chars b) (chars x) → IsPlain k t → (kind ≡ k)
     × (is_plain_body form kind (chars b) ≡ true)

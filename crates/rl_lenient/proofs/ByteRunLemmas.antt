@@ -1,4 +1,4 @@
--- Sequences of ASCII at the start of a text, which byte strings contain.
+-- The leading bytes of a text that pass a test are the bytes of its leading characters that pass the test.
 use Rattle.rl_syntax.proofs.Common.{◌≡◌, ◌+◌, ◌<◌, ◌≤◌, ◌⊎◌, inl, inr, ℕ, suc, ◌&&◌, Bool, true, false, cond, eqb, List, [], ◌∷◌, ◌++◌, length, nat_lt, refl, sym, ap, ◌∙◌, arith, and_parts, ltb-true, ne_eqb, nat_tests, encodes-chars, list_all, prefix_len, IsUtf8}
 use Rattle.rl_lenient.proofs.Names.{Kind, Str, ByteStr, CStr, Marks, is_plain, is_string, is_ascii_other, is_other}
 use Rattle.std.specs.Char.{is_ascii}
@@ -11,11 +11,11 @@ use Rattle.std.proofs.Math.Bool.{and-true}
 
 -- ---- sequences of bytes that pass a test, as characters
 
--- If a test passes all non-ASCII bytes, the leading bytes that pass it are the leading characters that pass it.
+-- If a test passes all non-ASCII bytes, the leading bytes of a text that pass it are the leading characters that pass it.
 high_cut : (q : ℕ → Bool) → PassesHigh q → (bs : List ℕ) → IsUtf8 bs → RunCut q bs
 high_cut q high bs u = record { boundary = run_boundary q high bs; cut = run_cut q high bs u; plain = run_plain q high bs u; stops = run_stop q high bs u; behind = run_tail q high bs u }
 
--- A character that is ASCII and isn't a delimiter is ASCII.
+-- Only ASCII characters pass the test `is_ascii_other` (an ASCII character that isn't one of the delimiters).
 other_low : (m : Marks) → PassesLow (is_ascii_other m)
 other_low m c h = ltb-true c 128 (and_parts (nat_lt c 128) (is_other m c) h).0
 
@@ -26,7 +26,8 @@ other_cut m bs u = low_cut (is_ascii_other m) (other_low m) bs u
 plain_low : PassesLow (is_plain ByteStr)
 plain_low c h = ltb-true c 128 (and_parts (nat_lt c 128) (is_plain Str c) h).0
 
--- The leading bytes that a string of the kind may contain unescaped are the leading characters that it may contain unescaped.
+-- The leading bytes of a text that a string may contain unescaped are the leading characters that the string may contain
+-- unescaped.
 pub plain_cut : (kind : Kind) (bs : List ℕ) → is_string kind ≡ true → IsUtf8 bs → RunCut (is_plain kind) bs
 plain_cut Str bs h u = high_cut (is_plain Str) (plain_high Str refl (λ e. absurd (cc))) bs u
 plain_cut ByteStr bs h u = low_cut (is_plain ByteStr) plain_low bs u
@@ -35,14 +36,14 @@ plain_cut kind bs h u = absurd (cc)
 
 -- ---- texts of only ASCII
 
--- The test of equal numbers is unchanged if 1 is added to both.
+-- Two numbers are equal exactly if they are equal after 1 is added to each of them.
 next_same : (a b : ℕ) → eqb a b ≡ eqb (1 + a) (suc b)
 next_same a b = grind (arith, nat_tests)
 
 none_same : (b : ℕ) → false ≡ eqb 0 (suc b)
 none_same b = sym (ne_eqb 0 (suc b) (λ e. omega arith))
 
--- All bytes pass the test exactly if the sequence of passing bytes is as long as the text.
+-- All bytes of a text pass a test exactly if the leading sequence of bytes that pass the test is as long as the text.
 run_is_all : (q : ℕ → Bool) (bs : List ℕ) → list_all q bs ≡ eqb (prefix_len q bs) (length bs)
 run_is_all q [] = refl
 run_is_all q (b ∷ bs) = go (q b) (run_is_all q bs)
@@ -70,7 +71,7 @@ all_bytes (c ∷ cs) = go (all_bytes cs) (cases128 c)
         ∙ ap (λ z. z && list_all is_ascii (bs ++ encode_utf8_all cs)) (high_fails b is)
         ∙ sym (ap (λ z. z && list_all is_ascii cs) (high_fails c past))
 
--- With delimiters that are all 255, the test is that of an ASCII character.
+-- If all four delimiters are the byte 255, the test `is_ascii_other` passes exactly the ASCII characters.
 no_mark : (m : Marks) → m ≡ record { first = 255; second = 255; third = 255; fourth = 255 } → (c : ℕ)
     → is_ascii_other m c ≡ is_ascii c
 no_mark m e c = ap (λ n. is_ascii_other n c) e ∙ go (cases128 c)

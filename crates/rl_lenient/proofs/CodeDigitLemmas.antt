@@ -1,18 +1,19 @@
--- The digits of an escape `\u{..}`, parsed one at a time.
+-- The digits of an escape `\u{..}`, which the code parses one at a time.
 use Rattle.rl_syntax.proofs.Common.{◌≡◌, ℕ, ◌+◌, ◌*◌, ◌≤◌, ◌<◌, ◌&&◌, Bool, true, false, cond, eqb, ltb, List, [], ◌∷◌, Option, Some, None, refl, sym, ap, subst, inl, inr, arith, option_and_then, digit_value, scalar, both_ways, cases_Bool, eq-eqb, eqb-true, lt-ltb, ltb-true, ltb-false, ne_eqb}
 use Rattle.rl_lenient.proofs.Names.{Kind, allows_code, allows_unicode_escapes, is_hex_digit}
 use Rattle.rl_lenient.specs.Mirrors.UnitAt.{◌>>=◌, brace_at, closed_at, code_digits_at, digit_at, first_code_digits_at, number_if, unicode_at}
 
 -- ---- the parse result of an escape `\u{..}`
 
--- The number of an escape `\u{..}` and the text after its closing brace, after n digits that represent the number v.
+-- Returns the number of an escape `\u{..}` and the text after its closing brace. The text follows n digits that represent the
+-- number v.
 unfoldable pub unicode_digits_at : ℕ → ℕ → List ℕ → Option (ℕ × List ℕ)
 unicode_digits_at v n [] = None
 unicode_digits_at v n (c ∷ cs) = cond (eqb c 125) (number_if (scalar v) v cs)
     (cond (eqb c 95) (unicode_digits_at v n cs) (cond (is_hex_digit c && ltb n 6)
     (unicode_digits_at (v * 16 + digit_value c) (n + 1) cs) None))
 
--- A hexadecimal digit differs from each character that isn't one, as the brace and the underscore.
+-- A hexadecimal digit differs from each character that isn't a hexadecimal digit, for example a brace or an underscore.
 pub digit_apart : (c k : ℕ) → is_hex_digit c ≡ true → is_hex_digit k ≡ false → eqb c k ≡ false
 digit_apart c k h n = ne_eqb c k (λ e. both_ways (is_hex_digit k) n (subst (λ x. is_hex_digit x ≡ true) e h))
 
@@ -48,7 +49,7 @@ digits_closed (c ∷ cs) v n last few = elim (cases_Bool (is_hex_digit c)) [
     other true = refl
     other false = refl
 
--- The number of an escape `\u{..}`, and the text after it, from its opening brace on.
+-- Returns the number of an escape `\u{..}`, and the text after the escape. The text begins with the opening brace.
 abbrev pub unicode_by : Kind → List ℕ → Option (ℕ × List ℕ)
 unicode_by kind t = do
   inside ← brace_at t

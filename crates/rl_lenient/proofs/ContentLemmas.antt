@@ -1,6 +1,6 @@
--- The decoders write the value of every parse result.
+-- The code that decodes a quoted literal writes the bytes of the literal's value.
 use Rattle.rl_syntax.proofs.Common.{◌≡◌, ℕ, ◌<◌, ◌||◌, Bool, true, false, not, cond, ltb, List, [], ◌∷◌, ◌++◌, length, Some, refl, sym, ap, subst, ◌∙◌, arith, append-nil, encode_utf8, encode_utf8_all, AllByRecursion, list_all, IsUtf8, scalar, and_from, and_parts, lt-ltb, ltb-true, encodes-append, encodes-chars, length-encode}
-use Rattle.rl_lenient.proofs.Names.{Kind, Str, Char, QuotedUnit, Letter, Plain, CrLf, Named, Hex, Unicode, Continuation, LowerN, LowerR, LowerT, Backslash, Apostrophe, Quote, Zero, letter_value, unit_text, unit_value, hex_value, unicode_value, content_of, holds_characters, is_string, is_single, is_plain, allows_unicode_escapes, IsUnit, texts, values, Characters}
+use Rattle.rl_lenient.proofs.Names.{Kind, Str, Char, QuotedUnit, Letter, Plain, CrLf, Named, Hex, Unicode, Continuation, LowerN, LowerR, LowerT, Backslash, Apostrophe, Quote, Zero, letter_value, unit_text, unit_value, hex_value, unicode_value, content_of, decodes_to_chars, is_string, is_single, is_plain, allows_unicode_escapes, IsUnit, texts, values, Characters}
 use Rattle.std.specs.Char.{len_utf8}
 use Rattle.std.specs.Str.{chars}
 use Rattle.std.proofs.Math.Utf8.{scalars}
@@ -23,16 +23,16 @@ use Rattle.rl_lenient.proofs.FormLemmas.{Formed, formed, parts_formed, formed_on
 -- ---- values as bytes
 
 pub in_bytes_append : (kind : Kind) (v w : List ℕ) → in_bytes kind (v ++ w) ≡ in_bytes kind v ++ in_bytes kind w
-in_bytes_append kind v w = go (holds_characters kind)
+in_bytes_append kind v w = go (decodes_to_chars kind)
   where
     go : (b : Bool) → cond b (encode_utf8_all (v ++ w)) (v ++ w) ≡ cond b (encode_utf8_all v) v
         ++ cond b (encode_utf8_all w) w
     go true = encodes-append v w
     go false = refl
 
--- Characters are their UTF-8 bytes, in literals of every kind.
+-- The value of characters, written as bytes, is their UTF-8 encoding, in literals of every kind.
 pub held_in_bytes : (kind : Kind) (cs : List ℕ) → in_bytes kind (content_of kind cs) ≡ encode_utf8_all cs
-held_in_bytes kind cs = go (holds_characters kind)
+held_in_bytes kind cs = go (decodes_to_chars kind)
   where
     go : (b : Bool) → cond b (encode_utf8_all (cond b cs (encode_utf8_all cs))) (cond b cs (encode_utf8_all cs))
         ≡ encode_utf8_all cs
@@ -44,14 +44,14 @@ pub ascii_byte : (c : ℕ) → c < 128 → encode_utf8_all (c ∷ []) ≡ c ∷ 
 ascii_byte c small = append-nil (encode_utf8 c) ∙ encode_ascii c small
 
 pub byte_in_bytes : (kind : Kind) (n : ℕ) → IsHeldBy kind (Byte n) → in_bytes kind (n ∷ []) ≡ n ∷ []
-byte_in_bytes kind n h = go (holds_characters kind) h
+byte_in_bytes kind n h = go (decodes_to_chars kind) h
   where
     go : (b : Bool) → (not b || ltb n 128) ≡ true → cond b (encode_utf8_all (n ∷ [])) (n ∷ []) ≡ n ∷ []
     go true e = ascii_byte n (ltb-true n 128 e)
     go false e = refl
 
 pub nothing_in_bytes : (kind : Kind) → in_bytes kind [] ≡ []
-nothing_in_bytes kind = go (holds_characters kind)
+nothing_in_bytes kind = go (decodes_to_chars kind)
   where
     go : (b : Bool) → cond b (encode_utf8_all []) [] ≡ []
     go true = refl
@@ -88,7 +88,7 @@ decode_run kind a v b after bytes more run row so_far cut plain text grown = (
 
 -- ---- the bytes of a string's value
 
--- The bytes of a text's value are those of any parse result of the text.
+-- If bytes are those of the value of one parse result of a quoted literal, they are those of every parse result.
 same_bytes : (t : List ℕ) (kind : Kind) (w y bytes : List ℕ) → Formed t kind w y → bytes ≡ in_bytes kind w
     → HoldsBytes t bytes
 same_bytes t kind w y bytes r e k v x s p =
@@ -177,7 +177,7 @@ row_scalars (u ∷ us) each h =
     let parts = scalars_parts (unit_text u) (texts us) h in
     scalars_join (unit_value Str u) (values Str us) (unit_scalars u each.0 parts.0) (row_scalars us each.1 parts.1)
 
--- The value of a body of characters consists of characters.
+-- If a body of a `str` literal consists of Unicode scalar values, the literal's value does too.
 body_scalars : (form : QuotedForm) (t w body x : List ℕ) → PartsAre form Str t w body x → scalars body ≡ true
     → scalars w ≡ true
 body_scalars CookedForm t w body x p h = ap scalars p.0.value_is
@@ -185,7 +185,7 @@ body_scalars CookedForm t w body x p h = ap scalars p.0.value_is
 body_scalars RawForm t w body x p h = ap scalars (p.0.value_is ∙ sym p.1) ∙ h
 body_scalars SingleForm t w body x p h = let single : false ≡ true = p.0.single in absurd (cc)
 
--- The bytes of a string's value are UTF-8, and their characters are the value.
+-- The bytes of a `str` literal's value are UTF-8, and their characters are the value.
 pub str_bytes : (form : QuotedForm) (t w body x bytes : List ℕ) → PartsAre form Str t w (chars body) x → IsUtf8 body
     → HoldsBytes t bytes → IsUtf8 bytes × (w ≡ chars bytes)
 str_bytes form t w body x bytes parts u held_are =

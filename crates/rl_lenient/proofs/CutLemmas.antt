@@ -1,4 +1,4 @@
--- From the facts of std about bytes to facts about characters.
+-- Facts about characters of a text, derived from facts about its bytes.
 use Rattle.rl_syntax.proofs.Common.{◌≡◌, ◌≢◌, ℕ, ◌+◌, ◌<◌, ◌≤◌, ◌&&◌, ◌||◌, Bool, true, false, not, eqb, List, [], ◌∷◌, ◌++◌, length, take, drop, Option, Some, None, refl, sym, ap, subst, ◌∙◌, arith, ◌==◌, encode_utf8_all, list_all, IsUtf8, IsCharBoundary, and_from, both_ways, eqb-true, not_from_false, list_all-append, encodes-chars, encodes-append, chars-append, chars-nil, IsUtf8-take, IsUtf8-drop}
 use Rattle.rl_syntax.proofs.LowBytes.{AllHigh, cases128, encode_is_high, low_front, not_equal}
 use Rattle.std.proofs.Common.{inl, inr, ◌⊎◌}
@@ -14,7 +14,7 @@ use Rattle.std.proofs.lemmas.Str.Pattern.{drop_at_char}
 use denote.Ref.{Bor}
 use Rattle.rl_lenient.specs.Mirrors.PlainAt.{is_some_text}
 
--- If a text ends with some characters, it ends with their bytes.
+-- If the characters of a text end with those of a second text, the text ends with the second text.
 pub tail_chars : (bs ys front : List ℕ) → IsUtf8 bs → IsUtf8 ys → chars bs ≡ front ++ chars ys → IsTail bs ys
 tail_chars bs ys front u w e = record {
   front = encode_utf8_all front;

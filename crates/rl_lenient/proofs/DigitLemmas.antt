@@ -1,4 +1,4 @@
--- The digits of numbers.
+-- The digits of integer and float literals, as decoded values.
 use Rattle.rl_syntax.proofs.Common.{◌≡◌, ℕ, suc, zero, ◌<◌, ◌≤◌, ◌^◌, List, [], ◌∷◌, ◌++◌, sym, ap, ◌∙◌, arith, encodes-append, IsAscii, encode_utf8_all}
 use Rattle.rl_lenient.proofs.Names.{decimal, Sign, NoSign, Minus, sign_text, IntReads, limit, float_digits, FloatReads, Contents, Digits}
 use Rattle.std.proofs.lemmas.Str.{chars-IsAscii}
@@ -12,11 +12,12 @@ use Rattle.rl_lenient.specs.NumberShapes.{HasMagnitude}
 use Rattle.rl_lenient.proofs.IntegerLemmas.{int_past, sign_of_some}
 use Rattle.rl_syntax.proofs.OneNumber.{int_once, float_once}
 
--- The digits of two joined texts of floats are those of each, joined.
+-- The digits of a float's text that consists of two parts are the digits of the first part, and then those of the second part.
 pub float_digits-append : (xs ys : List ℕ) → float_digits (xs ++ ys) ≡ float_digits xs ++ float_digits ys
 float_digits-append xs ys = simp (filter-append, map-append)
 
--- If the digits of one more character are appended to the digits of a float's text, they are the digits of the longer text.
+-- If the digits of one more character are appended to the digits of a float's text, they are the digits of the text with this
+-- character.
 pub plain_more : (a b xs : List ℕ) (c : ℕ) → a ≡ encode_utf8_all (float_digits xs) → b ≡ a
     ++ encode_utf8_all (float_digits (c ∷ [])) → b ≡ encode_utf8_all (float_digits (xs ++ (c ∷ [])))
 plain_more a b xs c e h =
@@ -24,23 +25,23 @@ plain_more a b xs c e h =
     ∙ sym (ap encode_utf8_all (float_digits-append xs (c ∷ []))
     ∙ encodes-append (float_digits xs) (float_digits (c ∷ [])))
 
--- A float literal has one text before its suffix, so it has one sequence of digits.
+-- A float literal has only one text before its suffix, so it has only one sequence of digits.
 pub same_numeral : (t b y ds n x : List ℕ) → FloatReads t b y → ds ≡ float_digits b → FloatReads t n x → ds
     ≡ float_digits n
 same_numeral t b y ds n x f e g = e ∙ ap float_digits (float_once t b n y x f g).0
 
--- The sign of an integer literal is that of its first character.
+-- An integer literal has the sign that its first character has.
 pub int_sign : (t : List ℕ) (s : Sign) (m : ℕ) (x : List ℕ) → IntReads t s m x → sign_at t ≡ s
 unfolding int_at
 int_sign t s m x r =
     let k = sign_of_some (sign_at t) _ (s, m, x) (int_past t s m x r) in
     ap (λ p. p.0) k.2
 
--- A number within 128 bits has at most as many digits as std writes, 64.
+-- A number within 128 bits has at most 64 decimal digits, the most digits that std writes.
 limit_fits : (m : ℕ) → m ≤ limit → m < 10 ^ 64
 limit_fits m h = omega arith
 
--- A sign and decimal digits are ASCII.
+-- The written form of an integer, a sign and decimal digits, is ASCII.
 ascii_signed : (s : Sign) (m : ℕ) → m ≤ limit → chars (sign_text s ++ decimal m) ≡ sign_text s ++ decimal m
 ascii_signed NoSign m h = chars-IsAscii (decimal m) (IsAscii-decimal_wide m (limit_fits m h))
 ascii_signed Minus m h = chars-IsAscii (45 ∷ decimal m) (minus_ascii (decimal m)
@@ -50,7 +51,7 @@ ascii_signed Minus m h = chars-IsAscii (45 ∷ decimal m) (minus_ascii (decimal 
     minus_ascii ds a zero = omega arith
     minus_ascii ds a (suc i) = a i
 
--- The sign and the number in base ten are the value of every parse result of the text as an integer.
+-- A sign and the decimal digits of the magnitude are the value of every parse result of a text as an integer.
 pub int_contents : (t y : List ℕ) (m : ℕ) (bs : List ℕ) → HasMagnitude t m y → bs ≡ sign_text (sign_at t) ++ decimal m
     → (c : Contents) (x : List ℕ) → ReadsInt t c x → c ≡ Digits (chars bs)
 int_contents t y m bs w e c x r =
@@ -60,7 +61,7 @@ int_contents t y m bs w e c x r =
     ∙ ap (λ k. sign_text r.sign ++ decimal k) o.1 in
     r.contents_is ∙ ap Digits (sym (ap chars f ∙ ascii_signed r.sign r.magnitude r.within))
 
--- Sign and digits that are appended one after another are the sign and the digits.
+-- If a sign is appended to an empty buffer, and then decimal digits, the buffer contains the sign and the digits.
 pub signed_bytes : (a b d : List ℕ) (s : Sign) (m : ℕ) → a ≡ [] → b ≡ a ++ sign_text s → d ≡ b ++ decimal m → d
     ≡ sign_text s ++ decimal m
 signed_bytes a b d s m e f h = h ∙ ap (λ z. z ++ decimal m) (f ∙ ap (λ z. z ++ sign_text s) e)

@@ -5,11 +5,11 @@ use Rattle.std.proofs.Math.Nat.{mul-le-mul_left}
 use native.Mathlib.Numerals.{unary_clauses}
 use Rattle.rl_lenient.specs.Mirrors.NumberAt.{run, has_value, capped, append_digit, run_from, digit_run_at, has_digit_at, magnitude_at, after_digits}
 
--- A number within 128 bits is kept.
+-- For a number within 128 bits, `capped` returns the number.
 pub capped_within : (n : ℕ) → n ≤ limit → capped n ≡ Some n
 capped_within n h = grind (arith, nat_tests)
 
--- A number above 128 bits becomes `None`.
+-- For a number above 128 bits, `capped` returns `None`.
 pub capped_past : (n : ℕ) → limit < n → capped n ≡ None
 capped_past n h = grind (arith, nat_tests)
 
@@ -17,27 +17,29 @@ capped_past n h = grind (arith, nat_tests)
 mul_grows : (v r d : ℕ) → limit < v → 1 ≤ r → limit < v * r + d
 mul_grows v r d h k = omega (arith, mul-le-mul_left v k)
 
--- A number is at most the limit, or above it.
+-- A number is at most a second number, or above it.
 pub within_or_past : (n m : ℕ) → (n ≤ m) ⊎ (m < n)
 within_or_past n m = grind arith
 
--- Limiting a number to 128 bits before one more digit is appended, or after that, gives equal results.
+-- The magnitude of a number to which a digit is appended is the same, whether it is limited to 128 bits before the digit is
+-- appended or after that.
 pub append_capped : (r v d : ℕ) → 1 ≤ r → append_digit r (capped v) d ≡ capped (v * r + d)
 append_capped r v d h = elim (within_or_past v limit) [
   | inl k ↦ ap (λ o. append_digit r o d) (capped_within v k)
   | inr k ↦ ap (λ o. append_digit r o d) (capped_past v k) ∙ sym (capped_past (v * r + d) (mul_grows v r d k h))
 ]
 
--- The number that digits represent with one more digit before them, multiplied out.
+-- Arithmetic: the product `(v * r + d) * q` is multiplied out.
 place_with : (v r d q p : ℕ) → (v * r + d) * q + p ≡ v * (q * r) + (d * q + p)
 place_with v r d q p = omega arith
 
--- The number that digits represent with one more digit before them, by a power of the base.
+-- Arithmetic: if digits with the value v precede the digit d, and n digits with the value p follow it, the number is the same,
+-- whether d is counted with the digits before it or with those after it.
 place_step : (v r d n p : ℕ) → (v * r + d) * r ^ n + p ≡ v * r ^ suc n + (d * r ^ n + p)
 place_step v r d n p = place_with v r d (r ^ n) p ∙ ap (λ q. v * q + (d * r ^ n + p)) (sym (pow-suc r n))
 
--- The parse result of a sequence of digits and underscores, after digits with the value v. The sequence `ds` and then
--- the text x follow.
+-- The parse result of the digits and underscores `ds` in a base: whether there is a digit, the magnitude within 128 bits, and the
+-- text x that follows. Digits with the value v precede `ds`.
 abbrev At : ℕ → Bool → ℕ → List ℕ → List ℕ → Bool × Option ℕ × List ℕ
 At r some v ds x = (
   some || list_any (has_value r) ds,
@@ -56,15 +58,15 @@ or_true : (a b : Bool) → (a || (true || b)) ≡ true
 or_true true b = refl
 or_true false b = refl
 
--- A number without further digits is unchanged.
+-- A number to which no digits are appended is unchanged.
 times_one : (v r : ℕ) → v ≡ v * r ^ 0 + 0
 times_one v r = simp unary_clauses (omega arith)
 
--- The parse result of a sequence of digits and underscores, at its end.
+-- If no further digits or underscores follow, the parse result of digits is that of the digits so far.
 at_end : (r : ℕ) (some : Bool) (v : ℕ) (x : List ℕ) → (some, capped v, x) ≡ At r some v [] x
 at_end r some v x = ap (λ b. (b, capped v, x)) (or_false some) ∙ ap (λ n. (some || false, capped n, x)) (times_one v r)
 
--- The parse result of a sequence of digits is unchanged by an underscore.
+-- An underscore doesn't change the parse result of the digits and underscores that it precedes.
 at_mark : (r : ℕ) (some : Bool) (v : ℕ) (ds x : List ℕ) → r ≤ 36 → At r some v (95 ∷ ds) x ≡ At r some v ds x
 at_mark r some v ds x h =
     let e : nat_lt 36 r ≡ false = grind (arith, nat_tests) in
@@ -92,25 +94,26 @@ at_digit r some v c ds x n d =
     )) (sym d)
     ∙ ap (λ u. (some || list_any (has_value r) (c ∷ ds), capped (v * r ^ length u + place_value r u), x)) (sym kept)
 
--- A sequence of characters that pass the test continues with one that passes.
+-- If the first character of a text passes a test, the leading characters that pass the test are it and those of the rest of the
+-- text.
 pub run_yes : (test : ℕ → Bool) (c : ℕ) (cs : List ℕ) → test c ≡ true → (run test (c ∷ cs) ≡ c ∷ run test cs)
     × (after_run test (c ∷ cs) ≡ after_run test cs)
 unfolding run
 run_yes test c cs h = (ap (λ b. cond b (c ∷ run test cs) []) h, ap (λ b. cond b (after_run test cs) (c ∷ cs)) h)
 
--- A sequence of characters that pass the test ends before one that fails.
+-- If the first character of a text fails a test, no leading character passes the test, and the whole text is left.
 pub run_no : (test : ℕ → Bool) (c : ℕ) (cs : List ℕ) → test c ≡ false → (run test (c ∷ cs) ≡ [])
     × (after_run test (c ∷ cs) ≡ c ∷ cs)
 unfolding run
 run_no test c cs h = (ap (λ b. cond b (c ∷ run test cs) []) h, ap (λ b. cond b (after_run test cs) (c ∷ cs)) h)
 
--- A parse result `At` doesn't change if the sequence and the text after it are replaced by equal texts: those that `digit_run_at`
--- and `after_digits` return.
+-- The parse result `At` of digits and the text after them is unchanged if they are replaced by equal texts, those that
+-- `digit_run_at` and `after_digits` return.
 at_parts : (r : ℕ) (some : Bool) (v : ℕ) (t ds x : List ℕ) → digit_run_at r t ≡ ds → after_digits r t ≡ x
     → At r some v ds x ≡ At r some v (digit_run_at r t) (after_digits r t)
 at_parts r some v t ds x d a = ap (λ u. At r some v u x) (sym d) ∙ ap (λ y. At r some v (digit_run_at r t) y) (sym a)
 
--- An underscore belongs to each sequence of digits.
+-- An underscore belongs to a sequence of digits in each base.
 part_mark : (r c : ℕ) → (c == 95) ≡ true → is_run_part (has_value r) c ≡ true
 part_mark r c h = go (has_value r c)
   where
@@ -118,15 +121,15 @@ part_mark r c h = go (has_value r c)
     go true = refl
     go false = h
 
--- A digit of the base belongs to the sequence.
+-- A digit of a base belongs to a sequence of digits in this base.
 part_digit : (r c : ℕ) → nat_lt (digit_value c) r ≡ true → is_run_part (has_value r) c ≡ true
 part_digit r c h = ap (λ b. b || (c == 95)) h
 
--- A character that is neither an underscore nor a digit of the base doesn't belong to the sequence.
+-- A character that is neither an underscore nor a digit of a base doesn't belong to a sequence of digits in this base.
 part_none : (r c : ℕ) → (c == 95) ≡ false → nat_lt (digit_value c) r ≡ false → is_run_part (has_value r) c ≡ false
 part_none r c n h = ap (λ b. b || (c == 95)) h ∙ n
 
--- Parsing the characters one by one gives the result for the sequence at the start of the text.
+-- Parsing digits and underscores one by one gives the parse result of all the digits and underscores at the start of the text.
 pub row_is : (r : ℕ) (some : Bool) (v : ℕ) (t : List ℕ) → 1 ≤ r → r ≤ 36 → run_from r some (capped v) t
     ≡ At r some v (digit_run_at r t) (after_digits r t)
 unfolding run_from run
@@ -157,14 +160,15 @@ row_is r some v (c ∷ cs) h k = go (λ s w. row_is r s w cs h k) (c == 95) (nat
 zero_times : (q p : ℕ) → 0 * q + p ≡ p
 zero_times q p = omega arith
 
--- The parse result of the digits and underscores at the start of a text: whether there is a digit, the magnitude within 128 bits,
--- and the text after them.
+-- Parsing the digits and underscores at the start of a text returns whether there is a digit, the magnitude within 128 bits, and
+-- the text after them.
 pub row_start : (r : ℕ) (t : List ℕ) → 1 ≤ r → r ≤ 36 → run_from r false (Some 0) t
     ≡ (has_digit_at r t, capped (magnitude_at r t), after_digits r t)
 row_start r t h k = row_is r false 0 t h k ∙ ap (λ n. (has_digit_at r t, capped n, after_digits r t))
     (zero_times (r ^ length (without_underscores (digit_run_at r t))) (magnitude_at r t))
 
--- The length of a sequence of digits doesn't depend on the number that the digits before it represent.
+-- If no magnitude is computed while digits are parsed, the other results are unchanged: whether there is a digit, and the text
+-- after the digits.
 row_without : (r : ℕ) (some : Bool) (m : Option ℕ) (t : List ℕ) → run_from r some None t
     ≡ ((run_from r some m t).0, None, (run_from r some m t).2)
 unfolding run_from
@@ -190,13 +194,13 @@ row_without r some m (c ∷ cs) = go (c == 95) (nat_lt (digit_value c) r) (row_w
     go false true marked digit = digit
     go false false marked digit = refl
 
--- If no magnitude is computed, the parse result of the digits and underscores at the start of a text is whether there is a digit,
--- and the text after them.
+-- If no magnitude is computed, parsing the digits and underscores at the start of a text returns whether there is a digit, and
+-- the text after them.
 pub row_skipped : (r : ℕ) (t : List ℕ) → 1 ≤ r → r ≤ 36 → run_from r false None t
     ≡ (has_digit_at r t, None, after_digits r t)
 row_skipped r t h k = row_without r false (Some 0) t ∙ ap (λ p. (p.0, None, p.2)) (row_start r t h k)
 
--- One iteration of the loop at a digit doesn't change the parse result.
+-- If the code parses one digit and then the rest of the text, it gets the parse result of the text that begins with the digit.
 pub row_digit : (r : ℕ) (some : Bool) (m n : Option ℕ) (t : List ℕ) (c : ℕ) (cs : List ℕ) (d : ℕ) → t ≡ c ∷ cs → c ≢ 95
     → digit_value c < r → d ≡ digit_value c → n ≡ append_digit r m d → run_from r true n cs ≡ run_from r some m t
 unfolding run_from

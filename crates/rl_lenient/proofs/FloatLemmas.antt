@@ -10,7 +10,7 @@ use Rattle.rl_lenient.proofs.RunLemmas.{run_all, run_ends, run_join, run_past, s
 use Rattle.rl_lenient.proofs.IntegerLemmas.{minus_past, chosen_some, sign_join}
 use Rattle.rl_lenient.proofs.TestLemmas.{passes_more}
 
--- The letter of an exponent isn't a dot.
+-- The letter of an exponent, `e` or `E`, isn't a dot.
 pub letter_no_dot : (c : ℕ) → is_exponent_letter c ≡ true → (c == 46) ≡ false
 letter_no_dot c h = go (c == 101) refl
   where
@@ -18,7 +18,7 @@ letter_no_dot c h = go (c == 101) refl
     go true e = ap (λ z. z == 46) (eqb-true c 101 e)
     go false e = ap (λ z. z == 46) (eqb-true c 69 (sym (ap (λ b. b || (c == 69)) e) ∙ h))
 
--- After characters that pass the test, the remaining sequence is that of the text after them.
+-- If all characters of `row` pass a test, `after_run` skips them: for `row ++ t` it returns what it returns for `t`.
 pub run_off : (test : ℕ → Bool) (row t : List ℕ) → list_all test row ≡ true → after_run test (row ++ t)
     ≡ after_run test t
 run_off test [] t h = refl
@@ -26,19 +26,19 @@ run_off test (c ∷ row) t h =
     let b = and_parts (test c) (list_all test row) h in
     (run_yes test c (row ++ t) b.0).1 ∙ run_off test row t b.1
 
--- A sequence of digits doesn't continue into an exponent or a suffix.
+-- The text of a float's exponent and suffix doesn't begin with a digit or an underscore.
 exponent_stops : (e : Exponent) (x : List ℕ) → is_suffix x ≡ true → IsExponent e x
     → first_passes (is_run_part (has_value 10)) (exponent_text e ++ x) ≡ false
 exponent_stops NoExponent x h k = suffix_no_part x (suffix_sound x h)
 exponent_stops (Power letter us sg row) x h k = letter_no_part letter k.0
 
--- A sequence of digits doesn't continue into a fraction.
+-- If a text doesn't begin with a digit or an underscore, neither does a fraction that is followed by the text.
 pub fraction_stops : (f : Fraction) (z : List ℕ) → first_passes (is_run_part (has_value 10)) z ≡ false
     → first_passes (is_run_part (has_value 10)) (fraction_text f ++ z) ≡ false
 fraction_stops NoFraction z h = h
 fraction_stops (Dot row) z h = refl
 
--- An exponent or a suffix doesn't begin with a dot.
+-- The text of a float's exponent and suffix doesn't begin with a dot.
 no_dot : (e : Exponent) (x : List ℕ) → is_suffix x ≡ true → IsExponent e x
     → first_passes (λ c. c == 46) (exponent_text e ++ x) ≡ false
 no_dot NoExponent [] h k = refl
@@ -47,23 +47,23 @@ no_dot NoExponent (c ∷ cs) h k =
     not-true (c == 46) (and_parts (not (c == 46)) (list_all (λ c. not (c == 46)) cs) w).0
 no_dot (Power letter us sg row) x h k = letter_no_dot letter k.0
 
--- If the text doesn't begin with a dot, `after_fraction` returns the text itself.
+-- If a text doesn't begin with a dot, `after_fraction` returns the text itself.
 no_fraction : (z : List ℕ) → first_passes (λ c. c == 46) z ≡ false → after_fraction z ≡ z
 no_fraction [] h = refl
 no_fraction (c ∷ cs) h = ap (λ b. cond b (after_digits 10 cs) (c ∷ cs)) h
 
--- `after_fraction` returns the text after a whole fraction.
+-- If a text begins with the fraction of a float, `after_fraction` returns the text after the whole fraction.
 fraction_past : (f : Fraction) (z : List ℕ) → IsFraction f → first_passes (is_run_part (has_value 10)) z ≡ false
     → first_passes (λ c. c == 46) z ≡ false → after_fraction (fraction_text f ++ z) ≡ z
 fraction_past NoFraction z k h d = no_fraction z d
 fraction_past (Dot row) z k h d = (run_past (is_run_part (has_value 10)) row z k h).1
 
--- A character of a sequence of digits that isn't an underscore is a digit.
+-- If one of two conditions holds, and the second doesn't, the first does.
 digit_part : (a b : Bool) → (a || b) ≡ true → b ≡ false → a ≡ true
 digit_part true b p q = refl
 digit_part false b p q = absurd (cc)
 
--- The digits of a sequence after its leading underscores.
+-- The digits and underscores `row` contain a digit. Without the leading underscores they begin with a digit.
 record Trimmed (row x : List ℕ) : Type 0 where
   more : List ℕ
   is : after_run is_underscore (row ++ x) ≡ more ++ x
@@ -71,7 +71,7 @@ record Trimmed (row x : List ℕ) : Type 0 where
   some : list_any (has_value 10) more ≡ true
   first : first_passes is_ascii_digit more ≡ true
 
--- After its leading underscores, a sequence with a digit begins with a digit.
+-- After its leading underscores, a sequence of digits and underscores that has a digit begins with a digit.
 trimmed : (row x : List ℕ) → list_all (is_run_part (has_value 10)) row ≡ true → list_any (has_value 10) row ≡ true
     → Trimmed row x
 trimmed [] x h k = absurd (cc)
@@ -101,7 +101,8 @@ digit_no_sign (c ∷ cs) h =
     let e : (c == 43 || c == 45) ≡ false = grind (arith, nat_tests) in
     ap (λ b. cond b cs (c ∷ cs)) e
 
--- The digits of an exponent after its letter, underscores and sign.
+-- The digits of an exponent, which `power_at` returns with the text x after them. The exponent's underscores and sign are
+-- skipped.
 record Powered (t x : List ℕ) : Type 0 where
   more : List ℕ
   is : power_at t ≡ more ++ x
@@ -156,7 +157,7 @@ all_continue_run (c ∷ cs) h = go (all_continue_run cs (and_parts (is_xid_conti
     go ih true = ih
     go ih false = h
 
--- An identifier contains no sign.
+-- An identifier contains neither `+` nor `-`.
 no_sign : (t : List ℕ) → list_all is_xid_continue t ≡ true → after_power_sign t ≡ t
 no_sign [] h = refl
 no_sign (c ∷ cs) h =
@@ -165,7 +166,8 @@ no_sign (c ∷ cs) h =
     ∙ continue_not 45 c (omega arith) refl b.0 in
     ap (λ z. cond z cs (c ∷ cs)) e
 
--- A sequence with a digit that doesn't begin with an underscore begins with a digit.
+-- If digits and underscores that contain a digit begin a text, and the text doesn't begin with an underscore, it begins with a
+-- digit.
 first_digit : (t : List ℕ) → first_passes is_underscore t ≡ false → has_digit_at 10 t ≡ true → (d : ℕ) × (rest : List ℕ)
     × (is_ascii_digit d ≡ true) × (t ≡ d ∷ rest)
 unfolding run
@@ -208,7 +210,7 @@ no_exponent (c ∷ cs) h k =
     (false_from_ne_true (is_exponent_letter c && has_digit_at 10 (power_at cs))
     (λ e. let b = and_parts (is_exponent_letter c) _ e in k (suffix_begins c cs h b.0 b.1)))
 
--- The text of an exponent, with a text after it, is the exponent's parts and that text, joined from the right.
+-- The text of an exponent that is followed by a text x is the exponent's letter, underscores, sign and digits, and then x.
 power_text : (letter : ℕ) (us sg row x : List ℕ) → exponent_text (Power letter us sg row) ++ x
     ≡ letter ∷ (us ++ (sg ++ (row ++ x)))
 power_text letter us sg row x = ap (λ z. letter ∷ z) (append_assoc us (sg ++ row) x
@@ -223,7 +225,7 @@ exponent_past (Power letter us sg row) x h (l, a, b, each, some) =
     ∙ power_past letter (us ++ (sg ++ (row ++ x))) x l (suffix_no_part x (suffix_sound x h))
     (powered us sg row x a b each (sym (any_same is_ascii_digit (has_value 10) digit_is_ten row) ∙ some))
 
--- The parts of a float, joined in the order of the definition, are the same text as those joined from the right.
+-- The text of a float's parts is the same, whether the parts are joined from the left or from the right.
 float_text : (s w f e x : List ℕ) → (s ++ (w ++ (f ++ e))) ++ x ≡ s ++ (w ++ (f ++ (e ++ x)))
 float_text s w f e x = simp append_assoc
 
@@ -250,13 +252,13 @@ float_past t n x h =
     ∙ ap (λ k. cond (first_passes is_ascii_digit u && is_suffix k) (Some k) None) rest
     ∙ ap (λ b. cond b (Some x) None) (and_from (first_passes is_ascii_digit u) (is_suffix x) first ok)
 
--- The fraction that `after_fraction` skips at the start of a text.
+-- The text `y` is a fraction, perhaps an empty one, and the text that `after_fraction` returns.
 record Fractioned (y : List ℕ) : Type 0 where
   fraction : Fraction
   is : IsFraction fraction
   text_is : y ≡ fraction_text fraction ++ after_fraction y
 
--- The text that `after_fraction` skips is a fraction, perhaps an empty one.
+-- For each text, the part that `after_fraction` skips is a fraction, perhaps an empty one.
 fraction_sound : (y : List ℕ) → Fractioned y
 fraction_sound [] = record { fraction = NoFraction; is = tt; text_is = refl }
 fraction_sound (c ∷ cs) = go (c == 46) refl
@@ -270,12 +272,12 @@ fraction_sound (c ∷ cs) = go (c == 46) refl
     }
     go false e = record { fraction = NoFraction; is = tt; text_is = sym (ap (λ b. cond b (after_digits 10 cs) (c ∷ cs)) e) }
 
--- The sign of an exponent, or an empty text.
+-- Returns the sign at the start of the digits of an exponent, or an empty text.
 abbrev power_sign : List ℕ → List ℕ
 power_sign [] = []
 power_sign (c ∷ cs) = cond (c == 43 || c == 45) (c ∷ []) []
 
--- A text is its sign, perhaps an empty one, and the text after the sign.
+-- A text is the sign at its start, perhaps an empty one, and the text after the sign.
 sign_splits : (v : List ℕ) → (v ≡ power_sign v ++ after_power_sign v) × (is_power_sign (power_sign v) ≡ true)
 sign_splits [] = (refl, refl)
 sign_splits (c ∷ cs) = go (c == 43 || c == 45) refl
@@ -303,13 +305,13 @@ begins_true c cs b =
     (ap (has_digit_at 10) p ∙ ap (list_any (has_value 10)) y.0
     ∙ ap (λ z. z || list_any (has_value 10) (run (is_run_part (has_value 10)) b.rest)) d)
 
--- The exponent that `after_exponent` skips at the start of a text, or none.
+-- The text `z` is an exponent, perhaps none, and the text that `after_exponent` returns.
 record Powers (z : List ℕ) : Type 0 where
   exponent : Exponent
   is : IsExponent exponent (after_exponent z)
   text_is : z ≡ exponent_text exponent ++ after_exponent z
 
--- The text that `after_exponent` skips is an exponent, perhaps none.
+-- For each text, the part that `after_exponent` skips is an exponent, perhaps none.
 exponent_sound : (z : List ℕ) → Powers z
 unfolding after_exponent power_at
 exponent_sound [] = record { exponent = NoExponent; is = λ b. let e = b.text_is in absurd (cc); text_is = refl }
@@ -345,7 +347,7 @@ exponent_sound (c ∷ cs) = go (is_exponent_letter c && has_digit_at 10 (power_a
               ∙ ap (λ z. exponent_text (Power c us (power_sign v) row) ++ z) (sym k);
         }
 
--- If a text begins with a digit, so does its sequence of digits.
+-- If a text begins with a digit, so do the digits and underscores at its start.
 pub run_first : (t : List ℕ) → first_passes is_ascii_digit t ≡ true → first_passes is_ascii_digit (digit_run_at 10 t)
     ≡ true
 unfolding run
@@ -354,7 +356,8 @@ run_first (c ∷ cs) h =
     let d : has_value 10 c ≡ true = sym (digit_is_ten c) ∙ h in
     ap (first_passes is_ascii_digit) (run_yes (is_run_part (has_value 10)) c cs (ap (λ z. z || (c == 95)) d)).0 ∙ h
 
--- The consumed parts are a float.
+-- If a text without its sign begins with a digit, and the text after the digits, the fraction and the exponent is a suffix, the
+-- text is a float with this suffix.
 float_built : (t : List ℕ) (x : List ℕ) → first_passes is_ascii_digit (after_minus t) ≡ true → is_suffix x ≡ true
     → after_exponent (after_fraction (after_digits 10 (after_minus t))) ≡ x → (n : List ℕ) × FloatReads t n x
 float_built t x first ok is =

@@ -1,4 +1,4 @@
--- The form and kind that a text's start decides, and the one parse result of a quoted literal.
+-- The start of a text decides the form and the kind of a quoted literal, and a quoted literal has only one parse result.
 use Rattle.rl_syntax.proofs.Common.{◌≡◌, ◌≢◌, ℕ, true, false, eqb, List, [], ◌∷◌, ◌++◌, length, Some, None, refl, sym, ap, subst, ◌∙◌, inl, inr, append_assoc, append-nil, list_all, both_ways, cases_Bool, eqb-true, append_cancel_right}
 use Rattle.rl_lenient.proofs.Names.{append_cancel_left, Kind, Str, ByteStr, CStr, Byte, Char, Int, Float, BoolKind, Cooked, Single, is_string, is_single, is_plain, opener, raw_opener, texts, unit_text, Contents, ReadsQuoted, quoted_contents}
 use Rattle.rl_lenient.specs.declared.quoted_forms.QuotedForm.{QuotedForm}
@@ -14,7 +14,7 @@ use Rattle.rl_lenient.proofs.RawLemmas.{raw_once}
 
 -- ---- the start of a quoted literal
 
--- The text begins like a literal of this form and kind, which can occur together.
+-- The text begins with the opening delimiter of a form and a kind that can occur together, for example a raw byte string.
 pub record Reports (t : List ℕ) (p : QuotedForm × Kind × List ℕ) : Type 0 where
   pub has : has_form p.0 p.1 ≡ true
   pub text_is : t ≡ form_opener p.0 p.1 ++ p.2
@@ -88,7 +88,7 @@ front_complete SingleForm kind r h = absurd (cc)
 
 -- ---- cooked strings
 
--- The characters and escapes of a string up to its closing quote are as many as possible.
+-- The characters and escapes of a string end at the closing quote, and no further one can follow before the quote.
 pub cooked_row : (kind : Kind) (t v x : List ℕ) (c : Cooked kind t v x)
     → BeginsRun kind (texts c.units ++ (34 ∷ x)) v (34 ∷ x)
 cooked_row kind t v x c = record { units = c.units; each = c.each; ends = row_ends_on c.units (34 ∷ x) refl c.ends; text_is = refl; value_is = c.value_is }
@@ -106,7 +106,8 @@ cooked_once kind a v x w y c d =
     (unit_quote kind x c.string) (unit_quote kind y c.string) in
     (same.0, let e = same.1 in cc)
 
--- If characters and escapes follow plain characters, all of them are a sequence of characters and escapes.
+-- If a sequence of characters and escapes follows plain characters, all of them together are a sequence of characters and
+-- escapes.
 pub cooked_units : (kind : Kind) (a run following v rest : List ℕ) → a ≡ run ++ following → list_all (is_plain kind) run
     ≡ true → BeginsRun kind following v rest → (w : List ℕ) × BeginsRun kind a w rest
 cooked_units kind a run following v rest cut plain row =
@@ -189,7 +190,7 @@ parts_read CookedForm kind t v b x p = record { value = v; form = inl p.0; conte
 parts_read RawForm kind t v b x p = record { value = v; form = inr (inl p.0); contents_is = refl }
 parts_read SingleForm kind t v b x p = record { value = v; form = inr (inr p.0); contents_is = refl }
 
--- The text is a quoted literal, with the form and the text after the opening delimiter.
+-- A quoted literal: its form, its body, and the text after its opening delimiter.
 pub record Formed (t : List ℕ) (kind : Kind) (value suffix : List ℕ) : Type 0 where
   pub form : QuotedForm
   pub inside : List ℕ
@@ -213,7 +214,7 @@ formed t k v x r =
       ]
     ]
 
--- The text is a quoted literal of some form, with this value, body and suffix.
+-- The text is a quoted literal of some form. The record has the literal's value, body and suffix.
 pub record HasParts (kind : Kind) (t value body suffix : List ℕ) : Type 0 where
   pub form : QuotedForm
   pub parts : PartsAre form kind t value body suffix
@@ -227,7 +228,7 @@ cooked_has kind t v x c other = record { form = CookedForm; parts = (c, refl); f
 pub single_has : (kind : Kind) (t v x : List ℕ) (s : Single kind t v x) → HasParts kind t v (unit_text s.unit) x
 single_has kind t v x s = record { form = SingleForm; parts = (s, refl); front = refl; single = λ h b. refl }
 
--- The start of a quoted literal decides its form and its kind.
+-- The start of a quoted literal decides its form, its kind, and the text after the opening delimiter.
 formed_front : (t : List ℕ) (k : Kind) (v x : List ℕ) (r : Formed t k v x) → opener_at t
     ≡ found_opener r.form k r.inside
 formed_front t k v x r = ap opener_at r.text_is ∙ front_complete r.form k r.inside r.has
@@ -241,7 +242,8 @@ told_same f g k l a b e =
     let same : p ≡ q = cc in
     (ap (λ z. z.0) same, ap (λ z. z.1) same, ap (λ z. z.2) same)
 
--- The parse result of a text whose start decides the form and the kind.
+-- If the start of a text decides the form and the kind of a quoted literal, its parse result has this kind, and parts of this
+-- form.
 pub record AtFront (form : QuotedForm) (kind : Kind) (inside : List ℕ) (k : Kind) (v x : List ℕ) : Type 0 where
   pub kind_is : kind ≡ k
   pub body : List ℕ

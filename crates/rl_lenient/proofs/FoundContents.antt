@@ -1,4 +1,4 @@
--- The parse result of a text that is parsed as a kind, and its value.
+-- The parse result of a literal has the literal's kind, body and value.
 use Rattle.rl_syntax.proofs.Common.{◌≡◌, ℕ, ◌⊎◌, inl, inr, List, true, refl, sym, ap, subst, ◌∙◌}
 use Rattle.rl_lenient.proofs.Names.{Kind, Str, ByteStr, CStr, Int, Float, is_string, is_single, Contents, HasContents, HasNoReading, ReadsAs}
 use Rattle.std.proofs.lemmas.Bool.{or_left}
@@ -9,7 +9,7 @@ use Rattle.rl_lenient.specs.Bodies.{HasBody}
 use Rattle.rl_lenient.specs.Founds.{IsFound, IsQuotedAt, IsUnitOf, body_in, is_quoted}
 use Rattle.rl_lenient.specs.WholeShapes.{IsPlain}
 
--- The parse result of a text has the kind of the text.
+-- If a text is a literal of a kind, its parse result has this kind.
 pub found_kind : (kind : Kind) (t : List ℕ) (found : Found) → ReadsAs kind (chars t) → IsFound t found → found.kind
     ≡ kind
 found_kind kind t found r f = (one_reading (chars t) found.kind kind f.reads.0 r.0 _ r.1 f.reads.1 r.2).0
@@ -19,7 +19,7 @@ quoted_at : (kind : Kind) (t : List ℕ) (found : Found) → found.kind ≡ kind
 quoted_at kind t found same q f = subst (λ (k : Kind). IsQuotedAt k t found.body) same
     (f.quoted (ap is_quoted same ∙ q))
 
--- The text at the offsets that a string literal's parse result has for the body is the literal's body.
+-- The text at the offsets of the body, in the parse result of a string literal, is the literal's body.
 pub string_body : (kind : Kind) (t body : List ℕ) (found : Found) → body ≡ body_in t found.body → found.kind ≡ kind
     → is_string kind ≡ true → IsFound t found → HasBody kind (chars t) body found.body.plain
 string_body kind t body found is same s f =
@@ -27,7 +27,7 @@ string_body kind t body found is same s f =
     subst (λ z. HasBody kind (chars t) z found.body.plain) (sym is)
     (record { string = s; form = q.form; value = q.value; suffix = _; parts = q.parts; plain_is = q.plain_is })
 
--- The text at the offsets that the parse result of a byte string or C string literal has for the body is the literal's body.
+-- The text at the offsets of the body, in the parse result of a byte string or C string literal, is the literal's body.
 pub bytes_body : (t body : List ℕ) (found : Found) → body ≡ body_in t found.body
     → ((kind : Kind) → ReadsAs kind (chars t) → found.kind ≡ kind) → IsFound t found → ReadsAs ByteStr (chars t)
     ⊎ ReadsAs CStr (chars t) → HasBody found.kind (chars t) body found.body.plain
@@ -47,7 +47,8 @@ pub unit_of : (kind : Kind) (t : List ℕ) (found : Found) → found.kind ≡ ki
 unit_of kind t found same s f = subst (λ (k : Kind). IsUnitOf k (chars t) found.unit) same
     (f.unit (ap is_single same ∙ s))
 
--- A text with a plain body is a literal of the kind. For a float this isn't so, since the text may be an integer.
+-- A text whose body is its value byte for byte (`IsPlain`) is a literal of the kind. Floats are excluded, because the text may be
+-- an integer.
 plain_reads : (kind : Kind) (t : List ℕ) → (kind ≡ Float → ⊥) → IsPlain kind t → ReadsAs kind (chars t)
 plain_reads Str t n p = (_, p.suffix, p.reads)
 plain_reads ByteStr t n p = (_, p.suffix, p.reads)

@@ -1,4 +1,4 @@
--- The parse result of a text, from its parts.
+-- The parse result of a text is computed from the parts of the literal.
 use Rattle.rl_syntax.proofs.Common.{◌≡◌, ℕ, ◌⊎◌, inl, inr, Bool, true, false, List, [], ◌++◌, length, take, drop, refl, sym, ap, ap₂, subst, ◌∙◌, arith, rules, both_ways, append_cancel_right, IsCharBoundary-start, IsUtf8-drop, chars-append, chars-nil, IsUtf8, IsCharBoundary}
 use Rattle.rl_lenient.proofs.Names.{drop-append_seam, Kind, Str, ByteStr, CStr, Byte, Char, Int, Float, BoolKind, IsTail, FloatReads, float_digits, is_string, is_single, Digits, Truth, HasNoInteger, HasSuffix, ReadsAs, ReadsQuoted, quoted_contents, truth_text}
 use Rattle.std.proofs.Common.{◌-◌}
@@ -60,7 +60,7 @@ string_plain kind t body s u q =
           p).1),
     )
 
--- The body of a character or byte literal isn't plain.
+-- The body of a character or byte literal fails the test `is_plain_body`.
 single_form : (form : QuotedForm) (kind : Kind) (t v b x : List ℕ) → is_single kind ≡ true → PartsAre form kind t v b x
     → is_plain_body form kind b ≡ false
 single_form CookedForm kind t v b x s p = absurd (not_both kind p.0.string s)
@@ -94,7 +94,8 @@ Of kind body magnitude = record { kind = kind; body = body; magnitude = magnitud
 abbrev pub OfUnit : Kind → Body → ℕ → Found
 OfUnit kind body n = record { kind = kind; body = body; magnitude = 0; truth = false; unit = n }
 
--- The facts about a text that the parts of a quoted literal give.
+-- The facts about the whole text that the parts of a quoted literal give: its kind, its body and suffix, and whether the body is
+-- the value byte for byte.
 pub record Whole (t : List ℕ) (kind : Kind) (body : Body) : Type 0 where
   pub reads : HasSuffix kind (chars t) (chars (suffix_in t body))
   pub cut : IsSplit kind t (body_in t body) (suffix_in t body)
@@ -132,7 +133,7 @@ pub quoted_found : (t : List ℕ) (kind : Kind) (body : Body) (n : ℕ) (found :
 quoted_found t kind body n found u q h is = quoted_found_of t kind body n found u q (λ s. unit_reads q.form kind
     (chars t) q.value (chars (body_in t body)) (chars (suffix_in t body)) n s q.parts h) h.none is
 
--- The facts about a text, from the parts of the literal and its opening delimiter.
+-- The parse result of a quoted literal (`IsQuotedAt`), from the parts of the literal and its opening delimiter.
 abbrev pub form_at : (form : QuotedForm) (kind : Kind) (t inside v suffix : List ℕ) (body : Body) → opener_at (chars t)
     ≡ found_opener form kind (chars inside) → (parts : PartsAre form kind (form_opener form kind ++ chars inside) v
     (chars (body_in t body)) (chars suffix)) → suffix_in t body ≡ suffix → IsBodyWithin t body → body.plain
@@ -148,7 +149,7 @@ form_at form kind t inside v suffix body front parts suffix_is stands plain lo =
     let placed = subst (At (chars t)) (sym suffix_is) whole in
     record { form = form; value = v; parts = placed.0; plain_is = plain; lo_is = placed.1; stands = stands }
 
--- The parse result of a text has a kind of which the text is a literal.
+-- A text with a parse result is a literal of the kind that the parse result has.
 pub found_reads : (t : List ℕ) (f : Found) → IsFound t f → ReadsAs f.kind (chars t)
 found_reads t f h = (h.reads.0, chars (suffix_in t f.body), h.reads.1)
 
@@ -157,7 +158,7 @@ found_reads t f h = (h.reads.0, chars (suffix_in t f.body), h.reads.1)
 abbrev pub NumberBody : ℕ → Bool → Body
 NumberBody n plain = record { lo = 0; hi = n; suffix_at = n; plain = plain }
 
--- The offsets of the parts of a number.
+-- A text is split at the byte offset n into the body b and the suffix x of a number.
 record Cut (t b x : List ℕ) (n : ℕ) : Type 0 where
   pub body_is : take (n - 0) (drop 0 t) ≡ b
   pub suffix_is : drop n t ≡ x
@@ -231,7 +232,7 @@ float_found t b x numeral n plain body body_is ut ub reads following e n_is plai
     (λ z. IsFoundFloat t (Of Float z 0)) (sym body_is) (float_body t b x numeral n plain ut ub reads following e n_is
     plain_is)
 
--- If the text isn't an integer, its parse result is that of the float.
+-- If a text is a float literal and not an integer, its parse result as a float is its parse result as a literal.
 pub float_alone : (t : List ℕ) (f : Found) → HasNoInteger (chars t) → IsFoundFloat t f → IsFound t f
 float_alone t f none h =
     let back = sym h.kind in

@@ -1,4 +1,4 @@
--- The start of a number.
+-- The start of a number: its sign, its base and its first digits.
 use Rattle.rl_syntax.proofs.Common.{◌≡◌, ℕ, Bool, true, false, not, ◌&&◌, ◌||◌, ◌==◌, cond, List, [], ◌∷◌, Option, Some, None, refl, sym, ap, ◌∙◌, and_parts, eqb-true, is_ascii_digit}
 use Rattle.rl_lenient.proofs.Names.{Sign, first_passes}
 use Rattle.rl_lenient.specs.Mirrors.NumberAt.{after_digits, after_fraction, after_exponent, after_minus, based_at, capped, capped_int, ended_at, float_at, float_tail_at, has_digit_at, int_at, is_suffix, IsHead, magnitude_at, may_begin_number, may_end, radix_at, radix_of, sign_at, with_sign}
@@ -6,11 +6,11 @@ use Rattle.rl_lenient.specs.Mirrors.NumberAt.{after_digits, after_fraction, afte
 abbrev ten : List ℕ → ℕ × List ℕ
 ten u = (10, u)
 
--- A base with the text after its prefix, or base ten with the whole text.
+-- Returns a base and the text after its prefix, if a condition holds. Otherwise, returns the base ten and the whole text.
 abbrev chosen : Bool → ℕ → List ℕ → List ℕ → ℕ × List ℕ
 chosen b r cs u = cond b (r, cs) (ten u)
 
--- If the number begins with a digit, its base requires nothing else.
+-- If a number begins with a digit, the test `may_begin_number` is true for the text after the prefix of its base.
 begins : (u : List ℕ) → first_passes is_ascii_digit u ≡ true → may_begin_number (radix_at u).0 (radix_at u).1 ≡ true
 unfolding radix_at
 begins [] h = absurd (cc)
@@ -22,7 +22,7 @@ begins (z ∷ c ∷ cs) h = go (z == 48 && not (radix_of c == 10)) refl
     go true e = ap (λ b. b || first_passes is_ascii_digit cs) (and_parts (z == 48) (not (radix_of c == 10)) e).1
     go false e = h
 
--- If no digit follows the sign, the base is ten.
+-- If a text doesn't begin with a digit, `radix_at` returns the base ten.
 no_base : (u : List ℕ) → first_passes is_ascii_digit u ≡ false → radix_at u ≡ ten u
 unfolding radix_at
 no_base [] h = refl
@@ -49,13 +49,13 @@ ten_whole (z ∷ c ∷ cs) h = go (z == 48 && not (radix_of c == 10)) refl h
         absurd (cc)
     go false e h = refl
 
--- If an integer is parsed only on a condition, its magnitude is limited to 128 bits on that condition too.
+-- Limiting the magnitude of a parsed integer to 128 bits doesn't change the condition on which the integer is parsed.
 capped_cond : (s : Sign) (b : Bool) (n : ℕ) (x : List ℕ) → capped_int (with_sign s (cond b (Some (n, x)) None))
     ≡ cond b (Some (capped n, x)) None
 capped_cond s true n x = refl
 capped_cond s false n x = refl
 
--- If no digit follows the sign, the text isn't an integer.
+-- If no digit follows the sign at the start of a text, the text isn't an integer.
 pub no_head_int : (t : List ℕ) → first_passes is_ascii_digit (after_minus t) ≡ false → None ≡ capped_int (int_at t)
 unfolding int_at based_at
 no_head_int t h =
@@ -68,14 +68,14 @@ no_head_int t h =
     ∙ ap (λ b. cond (b && ends) (Some (capped (magnitude_at r.0 r.1), after_digits r.0 r.1)) None) begin
     )
 
--- If no digit follows the sign, the text isn't a float.
+-- If no digit follows the sign at the start of a text, the text isn't a float.
 pub no_head_float : (t : List ℕ) → first_passes is_ascii_digit (after_minus t) ≡ false → None ≡ float_at t
 unfolding float_at
 no_head_float t h =
     let x = after_exponent (after_fraction (after_digits 10 (after_minus t))) in
     sym (ap (λ b. cond (b && is_suffix x) (Some x) None) h)
 
--- The integer is parsed from the parsed start of the number.
+-- From the parsed start of a number, `ended_at` returns the result of `int_at` for the text, limited to 128 bits.
 pub head_int : (t : List ℕ) (r : ℕ) (some : Bool) (m : Option ℕ) (x : List ℕ) → IsHead (after_minus t) r some m x
     → ended_at r some m x ≡ capped_int (int_at t)
 unfolding int_at based_at
@@ -93,7 +93,8 @@ head_int t r some m x h =
     ∙ ap (λ b. cond (b && ends) (Some (capped n, y)) None) (begins (after_minus t) h.first)
     )
 
--- A float in base ten is parsed from the parsed start of the number.
+-- If the start of a number is in base ten, `float_tail_at` returns from the text after the first digits what `float_at` returns
+-- for the whole text.
 pub head_float : (t : List ℕ) (r : ℕ) (some : Bool) (m : Option ℕ) (x : List ℕ) → IsHead (after_minus t) r some m x → r
     ≡ 10 → float_tail_at x ≡ float_at t
 unfolding float_at

@@ -11,7 +11,7 @@ use Rattle.rl_lenient.specs.Mirrors.NumberAt.{run, has_value, is_suffix, digit_r
 use Rattle.rl_lenient.proofs.DigitRowLemmas.{within_or_past, capped_within, capped_past}
 use Rattle.rl_lenient.proofs.RunLemmas.{run_all, run_ends, run_join, run_past, suffix_complete, suffix_sound}
 
--- A text after an exponent's digits is a suffix if it is empty or an identifier.
+-- After the digits of an exponent, a text that is empty or an identifier is a suffix.
 rest_suffix : (x : List ℕ) → (x ≡ []) ⊎ IsTrue (xid_ok x) → first_passes (is_run_part (has_value 10)) x ≡ false
     → is_suffix x ≡ true
 rest_suffix [] h k = refl
@@ -21,7 +21,7 @@ rest_suffix (c ∷ cs) h k = suffix_complete (c ∷ cs) (h, go (has_value 10 c) 
     go true e = absurd (cc)
     go false e = e
 
--- An exponent in a suffix passes the test `is_exponent_suffix`.
+-- A suffix that begins with an exponent (`IsExponentSuffix`) passes the test `is_exponent_suffix`.
 pub exponent_suffix_complete : (x : List ℕ) → IsExponentSuffix x → is_exponent_suffix x ≡ true
 unfolding is_exponent_suffix
 exponent_suffix_complete x e =
@@ -33,7 +33,7 @@ exponent_suffix_complete x e =
     ap is_exponent_suffix e.text_is ∙ and_from (is_exponent_letter e.letter) _ e.is_letter
     (and_from (has_digit_at 10 (e.run ++ e.rest)) _ some ends)
 
--- A text that passes the test `is_exponent_suffix` is an exponent.
+-- A text that passes the test `is_exponent_suffix` begins with an exponent (`IsExponentSuffix`).
 pub exponent_suffix_sound : (x : List ℕ) → is_exponent_suffix x ≡ true → IsExponentSuffix x
 unfolding is_exponent_suffix
 exponent_suffix_sound [] h = absurd (cc)
@@ -52,7 +52,7 @@ exponent_suffix_sound (c ∷ cs) h =
       text_is = ap (λ z. c ∷ z) (run_join (is_run_part (has_value 10)) cs);
     }
 
--- A sign is split off the text that it precedes, if the text begins with a digit.
+-- The functions `after_minus` and `sign_at` split off a sign before a text that begins with a digit.
 pub minus_past : (s : Sign) (u : List ℕ) → first_passes is_ascii_digit u ≡ true → (after_minus (sign_text s ++ u) ≡ u)
     × (sign_at (sign_text s ++ u) ≡ s)
 minus_past Minus u h = (refl, refl)
@@ -61,7 +61,7 @@ minus_past NoSign (c ∷ cs) h =
     let e : (c == 45) ≡ false = grind (arith, nat_tests) in
     (ap (λ b. cond b cs (c ∷ cs)) e, ap (λ b. cond b Minus NoSign) e)
 
--- A text without another base's prefix is in base ten.
+-- For a text that doesn't begin with the prefix of another base, `radix_at` returns the base ten, and the text itself.
 pub not_based : (t : List ℕ) → begins_base t ≡ false → radix_at t ≡ (10, t)
 unfolding radix_at
 not_based [] h = refl
@@ -86,14 +86,14 @@ radix_past Octal w h = (refl, refl)
 radix_past Hexadecimal w h = (refl, refl)
 radix_past Decimal w h = (not_based w h.1, h.0)
 
--- If the text after the prefix meets the condition of the base, the test `may_begin_number` is true for it.
+-- If the text after a base's prefix can be the rest of a number in the base, the test `may_begin_number` is true for the text.
 base_begins : (base : Base) (w : List ℕ) → IsAfterPrefix base w → may_begin_number (radix base) w ≡ true
 base_begins Binary w h = refl
 base_begins Octal w h = refl
 base_begins Decimal w h = h.0
 base_begins Hexadecimal w h = refl
 
--- If a suffix meets the condition of the base, the test `may_end` is true for it.
+-- If a base allows a suffix, the test `may_end` is true for the suffix.
 base_ends : (base : Base) (x : List ℕ) → IsSuffix x → AllowsSuffix base x → may_end (radix base) x ≡ true
 base_ends Binary x h k = and_from (is_suffix x) true (suffix_complete x h) refl
 base_ends Octal x h k = and_from (is_suffix x) true (suffix_complete x h) refl
@@ -102,7 +102,7 @@ base_ends Decimal x h k = and_from (is_suffix x) (not (is_exponent_suffix x)) (s
     (not_from_false (is_exponent_suffix x) (false_from_ne_true (is_exponent_suffix x)
     (λ e. k (exponent_suffix_sound x e))))
 
--- `based_at` parses digits and the suffix after them.
+-- `based_at` parses the digits of a number, and returns their value and the suffix after them.
 based_past : (r : ℕ) (ds x : List ℕ) → may_begin_number r (ds ++ x) ≡ true → list_all (is_run_part (has_value r)) ds
     ≡ true → list_any (has_value r) ds ≡ true → first_passes (is_run_part (has_value r)) x ≡ false → may_end r x ≡ true
     → based_at r (ds ++ x) ≡ Some (place_value r (without_underscores ds), x)
@@ -135,7 +135,7 @@ int_past t s m x h =
     ∙ ap (with_sign s) b
     ∙ ap (λ n. Some (s, n, x)) (sym h.magnitude_is)
 
--- The base of a text, and the prefix that `radix_at` consumes.
+-- The base of a number's text: the text is the base's prefix and the text that `radix_at` returns after it.
 pub record Based (t : List ℕ) : Type 0 where
   pub base : Base
   pub rest : List ℕ
@@ -143,7 +143,7 @@ pub record Based (t : List ℕ) : Type 0 where
   pub text_is : t ≡ prefix base ++ rest
   pub front : may_begin_number (radix base) rest ≡ true → IsAfterPrefix base rest
 
--- A text that begins with some characters is these characters and the rest.
+-- If the test `begins` is true for characters and a text, the text is these characters and a rest.
 pub begins_is : (p t : List ℕ) → begins p t ≡ true → (rest : List ℕ) × (t ≡ p ++ rest)
 begins_is [] t h = (t, refl)
 begins_is (k ∷ p) [] h = absurd (cc)
@@ -172,7 +172,7 @@ based_hexadecimal cs = record { base = Hexadecimal; rest = cs; at = refl; text_i
 based_decimal : (t : List ℕ) → begins_base t ≡ false → Based t
 based_decimal t h = record { base = Decimal; rest = t; at = not_based t h; text_is = refl; front = λ d. (d, h) }
 
--- Each text has one base.
+-- For each text, `radix_at` returns a base and the text after the base's prefix.
 pub based : (t : List ℕ) → Based t
 based t = go (begins (prefix Binary) t) (begins (prefix Octal) t) (begins (prefix Hexadecimal) t) refl refl refl
   where
@@ -197,7 +197,7 @@ sign_join (c ∷ cs) = go (c == 45) refl
     go true h = ap (λ z. z ∷ cs) (eqb-true c 45 h)
     go false h = refl
 
--- After a sequence of hexadecimal digits, no hexadecimal digit follows.
+-- A text that begins with neither a hexadecimal digit nor an underscore doesn't begin with a hexadecimal digit.
 pub hex_stops : (x : List ℕ) → first_passes (is_run_part (has_value 16)) x ≡ false → first_passes (has_value 16) x
     ≡ false
 hex_stops [] h = refl
@@ -207,7 +207,7 @@ hex_stops (c ∷ cs) h = go (has_value 16 c) h
     go true e = e
     go false e = refl
 
--- If the test `may_end` is true for the text after the digits, this suffix meets the condition of the base.
+-- If the text after the digits of a number passes the test `may_end`, the base allows this suffix.
 suffix_of : (base : Base) (x : List ℕ) → first_passes (is_run_part (has_value (radix base))) x ≡ false
     → may_end (radix base) x ≡ true → AllowsSuffix base x
 suffix_of Binary x h k = tt
@@ -217,11 +217,12 @@ suffix_of Decimal x h k = λ e. both_ways (is_exponent_suffix x)
     (not-true (is_exponent_suffix x) (and_parts (is_suffix x) (not (is_exponent_suffix x)) k).1)
     (exponent_suffix_complete x e)
 
--- A text that may end an integer is a suffix.
+-- A text that passes the test `may_end`, so that it can end an integer, is a suffix.
 end_suffix : (r : ℕ) (x : List ℕ) → may_end r x ≡ true → is_suffix x ≡ true
 end_suffix r x h = (and_parts (is_suffix x) _ h).0
 
--- The consumed parts are an integer.
+-- If the text after a sign and the prefix of a base may begin a number, has a digit, and has a suffix that may end a number, the
+-- whole text is an integer with the sign, magnitude and suffix that the models return.
 int_built : (t : List ℕ) (b : Based (after_minus t)) → may_begin_number (radix b.base) b.rest ≡ true
     → has_digit_at (radix b.base) b.rest ≡ true → may_end (radix b.base) (after_digits (radix b.base) b.rest) ≡ true
     → IntReads t (sign_at t) (magnitude_at (radix b.base) b.rest) (after_digits (radix b.base) b.rest)
@@ -240,19 +241,20 @@ int_built t b front some ends =
       magnitude_is = refl;
     }
 
--- If a choice returns a value, its condition is true.
+-- If a choice between a value and `None` returns the value, its condition is true.
 pub chosen_some : {A : Type 0} (b : Bool) (q p : A) → cond b (Some q) None ≡ Some p → (b ≡ true) × (q ≡ p)
 chosen_some true q p h = (refl, cc)
 chosen_some false q p h = absurd (cc)
 
--- The conditions that a text meets if an integer is parsed from it.
+-- The conditions on a text from which `based_at` parses an integer: the text may begin a number of the base, it has a digit, and
+-- the text after its digits may end an integer.
 record Read (r : ℕ) (t : List ℕ) (p : ℕ × List ℕ) : Type 0 where
   front : may_begin_number r t ≡ true
   some : has_digit_at r t ≡ true
   ends : may_end r (after_digits r t) ≡ true
   is : (magnitude_at r t, after_digits r t) ≡ p
 
--- If an integer is parsed from a text, the text meets the conditions.
+-- If `based_at` returns a result for a text, the text meets the conditions of an integer (`Read`).
 based_sound : (r : ℕ) (t : List ℕ) (p : ℕ × List ℕ) → based_at r t ≡ Some p → Read r t p
 unfolding based_at
 based_sound r t p h =
@@ -262,7 +264,7 @@ based_sound r t p h =
     let b = and_parts (has_digit_at r t) _ a.1 in
     record { front = a.0; some = b.0; ends = b.1; is = k.1 }
 
--- If `with_sign` returns a parse result, it was called with a parse result without the sign.
+-- If `with_sign` returns a parse result, its argument was this parse result without the sign.
 pub sign_of_some : (s : Sign) (o : Option (ℕ × List ℕ)) (p : Sign × ℕ × List ℕ) → with_sign s o ≡ Some p
     → (q : ℕ × List ℕ) × (o ≡ Some q) × ((s, q.0, q.1) ≡ p)
 sign_of_some s None p h = absurd (cc)
@@ -280,14 +282,14 @@ int_sound t p h =
     ≡ p = ap (λ q. (sign_at t, q.0, q.1)) r.is ∙ k.2 in
     subst (λ (q : Sign × ℕ × List ℕ). IntReads t q.0 q.1 q.2) whole (int_built t b r.front r.some r.ends)
 
--- If `capped` returns `None` for a number, the number is above the limit.
+-- If `capped` returns `None` for a number, the number is above the limit of 128 bits.
 capped_none : (n : ℕ) → capped n ≡ None → limit < n
 capped_none n h = elim (within_or_past n limit) [
   | inl k ↦ let e = capped_within n k in absurd (cc)
   | inr k ↦ k
 ]
 
--- A number that the limit keeps is within the limit, and unchanged.
+-- If `capped` returns a number, this is its argument, and is within the limit of 128 bits.
 capped_some : (n k : ℕ) → capped n ≡ Some k → (n ≤ limit) × (n ≡ k)
 capped_some n k h = elim (within_or_past n limit) [
   | inl l ↦ let e = capped_within n l in (l, cc)
@@ -299,23 +301,23 @@ none_int : (o : Option (Sign × ℕ × List ℕ)) → None ≡ capped_int o → 
 none_int None h = refl
 none_int (Some p) h = absurd (cc)
 
--- If `capped_int` returns a result, its argument is that result before the limit.
+-- If `capped_int` returns a result, its argument is that result with the magnitude before the limit of 128 bits.
 some_int : (o : Option (Sign × ℕ × List ℕ)) (q : Option ℕ × List ℕ) → Some q ≡ capped_int o → (p : Sign × ℕ × List ℕ)
     × (o ≡ Some p) × (q ≡ (capped p.1, p.2))
 some_int None q h = absurd (cc)
 some_int (Some p) q h = (p, refl, cc)
 
--- If no integer is parsed, the text isn't an integer.
+-- If `int_at` returns no result for a text, the text isn't an integer.
 pub no_int : (t : List ℕ) → None ≡ capped_int (int_at t) → HasNoInteger t
 no_int t h = λ s m x r. let e = none_int (int_at t) h in let f = int_past t s m x r in absurd (cc)
 
--- An integer that is parsed without a magnitude is above the limit.
+-- An integer that is parsed without a magnitude is above the limit of 128 bits.
 pub is_past : (t x : List ℕ) → Some (None, x) ≡ capped_int (int_at t) → IsPast t
 is_past t x h =
     let k = some_int (int_at t) (None, x) h in
     record { sign = k.0.0; magnitude = k.0.1; suffix = k.0.2; reads = int_sound t k.0 k.1; past = capped_none k.0.1 (sym (ap (λ q. q.0) k.2)) }
 
--- An integer that is parsed with a magnitude is within the limit.
+-- An integer that is parsed with a magnitude is within the limit of 128 bits, and the magnitude is that of the literal.
 pub is_within : (t x : List ℕ) (m : ℕ) → Some (Some m, x) ≡ capped_int (int_at t) → HasMagnitude t m x
 is_within t x m h =
     let k = some_int (int_at t) (Some m, x) h in
@@ -336,7 +338,7 @@ pub is_within_at : (t x y : List ℕ) (m : ℕ) (k : Option ℕ) → Some (k, x)
     → HasMagnitude t m y
 is_within_at t x y m k h e q = is_within t y m (ap (λ z. Some (Some m, z)) q ∙ sym (ap (λ o. Some (o, x)) e) ∙ h)
 
--- An integer within the limit is a literal.
+-- A number within the limit of 128 bits is an integer literal.
 pub within_reads : (t x : List ℕ) (m : ℕ) → HasMagnitude t m x → (v : Contents) × ReadsInt t v x
 within_reads t x m w =
     (Digits (sign_text w.sign ++ decimal m), record { sign = w.sign; magnitude = m; reads = w.reads; within = w.within; contents_is = refl })

@@ -22,7 +22,7 @@ same_whether true c P h k = sym (k.1 (h.0 refl))
 same_whether false true P h k = h.1 (k.0 refl)
 same_whether false false P h k = refl
 
--- A number's body is plain with a minus before it exactly if it is plain without.
+-- The body of an integer without a sign passes the test `is_plain_integer` exactly if it passes the test with a minus before it.
 minus_plain : (b x : List ℕ) → sign_at (b ++ x) ≡ NoSign → is_plain_integer (45 ∷ b) ≡ is_plain_integer b
 minus_plain [] x h = refl
 minus_plain (c ∷ cs) x h = go (c == 45) refl h
@@ -32,7 +32,7 @@ minus_plain (c ∷ cs) x h = go (c == 45) refl h
     go true e k = absurd (cc)
     go false e k = ap (λ (w : Bool). is_plain_digits (cond w cs (c ∷ cs))) (sym e)
 
--- A text that is split before the suffix into two texts.
+-- A text that is split at the byte offset n into two UTF-8 texts.
 record Halves (t : List ℕ) (n : ℕ) : Type 0 where
   pub whole : t ≡ take n t ++ drop n t
   pub front : IsUtf8 (take n t)
@@ -49,7 +49,7 @@ halves t f u h =
 abbrev Moved : Found → Found
 Moved f = Of f.kind (NumberBody (f.body.suffix_at + 1) f.body.plain) f.magnitude
 
--- A text with a minus before it, split after the body.
+-- A text with a minus before it is split at the byte offset n + 1. The text without the minus is split at n.
 record Behind (t : List ℕ) (n : ℕ) : Type 0 where
   pub text : IsUtf8 (45 ∷ t)
   pub front : IsUtf8 (45 ∷ take n t)

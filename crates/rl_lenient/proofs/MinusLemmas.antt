@@ -1,4 +1,4 @@
--- Literals after a minus.
+-- Literals with a minus before them.
 use Rattle.rl_syntax.proofs.Common.{◌≡◌, ℕ, ◌⊎◌, inl, inr, Bool, true, false, cond, ◌==◌, ◌&&◌, List, [], ◌∷◌, ◌++◌, Some, None, refl, sym, ap, subst, ◌∙◌, is_ascii_digit, both_ways, eqb-true}
 use Rattle.rl_lenient.proofs.Names.{Kind, Str, ByteStr, CStr, Byte, Char, Int, Float, BoolKind, first_passes, is_string, is_single, opener, raw_opener, Sign, NoSign, Minus, IntReads, Contents, HasNoReading, HasSuffix, ReadsQuoted, truth_text}
 use Rattle.rl_syntax.specs.Reading.{ReadsBool}
@@ -10,12 +10,12 @@ use Rattle.rl_lenient.proofs.FloatLemmas.{float_past, float_sound}
 use Rattle.rl_lenient.proofs.DigitLemmas.{int_sign}
 use Rattle.std.specs.Str.{chars}
 
--- If a text is an integer without a sign, the text with a minus before it is an integer too.
+-- If a text is an integer without a sign, the text with a minus before it is the integer with the same magnitude and suffix.
 pub int_on : (t : List ℕ) (s : Sign) (m : ℕ) (x : List ℕ) → sign_at t ≡ NoSign → IntReads t s m x
     → IntReads (45 ∷ t) Minus m x
 int_on t s m x e h = minus_int t x m (subst (λ (k : Sign). IntReads t k m x) (sym (int_sign t s m x h) ∙ e) h)
 
--- A float after a minus is parsed from the text after the minus.
+-- If a text has no sign, a minus before it doesn't change the result of `float_at`.
 pub float_at-minus : (t : List ℕ) → sign_at t ≡ NoSign → float_at (45 ∷ t) ≡ float_at t
 unfolding float_at
 float_at-minus [] h = refl
@@ -38,7 +38,7 @@ double_minus (c ∷ cs) h = go (c == 45) refl h
     go false e k = absurd (cc)
     go true e k = ap (λ z. float_at (45 ∷ z ∷ cs)) (eqb-true c 45 e)
 
--- If the text isn't a number, it isn't one with a minus before it.
+-- If a text without a sign isn't a number, it isn't a number with a minus before it either.
 pub negative_none : (t : List ℕ) → sign_at t ≡ NoSign → ReadsNoNumber t → ReadsNoNumber (45 ∷ t)
 negative_none t e h Int c x r = h Int _ x (record { sign = NoSign; magnitude = r.magnitude; reads = (without_minus t x r.sign r.magnitude r.reads).0; within = r.within; contents_is = refl })
 negative_none t e h Float c x r =
@@ -78,7 +78,7 @@ pub number_split : (t b x : List ℕ) (k : Kind) → (k ≡ Int) ⊎ (k ≡ Floa
 number_split t b x k (inl e) s = subst (λ (j : Kind). IsSplit j t b x) e s
 number_split t b x k (inr e) s = subst (λ (j : Kind). IsSplit j t b x) e s
 
--- No quoted form begins with a minus, and neither `true` nor `false` does.
+-- Whether a character is a minus. No quoted literal begins with a minus, and neither `true` nor `false` does.
 abbrev is_minus : ℕ → Bool
 is_minus c = c == 45
 

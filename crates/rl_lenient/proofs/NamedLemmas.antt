@@ -1,4 +1,4 @@
--- The table of the values of a backslash and an ASCII character.
+-- The code's table of the escapes of a backslash and one ASCII character has the values of the definitions.
 use Rattle.rl_syntax.proofs.Common.{◌≡◌, ◌∙◌, ◌||◌, ◌<◌, ℕ, true, cond, eqb, ltb, List, [], ◌∷◌, Option, Some, None, refl, sym, ap, subst, inl, inr, eqb-true, ltb-true, option_and_then}
 use Rattle.rl_lenient.proofs.Names.{Kind}
 use Rattle.std.proofs.Math.ListN.{get_or}

@@ -15,20 +15,20 @@ pub if_none : {T P : Type 0} (o : Option T) → P → IfNone o P
 if_none None p = p
 if_none (Some x) p = tt
 
--- If a form in the code isn't that of a literal, neither is the form in the definitions.
+-- If the form of a token in the code isn't `Literal`, its form in the definitions isn't `LiteralForm`.
 pub other_form : (f : FoundForm) → (f ≡ found.Literal → ⊥) → form_view f ≢ LiteralForm
 other_form found.Literal h e = h refl
 other_form found.Identifier h e = absurd (cc)
 other_form (found.Delimiter c) h e = absurd (cc)
 other_form (found.Mark c) h e = absurd (cc)
 
--- After a minus, the next token isn't a number, so the list doesn't continue with a literal.
+-- If the next token of a list is a minus, and no number follows the minus, the list has no next literal.
 pub no_number : (old between : CursorState) (m : Lexeme) → TakesNext old m between → form_view m.form ≡ MarkForm 45
     → HasNoNumber between → HasNoNextLiteral old
 no_number old between m takes is none =
     inr (m, between, takes, subst (λ (f : LexemeForm). BeginsNone f m.text.now between) (sym is) (inr none))
 
--- If the rest isn't empty, a token or an error begins it.
+-- If the rest of a list isn't empty, and no token begins it, the list neither ends there nor continues with a token.
 pub nothing_else : (t ahead : CursorState) → t.rest ≢ [] → ahead ≡ t → BeginsNoLexeme (chars ahead.rest)
     → ((t.rest ≡ []) ⊎ BeginsLexeme (chars t.rest)) → ⊥
 nothing_else t ahead some is none (inl nothing) = some nothing

@@ -4,7 +4,7 @@ use Rattle.rl_lenient.proofs.Names.{Int, Float, HasNoFloat, HasNoInteger, IsPast
 use Rattle.rl_lenient.specs.NumberShapes.{ReadsNoNumber}
 use Rattle.rl_syntax.proofs.OneNumber.{int_once}
 
--- An integer above the limit isn't a number, not even a float.
+-- A text that is an integer above 128 bits isn't parsed as a number, not even as a float.
 pub past_number : (t : List ℕ) → IsPast t → ReadsNoNumber t
 past_number t p Int c x r =
     let o = int_once t p.suffix x p.sign r.sign p.magnitude r.magnitude p.reads r.reads in

@@ -1,4 +1,4 @@
--- A text that begins with an opening delimiter is a quoted literal, or isn't a literal.
+-- A text that begins with the opening delimiter of a quoted literal is a quoted literal, or isn't a literal.
 use Rattle.rl_syntax.proofs.Common.{◌≡◌, ℕ, Bool, true, false, List, ◌++◌, None, refl, sym, ap, ◌∙◌}
 use Rattle.rl_lenient.proofs.Names.{Kind, first_passes, HasNoReading, HasNoTruth, truth_text}
 use Rattle.rl_lenient.specs.declared.quoted_forms.QuotedForm.{QuotedForm}

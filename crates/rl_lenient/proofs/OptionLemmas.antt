@@ -1,8 +1,8 @@
--- Consequences of a postcondition on an `Option`.
+-- Consequences of a postcondition about an `Option` result.
 use Rattle.rl_syntax.proofs.Common.{Option, Some, None}
 use Rattle.std.specs.Option.{IfSome, IfNone}
 
--- A property that follows from one for the result `None` also holds for that result.
+-- If one property implies another, and the first holds if a result is `None`, the other holds if the result is `None`.
 pub none_then : {A P Q : Type 0} (r : Option A) → (P → Q) → IfNone r P → IfNone r Q
 none_then None f p = f p
 none_then (Some a) f p = tt

@@ -15,11 +15,11 @@ use Rattle.rl_lenient.specs.NumberParts.{IsFloatOf, IsIntegerOf, HasOneFloatOf, 
 
 -- ---- parse results
 
--- A text without a parse result isn't of any kind.
+-- A text without a parse result isn't a literal of any kind.
 pub reads_as_none : (t : List ℕ) (kind : Kind) → HasNoReading t → ReadsAs kind t → ⊥
 reads_as_none t kind h (v, x, r) = h kind v x r
 
--- A text that is of one kind isn't of another.
+-- A literal of one kind isn't a literal of another kind.
 pub reads_as_other : (t x : List ℕ) (found kind : Kind) → HasSuffix found t x → (found ≡ kind → ⊥) → ReadsAs kind t → ⊥
 reads_as_other t x found kind (v, r) other (w, y, s) = other (one_reading t found kind v w x y r s).0
 
@@ -29,7 +29,7 @@ found_float t x kind e h = let r = subst (λ (k : Kind). HasSuffix k t x) e h in
 
 -- ---- sequences of digits
 
--- The text before the rest after a sequence of digits is the sequence.
+-- If a text is split before the text that follows its leading digits, the first part is the leading digits.
 pub row_front : (t front rest : List ℕ) → t ≡ front ++ rest → rest ≡ after_digits 10 t → front ≡ digit_run_at 10 t
 row_front t front rest is stops =
     append_cancel_right front (digit_run_at 10 t) rest (sym is ∙ run_join (is_run_part (has_value 10)) t
@@ -67,18 +67,18 @@ integer_is t m x base row digits rest (s, r) from is stops =
 
 -- ---- floats
 
--- A sequence of digits doesn't continue into an exponent.
+-- The text of an exponent doesn't begin with a digit or an underscore.
 exponent_stops : (e : Exponent) (x : List ℕ) → IsExponent e x
     → first_passes (is_run_part (has_value 10)) (exponent_text e) ≡ false
 exponent_stops NoExponent x h = refl
 exponent_stops (Power letter us sg row) x h = letter_no_part letter h.0
 
--- The model returns the text after the exponent's letter.
+-- For the text of an exponent, `after_letter` returns the text after the exponent's letter.
 letter_past : (e : Exponent) → after_letter (exponent_text e) ≡ power_run e
 letter_past NoExponent = refl
 letter_past (Power letter us sg row) = refl
 
--- `fraction_at` returns the digits of a float's fraction, and the exponent after it.
+-- For a float's fraction and exponent, `fraction_at` returns the digits of the fraction, and the text of the exponent.
 fraction_past : (f : Fraction) (e : Exponent) (x : List ℕ) → IsFraction f → IsExponent e x
     → fraction_at (fraction_text f ++ exponent_text e) ≡ (fraction_run f, exponent_text e)
 fraction_past NoFraction NoExponent x h k = refl
@@ -89,8 +89,8 @@ fraction_past (Dot row) e x h k =
     let past = run_past (is_run_part (has_value 10)) row (exponent_text e) h (exponent_stops e x k) in
     ap (λ z. (Some z, after_digits 10 (row ++ exponent_text e))) past.0 ∙ ap (λ z. (Some row, z)) past.1
 
--- The parts of a float's text before its suffix, as the code finds them: the digits before the dot, the fraction and
--- the exponent.
+-- The parts of a float's text before its suffix, as the code finds them: the digits before the dot, the fraction, and the
+-- exponent.
 pub record Split (numeral whole : List ℕ) (fraction exponent : Option (List ℕ)) : Type 0 where
   pub unsigned : List ℕ
   pub unsigned_is : unsigned ≡ after_minus numeral
@@ -129,7 +129,7 @@ float_is t numeral suffix whole fraction exponent (n, r) is s =
 
 -- ---- laws
 
--- The base and digits of any parse result as an integer are these.
+-- If a text is an integer with a base and digits, the base is that of the text's prefix, and the digits follow this prefix.
 integer_row_is : (t : List ℕ) (base : ℕ) (digits : List ℕ) → IsIntegerOf t base digits
     → (base ≡ (radix_at (after_minus t)).0)
     × (digits ≡ run (is_run_part (has_value (radix_at (after_minus t)).0)) (radix_at (after_minus t)).1)
@@ -147,7 +147,7 @@ one_integer_of t base other digits others a b =
     let second = integer_row_is t other others b in
     (first.0 ∙ sym second.0, first.1 ∙ sym second.1)
 
--- The parts of a float's text before its suffix, as the code finds them.
+-- For each text before a float's suffix, the code finds the parts: the digits before the dot, the fraction, and the exponent.
 split_of : (n : List ℕ) → Split n (digit_run_at 10 (after_minus n)) (fraction_at (after_digits 10 (after_minus n))).0
     (after_letter (fraction_at (after_digits 10 (after_minus n))).1)
 split_of n = record {

@@ -45,13 +45,13 @@ placed t opened closer suffix plain begins closes ends =
       suffix_is = cut_drop t suffix (tail_step t closer suffix closed ends);
     }
 
--- The text after the opening delimiter is an end of the text.
+-- The text after the opening delimiter of a quoted literal is an end of the literal's text.
 pub opened : (form : QuotedForm) (kind : Kind) (t inside : List ℕ) → IsUtf8 t → IsUtf8 inside → opener_at (chars t)
     ≡ found_opener form kind (chars inside) → IsTail t inside
 opened form kind t inside u w front = tail_chars t inside (form_opener form kind) u w
     (front_sound (chars t) (form, kind, chars inside) front).text_is
 
--- The text after the body begins with the closing quote.
+-- The text after the body of a quoted literal begins with the closing quote.
 pub closer_is : (t b x closer : List ℕ) → IsUtf8 t → IsUtf8 b → IsUtf8 x → chars t ≡ chars b ++ (34 ∷ chars x) → closer
     ≡ drop (length b) t → chars closer ≡ 34 ∷ chars x
 closer_is t b x closer ut ub ux e is =

@@ -1,4 +1,4 @@
--- Numbers whose body is their digits.
+-- Numbers whose body is the digits that std writes for their value.
 use Rattle.rl_syntax.proofs.Common.{◌≡◌, ℕ, suc, zero, ◌+◌, ◌*◌, ◌^◌, ◌<◌, ◌≤◌, Bool, true, false, not, ◌||◌, ◌==◌, cond, nat_lt, List, [], ◌∷◌, ◌++◌, length, append_assoc, refl, sym, ap, subst, ◌∙◌, arith, and_parts, and_from, not_from_false, not-true, or_parts, nat_tests, append_cancel_right, encodes-append, encodes-chars, digit_value, is_ascii_digit, list_all, list_any, IsUtf8, encode_utf8_all, IsTrue}
 use Rattle.rl_lenient.proofs.Names.{pow-suc, decimal, Kind, Float, Int, Base, Binary, Octal, Decimal, Hexadecimal, radix, prefix, IsAfterPrefix, Sign, sign_text, IntReads, limit, FloatReads, float_digits, place_value, without_underscores, Digits, HasNoFloat, first_passes}
 use Rattle.std.proofs.Common.{◌/◌, ◌%◌}
@@ -17,7 +17,8 @@ use Rattle.rl_lenient.specs.WholeShapes.{IsPlain}
 use Rattle.rl_lenient.specs.Mirrors.PlainAt.{is_plain_digits, is_plain_integer, is_kept, is_plain_float}
 use Rattle.rl_lenient.proofs.IntegerLemmas.{minus_past}
 
--- The text is an integer literal within the limit, with this magnitude, and the body is the text before its suffix.
+-- The text is an integer literal within the limit of 128 bits. The record has its magnitude, and its body is the text before the
+-- suffix.
 pub record IsSplitInteger (text : List ℕ) (magnitude : ℕ) (body : List ℕ) : Type 0 where
   pub suffix : List ℕ
   pub within : HasMagnitude text magnitude suffix
@@ -28,7 +29,7 @@ pub record IsSplitInteger (text : List ℕ) (magnitude : ℕ) (body : List ℕ) 
 abbrev glyph : ℕ → ℕ
 glyph n = digit_glyph false (n % 10)
 
--- `glyph` returns the digit of a number's last decimal place.
+-- `glyph` returns the ASCII digit of a number's last decimal place.
 glyph_is : (n : ℕ) → glyph n ≡ 48 + n % 10
 glyph_is n = let e : nat_lt (n % 10) 10 ≡ true = grind (arith, nat_tests) in ap
     (λ b. cond b (48 + n % 10) (87 + n % 10)) e
@@ -54,7 +55,7 @@ onto_digits (suc k) n acc h = go (n / 10 == 0) more (onto_digits k (n / 10) (gly
     go true one rest = one
     go false one rest = rest
 
--- The first digit of a number above 0 isn't 0.
+-- Whether a character is the digit 0. The first digit of a number above 0 isn't 0.
 abbrev is_zero : ℕ → Bool
 is_zero c = c == 48
 
@@ -86,7 +87,7 @@ onto_first (suc k) n acc l h = go (n / 10 == 0) refl (λ above. onto_first k (n 
     go true e more = glyph_above n l e
     go false e more = more (quotient_above n e)
 
--- The digits of a number aren't empty.
+-- A test that every character passes. It shows that the digits of a number aren't empty.
 abbrev is_any : ℕ → Bool
 is_any c = true
 
@@ -144,7 +145,7 @@ onto_more (suc k) n acc = go (n / 10 == 0) (onto_more k (n / 10) (glyph n ∷ ac
     go false all one = all ∙ sym (ap (λ z. z ++ acc) one ∙ append_assoc (digits_onto k 10 false (n / 10) [])
         (glyph n ∷ []) acc)
 
--- If a digit is appended to a number above 0, it is appended to the number's digits.
+-- If a number above 0 gets one more digit, the digit is appended to the number's digits.
 push : (k v d : ℕ) → 0 < v → d < 10 → digits_onto (suc k) 10 false (v * 10 + d) [] ≡ digits_onto k 10 false v []
     ++ ((48 + d) ∷ [])
 push k v d l h =
@@ -165,7 +166,7 @@ digit_code c h = let e : (48 ≤ c) × (c ≤ 57) = grind (arith, nat_tests) in 
 spread : (v d q p : ℕ) → v * (q * 10) + (d * q + p) ≡ (v * 10 + d) * q + p
 spread v d q p = omega arith
 
--- If digits are appended to a number above 0, they are appended to the number's digits.
+-- If a number above 0 gets more digits, they are appended to the number's digits.
 written_more : (ds : List ℕ) (v j k : ℕ) → 0 < v → v < 10 ^ suc j → list_all is_ascii_digit ds ≡ true
     → v * 10 ^ length ds + place_value 10 ds < 10 ^ suc k → digits_onto (suc k) 10 false
     (v * 10 ^ length ds + place_value 10 ds) [] ≡ digits_onto (suc j) 10 false v [] ++ ds
@@ -200,7 +201,7 @@ written_one k v h =
     ap (λ b. cond b (glyph v ∷ []) (digits_onto k 10 false (v / 10) (glyph v ∷ []))) e
     ∙ ap (λ g. g ∷ []) (glyph_is v ∙ ap (λ n. 48 + n) r)
 
--- Plain digits are the digits that std writes for their value.
+-- Plain digits, which have neither an underscore nor a needless leading zero, are the digits that std writes for their value.
 plain_written : (ds : List ℕ) → is_plain_digits ds ≡ true → place_value 10 ds < 10 ^ 64 → decimal (place_value 10 ds)
     ≡ ds
 unfolding digits
@@ -231,7 +232,7 @@ bare (d ∷ ds) h =
     ap (λ m. cond (not m) (d ∷ without_underscores ds) (without_underscores ds)) (apart is_ascii_digit d 95 b.0 refl)
     ∙ ap (λ z. d ∷ z) (bare ds b.1)
 
--- The body of an integer begins with a digit after its sign.
+-- The body of an integer without its sign begins with a digit.
 begins_at : (b : Base) (ds x : List ℕ) → IsAfterPrefix b (ds ++ x) → list_any (is_digit b) ds ≡ true
     → first_passes is_ascii_digit (prefix b ++ ds) ≡ true
 begins_at Binary ds x front some = refl
@@ -245,7 +246,8 @@ all_plain [] p = refl
 all_plain (d ∷ ds) p = (and_parts (list_all is_ascii_digit (d ∷ ds)) (not (d == 48) || not (first_passes is_any ds))
     p).0
 
--- A plain body of an integer is in base ten, and is the digits that std writes for its magnitude.
+-- An integer's body without underscores and needless leading zeros is in base ten, and is the digits that std writes for its
+-- magnitude.
 plain_based : (b : Base) (ds : List ℕ) (m : ℕ) → is_plain_digits (prefix b ++ ds) ≡ true → m
     ≡ place_value (radix b) (without_underscores ds) → m ≤ limit → decimal m ≡ prefix b ++ ds
 plain_based Binary ds m p e h = let a : false ≡ true = all_plain (48 ∷ 98 ∷ ds) p in absurd (cc)
@@ -266,13 +268,13 @@ plain_body t body x s m r h cut p =
     (ap after_minus is ∙ (minus_past s u (begins_at r.base r.digits x r.front r.some)).0)) ∙ p in
     is ∙ ap (λ z. sign_text s ++ z) (sym (plain_based r.base r.digits m plain r.magnitude_is h))
 
--- The bytes of a text are split as its characters are.
+-- If the characters of a text are those of a body and then some more, its bytes are the body and then the encoding of the others.
 bytes_cut : (t b x : List ℕ) → IsUtf8 t → IsUtf8 b → chars t ≡ chars b ++ x → t ≡ b ++ encode_utf8_all x
 bytes_cut t b x ut ub e =
     sym (encodes-chars t ut) ∙ ap encode_utf8_all e ∙ encodes-append (chars b) x
     ∙ ap (λ z. z ++ encode_utf8_all x) (encodes-chars b ub)
 
--- An integer whose body passes the test `is_plain_integer` is plain.
+-- If the body of an integer passes the test `is_plain_integer`, the integer is plain: its body is the digits of its value.
 integer_plain : (t b : List ℕ) (m : ℕ) → IsUtf8 t → IsUtf8 b → IsSplitInteger (chars t) m (chars b)
     → is_plain_integer (chars b) ≡ true → IsPlain Int t
 integer_plain t b m ut ub w p =
@@ -308,7 +310,7 @@ unchanged c h =
     let b = or_parts (c == 95 || c == 43) (c == 69) (not-true ((c == 95 || c == 43) || c == 69) h) in
     (b.0, ap (λ z. cond z 101 c) b.1)
 
--- If each character of a float's text is kept, its digits are that text.
+-- If `float_digits` keeps each character of a float's text, its result is that text.
 same_digits : (cs : List ℕ) → list_all is_kept cs ≡ true → float_digits cs ≡ cs
 same_digits [] h = refl
 same_digits (c ∷ cs) h =
@@ -325,7 +327,7 @@ changed_once c h = go (c == 69) refl
     go true e = refl
     go false e = ap (λ z. not (z || (c == 69))) h ∙ ap not e
 
--- Each of a float's digits is kept.
+-- Each character in the result of `float_digits` is one that `float_digits` keeps.
 digits_kept : (cs : List ℕ) → list_all is_kept (float_digits cs) ≡ true
 digits_kept [] = refl
 digits_kept (c ∷ cs) = go (c == 95 || c == 43) refl (digits_kept cs)
@@ -335,7 +337,7 @@ digits_kept (c ∷ cs) = go (c == 95 || c == 43) refl (digits_kept cs)
     go true e more = more
     go false e more = and_from (is_kept (change c)) (list_all is_kept (float_digits cs)) (changed_once c e) more
 
--- A float whose body passes the test `is_plain_float` is plain.
+-- If the body of a float passes the test `is_plain_float`, the float is plain: its body is the digits of its value.
 float_plain : (t b x : List ℕ) → IsUtf8 t → IsUtf8 b → FloatReads (chars t) (chars b) x → is_plain_float (chars b)
     ≡ true → IsPlain Float t
 float_plain t b x ut ub r p = record {
@@ -365,7 +367,7 @@ pub plain_numeral : (t body x : List ℕ) → FloatReads t body x → is_plain_f
 plain_numeral t body x r p numeral y s =
     sym (same_digits body p) ∙ ap float_digits (float_once t body numeral x y r s).0
 
--- Bytes that are equal to the body are the number's digits if the body is.
+-- If bytes are the digits of a number, equal bytes are the digits too.
 pub held : (k : Kind) (t bytes s : List ℕ) → AreDigits k t (chars bytes) → s ≡ bytes → AreDigits k t (chars s)
 held k t bytes s d e = subst (λ z. AreDigits k t (chars z)) (sym e) d
 

@@ -1,4 +1,4 @@
--- Raw strings: their hashes, their last quote, and their one parse result.
+-- Raw strings: their hashes, their last quote, and the proof that they have only one parse result.
 use Rattle.rl_syntax.proofs.Common.{◌≡◌, ◌≢◌, ℕ, zero, suc, Bool, true, false, not, eqb, List, [], ◌∷◌, ◌++◌, length, replicate, refl, sym, ap, subst, ◌∙◌, list_all, both_ways, and_parts, append_cancel_right, list_all-append}
 use Rattle.rl_lenient.proofs.Names.{append_cancel_left, Kind, ByteStr, CStr, content_of, is_string, is_raw, raw_opener, Raw, hash_count, after_run, is_hash}
 use Rattle.std.proofs.lemmas.List.{length-replicate}
@@ -9,8 +9,7 @@ use Rattle.rl_lenient.specs.Forms.{PartsAre, HasNoParts}
 abbrev pub no_quote : ℕ → Bool
 no_quote c = not (eqb c 34)
 
--- All characters pass the test that is always true. It is the test of raw strings other than byte strings and C
--- strings.
+-- All characters pass the test that is always true. It is the test of the characters of `str` raw strings.
 all_true : (cs : List ℕ) → list_all (λ c. true) cs ≡ true
 all_true [] = refl
 all_true (c ∷ cs) = all_true cs
@@ -46,11 +45,11 @@ hashes_no_quote (suc n) x = hashes_no_quote n x
 
 -- ---- the hashes at the start
 
--- The text after the first quote of a raw string.
+-- Returns the text after the first quote of a raw string with n hashes, a body and a suffix.
 abbrev pub inner : ℕ → List ℕ → List ℕ → List ℕ
 inner n inside suffix = inside ++ (34 ∷ (replicate n 35 ++ suffix))
 
--- The hashes and the first quote of a raw string are those at the start of its text.
+-- The hashes and the first quote of a raw string are the leading hashes of the text after its prefix, and the quote after them.
 pub raw_front : (kind : Kind) (t v x hashes : List ℕ) (r : Raw kind (raw_opener kind ++ t) v x) → t ≡ hashes
     ++ (after_run is_hash) t → (hashes ≡ replicate r.hashes 35)
     × ((after_run is_hash) t ≡ 34 ∷ inner r.hashes r.inside x)
@@ -82,7 +81,7 @@ raw_once kind t v x w y r s =
       append_cancel_left (replicate s.hashes 35) x y (ap (λ z. z ++ x) (sym b.0 ∙ a.0) ∙ parts.1),
     )
 
--- Two parse results of a raw string have equal hashes and an equal body.
+-- Two parse results of a raw string have the same hashes and the same body.
 pub raw_same : (kind : Kind) (t v x w y : List ℕ) (r : Raw kind t v x) (s : Raw kind t w y) → (r.hashes ≡ s.hashes)
     × (r.inside ≡ s.inside)
 raw_same kind t v x w y r s =
@@ -99,13 +98,13 @@ raw_same kind t v x w y r s =
 
 -- ---- the parts of a raw string, by the tests of the code
 
--- If no quote follows the hashes, the text isn't a raw string.
+-- If no quote follows the leading hashes, the text isn't a raw string.
 pub raw_unopened : (kind : Kind) (t rest : List ℕ) → rest ≡ (after_run is_hash) t → ((y : List ℕ) → rest ≢ 34 ∷ y)
     → HasNoParts RawForm kind (raw_opener kind ++ t)
 raw_unopened kind t rest e h v b x p =
     h _ (e ∙ (raw_front kind t v x (replicate (hash_count t) 35) p.0 (hashes_first t)).1)
 
--- The text `t` begins with `hashes`, and `rest` follows them.
+-- The text `t`, which follows a raw string's prefix, begins with the hashes `hashes`, and `rest` follows them.
 
 module _ (kind : Kind) (t hashes rest : List ℕ) (rest_is : rest ≡ (after_run is_hash) t) (text_is : t ≡ hashes ++ rest)
   where
@@ -115,14 +114,14 @@ module _ (kind : Kind) (t hashes rest : List ℕ) (rest_is : rest ≡ (after_run
         let f = raw_front kind t v x hashes r (text_is ∙ ap (λ z. hashes ++ z) rest_is) in
         (f.0, rest_is ∙ f.1)
 
-    -- If no second quote follows, the text isn't a raw string.
+    -- If a raw string's text has no second quote, the text isn't a raw string.
     pub raw_unclosed : (inside : List ℕ) → rest ≡ 34 ∷ inside → list_all no_quote inside ≡ true
         → HasNoParts RawForm kind (raw_opener kind ++ t)
     raw_unclosed inside e h v b x p =
         let both : 34 ∷ inside ≡ 34 ∷ inner p.0.hashes p.0.inside x = sym e ∙ (opens v x p.0).1 in
         quote_inside inside p.0.inside (replicate p.0.hashes 35 ++ x) h (let both = both in cc)
 
-    -- The last quote splits the text after the first quote into a body and the text after it.
+    -- The text after the first quote of a raw string is split at the last quote into a body and the text after the quote.
     module _ (inside body after : List ℕ) (inside_is : rest ≡ 34 ∷ inside) (last_is : inside ≡ body ++ (34 ∷ after))
         (none_after : list_all no_quote after ≡ true) where
       closes : (v x : List ℕ) (r : Raw kind (raw_opener kind ++ t) v x) → (body ≡ r.inside) × (after ≡ hashes ++ x)

@@ -1,4 +1,4 @@
--- `true` and `false`, and texts that aren't literals.
+-- The texts `true` and `false`, and texts that aren't literals.
 use Rattle.rl_syntax.proofs.Common.{◌≡◌, ℕ, ◌<◌, ◌≤◌, ◌⊎◌, inl, inr, Bool, true, false, ◌||◌, ◌==◌, cond, List, [], ◌∷◌, ◌++◌, None, refl, sym, ap, ◌∙◌, arith, both_ways, or_parts, nat_tests, encodes-chars, encode_utf8_all, is_ascii_digit, IsUtf8}
 use Rattle.rl_lenient.proofs.Names.{first_passes, Int, Float, BoolKind, truth_text, HasNoReading, HasNoTruth}
 use Rattle.std.specs.Str.{chars}
@@ -15,7 +15,7 @@ use Rattle.rl_lenient.proofs.HeadLemmas.{no_head_int, no_head_float}
 use Rattle.rl_lenient.proofs.IntegerLemmas.{no_int}
 use Rattle.rl_lenient.proofs.NumberLemmas.{no_number}
 
--- A text that is neither quoted nor a number nor a `bool` isn't a literal.
+-- A text that is neither a quoted literal nor a number nor a `bool` isn't a literal.
 pub no_reading : (t : List ℕ) → HasNoQuoted t → ReadsNoNumber t → HasNoTruth t → HasNoReading t
 no_reading t q n b Int c x r = n Int c x r
 no_reading t q n b Float c x r = n Float c x r
@@ -24,7 +24,7 @@ no_reading t q n b kind c x r = q kind c x r
 
 -- ---- the start of a text
 
--- The first byte of a text passes the test exactly if its first character does.
+-- The first byte of a text is a minus or a decimal digit exactly if the first character of the text is.
 pub front_same : (t : List ℕ) → IsUtf8 t → first_passes is_number_front t ≡ first_passes is_number_front (chars t)
 front_same t is = ap (first_passes is_number_front) (sym (encodes-chars t is)) ∙ go (chars t)
   where

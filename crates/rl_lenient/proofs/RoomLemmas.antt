@@ -1,4 +1,4 @@
--- The value of a text is never longer than the text.
+-- The value of a literal is never longer in bytes than the literal's text.
 use Rattle.rl_syntax.proofs.Common.{◌≡◌, ℕ, Bool, true, false, not, cond, ◌||◌, ◌==◌, [], ◌∷◌, ◌+◌, ◌≤◌, List, ◌++◌, length, take, Some, refl, sym, ap, ◌∙◌, arith, encode_utf8_all, list_all, IsUtf8, encodes-append, encodes-chars, scalar, and_from, and_parts}
 use Rattle.rl_lenient.proofs.Names.{float_digits, Kind, is_plain, texts, values}
 use Rattle.std.proofs.Common.{map, filter, length-append}
@@ -13,7 +13,8 @@ use Rattle.rl_lenient.specs.Mirrors.UnitAt.{piece_value, IsHeldBy, unit_at}
 use Rattle.rl_lenient.proofs.BodyLemmas.{row_shrinks}
 use Rattle.rl_lenient.proofs.ContentLemmas.{decode_run, decode_step}
 
--- The bytes of the passed characters and escapes, and the rest of the text, are at most as long as the text.
+-- The decoded bytes of the characters and escapes that were passed, together with the rest of the text, are at most as long as
+-- the text.
 row_room : (kind : Kind) (text rest v bytes : List ℕ) → BeginsRun kind (chars text) v (chars rest) → bytes
     ≡ in_bytes kind v → IsUtf8 text → IsUtf8 rest → length bytes + length rest ≤ length text
 row_room kind text rest v bytes row are ut ur =
@@ -27,7 +28,8 @@ row_room kind text rest v bytes row are ut ur =
     (are ∙ ap (in_bytes kind) row.value_is) in
     omega (arith, longer, value, shrinks.no_longer)
 
--- The buffer begins with the bytes of the units that were passed, and has room for the rest after them.
+-- The decoder's buffer begins with the value of the characters and escapes that were passed. It has room for the rest of the
+-- text.
 pub record IsFilled (kind : Kind) (text rest out : List ℕ) (at : ℕ) : Type 0 where
   pub value : List ℕ
   pub run : BeginsRun kind (chars text) value (chars rest)
@@ -92,7 +94,7 @@ piece_filled kind text rest out new after at end piece f unit fits ut ua room mo
     filled kind text after new (take at out ++ piece_bytes piece) w end row are ut ua
     (omega (arith, moved, length-append (take at out) (piece_bytes piece), long)) is
 
--- The digits of a float's text are characters.
+-- If the characters of a float's text are Unicode scalar values, the float's digits are too.
 digits_scalars : (cs : List ℕ) → scalars cs ≡ true → scalars (float_digits cs) ≡ true
 digits_scalars [] h = refl
 digits_scalars (c ∷ cs) h =
@@ -110,7 +112,7 @@ digits_scalars (c ∷ cs) h =
         more
     kept false c cs h more = more
 
--- The written digits of a float are UTF-8, and their characters are the digits.
+-- The bytes that are written for the digits of a float are UTF-8, and their characters are the digits.
 pub digits_text : (numeral bytes : List ℕ) → IsUtf8 numeral → bytes ≡ encode_utf8_all (float_digits (chars numeral))
     → IsUtf8 bytes × (chars bytes ≡ float_digits (chars numeral))
 digits_text numeral bytes u e =

@@ -1,4 +1,4 @@
--- Sequences of digits, by the bytes of a text.
+-- Sequences of digits that are parsed from the bytes of a text.
 use Rattle.rl_syntax.proofs.Common.{◌≡◌, ◌≢◌, ℕ, ◌<◌, ◌≤◌, ◌+◌, ◌⊎◌, inl, inr, Bool, true, false, ◌&&◌, ◌==◌, cond, List, [], ◌∷◌, ◌++◌, length, get_or, drop, Option, refl, sym, ap, ◌∙◌, arith, nat_lt, nat_tests, encodes-chars, digit_value, is_ascii_digit, IsUtf8, IsCharBoundary, list_all}
 use Rattle.std.proofs.lemmas.List.{drop_more}
 use Rattle.std.proofs.lemmas.Str.{chars_from_encodes, IsCharBoundary-after_ascii}
@@ -14,7 +14,7 @@ use Rattle.rl_lenient.proofs.DigitRowLemmas.{row_digit}
 abbrev Read : Type 0
 Read = Bool × Option ℕ × List ℕ
 
--- The result of parsing digits, by the class of the next character.
+-- The result of parsing digits in a base at a character, from whether the character is an underscore or a digit.
 abbrev At : ℕ → Bool → Option ℕ → ℕ → List ℕ → Bool → Bool → Read
 At r some m c cs mark digit = cond mark (run_from r some m cs)
     (cond digit (run_from r true (append_digit r m (digit_value c)) cs) (some, m, c ∷ cs))
@@ -25,7 +25,7 @@ unfolding run_from
 at_char r some m c cs mark digit e d =
     ap (λ b. At r some m c cs b (nat_lt (digit_value c) r)) e ∙ ap (λ b. At r some m c cs mark b) d
 
--- At an underscore, the result is that of the text after it.
+-- At an underscore, parsing digits gives the result for the text after the underscore.
 pub row_mark : (r : ℕ) (some : Bool) (m : Option ℕ) (s : List ℕ) (i : ℕ) → i < length s → get_or s i 0 ≡ 95
     → run_from r some m (drop (i + 1) s) ≡ run_from r some m (drop i s)
 row_mark r some m s i l e =
@@ -36,7 +36,7 @@ row_mark r some m s i l e =
 pub high_value : (c : ℕ) → 128 ≤ c → 36 ≤ digit_value c
 high_value c high = grind (arith, nat_tests)
 
--- A digit is ASCII, so the text after it begins with a character.
+-- A digit of a base up to 36 is ASCII.
 digit_low : (r c : ℕ) → r ≤ 36 → digit_value c < r → (c < 128) ⊎ (128 ≤ c) → c < 128
 digit_low r c h d (inl low) = low
 digit_low r c h d (inr high) = absurd (omega (arith, high_value c high))
@@ -56,7 +56,7 @@ is_digit c h = let e = sym (digit_is_ten c) ∙ h in grind (arith, nat_tests)
 pub no_digit : (c : ℕ) → is_ascii_digit c ≡ false → 10 ≤ digit_value c
 no_digit c h = let e = sym (digit_is_ten c) ∙ h in grind (arith, nat_tests)
 
--- At a character that is neither a digit nor an underscore, the sequence ends.
+-- At a character that is neither a digit nor an underscore, a sequence of digits ends.
 stops : (r : ℕ) (some : Bool) (m : Option ℕ) (c : ℕ) (cs : List ℕ) → c ≢ 95 → r ≤ digit_value c
     → run_from r some m (c ∷ cs) ≡ (some, m, c ∷ cs)
 stops r some m c cs n h =
@@ -68,7 +68,7 @@ stops r some m c cs n h =
 no_mark : (r c : ℕ) → r ≤ 36 → digit_value c < r → c ≢ 95
 no_mark r c h d e = let at_mark = ap digit_value e in omega arith
 
--- At a byte that is a digit, the sequence continues.
+-- At a byte that is a digit, the sequence of digits continues with the next byte.
 pub row_goes : (r : ℕ) (some : Bool) (m n : Option ℕ) (s : List ℕ) (i d : ℕ) → r ≤ 36 → i < length s → d
     ≡ digit_value (get_or s i 0) → d < r → n ≡ append_digit r m d → run_from r true n (drop (i + 1) s)
     ≡ run_from r some m (drop i s)
@@ -77,7 +77,7 @@ row_goes r some m n s i d h l value below next =
     row_digit r some m n (drop i s) (get_or s i 0) (drop (i + 1) s) d (drop_more s i 0 l)
     (no_mark r (get_or s i 0) h small) small value next
 
--- At a byte that is neither a digit nor an underscore, the sequence ends.
+-- At a byte that is neither a digit nor an underscore, a sequence of digits ends.
 pub row_stops : (r : ℕ) (some : Bool) (m : Option ℕ) (s : List ℕ) (i d : ℕ) → i < length s → d
     ≡ digit_value (get_or s i 0) → r ≤ d → get_or s i 0 ≢ 95 → run_from r some m (drop i s) ≡ (some, m, drop i s)
 row_stops r some m s i d l value large mark =
@@ -85,7 +85,7 @@ row_stops r some m s i d l value large mark =
     ap (run_from r some m) more ∙ stops r some m (get_or s i 0) (drop (i + 1) s) mark (omega arith)
     ∙ ap (λ t. (some, m, t)) (sym more)
 
--- At the end of the text, the sequence ends.
+-- At the end of the text, a sequence of digits ends.
 pub row_ends : (r : ℕ) (some : Bool) (m : Option ℕ) (s : List ℕ) (i : ℕ) → length s ≤ i → run_from r some m (drop i s)
     ≡ (some, m, drop i s)
 unfolding run_from
@@ -141,7 +141,7 @@ row_of_bytes r some m n t rest h is is_rest e =
     let left : chars rest ≡ p.2 = sym (chars_from_encodes p.2 rest is_rest (sym (ap (λ q. q.2) same))) in
     ap (λ q. (q.0, q.1, chars rest)) same ∙ ap (λ x. (p.0, p.1, x)) left
 
--- At its end, the loop has parsed the digits and underscores at the start of the text.
+-- At its end, the loop that parses digits has returned the digits and underscores at the start of the text.
 pub row_read : (r : ℕ) (some : Bool) (m n : Option ℕ) (t s rest : List ℕ) (i : ℕ) → r ≤ 36 → IsUtf8 t → IsUtf8 rest → s
     ≡ t → rest ≡ drop i t → run_from r some m (drop i s) ≡ run_from r false n s → run_from r some m (drop i s)
     ≡ (some, m, drop i s) → (some, m, chars rest) ≡ run_from r false n (chars t)
@@ -167,7 +167,7 @@ all_low test past (c ∷ cs) = go (cases128 c) (all_low test past cs)
         ∙ ap (λ z. z && list_all test (bs ++ encode_utf8_all cs)) (past b above)
         ∙ sym (ap (λ z. z && list_all test cs) (past c high))
 
--- All bytes of a text are digits exactly if all its characters are.
+-- All bytes of a text are ASCII digits exactly if all its characters are.
 pub digits_same : (t : List ℕ) → IsUtf8 t → list_all is_ascii_digit t ≡ list_all is_ascii_digit (chars t)
 digits_same t is = ap (list_all is_ascii_digit) (sym (encodes-chars t is))
     ∙ all_low is_ascii_digit (λ c h. grind (arith, nat_tests)) (chars t)

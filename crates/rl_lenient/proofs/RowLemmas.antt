@@ -1,6 +1,6 @@
 -- Sequences of characters and escapes, parsed one at a time.
 use Rattle.rl_syntax.proofs.Common.{◌≡◌, ℕ, Bool, true, false, cond, List, [], ◌∷◌, ◌++◌, None, refl, sym, ap, subst, ◌∙◌, append_assoc, append-nil, Some, encode_utf8, encode_utf8_all, AllByRecursion, list_all, and_parts}
-use Rattle.rl_lenient.proofs.Names.{flat_map-append, Kind, first_passes, QuotedUnit, Plain, CrLf, Named, Hex, Unicode, Continuation, unit_text, unit_value, is_blank, content_of, holds_characters, is_plain, IsUnit, EndsBefore, texts, values}
+use Rattle.rl_lenient.proofs.Names.{flat_map-append, Kind, first_passes, QuotedUnit, Plain, CrLf, Named, Hex, Unicode, Continuation, unit_text, unit_value, is_blank, content_of, decodes_to_chars, is_plain, IsUnit, EndsBefore, texts, values}
 use Rattle.rl_syntax.specs.Quoted.{ContinuationsEnd}
 use Rattle.rl_lenient.specs.Mirrors.UnitAt.{found, unit_at}
 use Rattle.rl_lenient.specs.UnitRuns.{RunEnds, BeginsRun}
@@ -8,7 +8,7 @@ use Rattle.rl_lenient.proofs.UnitLemmas.{some_pair, unit_sound, unit_complete}
 
 -- ---- the ends of escaped line ends
 
--- If `r` doesn't begin with white space, the text `t` begins with white space exactly if `t` followed by `r` does.
+-- If the text `r` doesn't begin with white space, the text `t` begins with white space exactly if `t ++ r` does.
 passes_on : (t r : List ℕ) → first_passes is_blank r ≡ false → first_passes is_blank (t ++ r) ≡ first_passes is_blank t
 passes_on [] r h = h
 passes_on (c ∷ t) r h = refl
@@ -29,7 +29,7 @@ ends_off (Named l) t r h e = e
 ends_off (Hex high low) t r h e = e
 ends_off (Unicode first more) t r h e = e
 
--- A character or escape can end before a text that doesn't begin with white space.
+-- A text that doesn't begin with white space may follow any character or escape.
 pub ends_before : (u : QuotedUnit) (r : List ℕ) → first_passes is_blank r ≡ false → EndsBefore u r
 ends_before (Continuation c run) r h = h
 ends_before (Plain c) r h = tt
@@ -93,7 +93,7 @@ row_step kind a v b p row h =
 -- ---- a sequence of plain characters
 
 held_nil : (kind : Kind) → content_of kind [] ≡ []
-held_nil kind = go (holds_characters kind)
+held_nil kind = go (decodes_to_chars kind)
   where
     go : (b : Bool) → cond b [] (encode_utf8_all []) ≡ []
     go true = refl
@@ -101,14 +101,15 @@ held_nil kind = go (holds_characters kind)
 
 held_more : (kind : Kind) (c : ℕ) (cs : List ℕ) → content_of kind (c ∷ []) ++ content_of kind cs
     ≡ content_of kind (c ∷ cs)
-held_more kind c cs = go (holds_characters kind)
+held_more kind c cs = go (decodes_to_chars kind)
   where
     go : (b : Bool) → cond b (c ∷ []) (encode_utf8_all (c ∷ [])) ++ cond b cs (encode_utf8_all cs)
         ≡ cond b (c ∷ cs) (encode_utf8_all (c ∷ cs))
     go true = refl
     go false = ap (λ z. z ++ encode_utf8_all cs) (append-nil (encode_utf8 c))
 
--- Each plain character continues the sequence.
+-- If plain characters follow a sequence of characters and escapes, they are part of the sequence, and their values are appended
+-- to its value.
 pub row_run : (kind : Kind) (a v run b : List ℕ) → list_all (is_plain kind) run ≡ true → BeginsRun kind a v (run ++ b)
     → BeginsRun kind a (v ++ content_of kind run) b
 row_run kind a v [] b plain row = subst (λ w. BeginsRun kind a w b)
@@ -121,7 +122,8 @@ row_run kind a v (c ∷ run) b plain row =
     ∙ ap (λ z. v ++ z) (held_more kind c run) in
     subst (λ w. BeginsRun kind a w b) value (row_run kind a (v ++ content_of kind (c ∷ [])) run b parts.1 one)
 
--- Plain characters before a sequence of characters and escapes are a sequence together with it.
+-- If plain characters precede a sequence of characters and escapes, all of them together are a sequence of characters and
+-- escapes.
 pub row_after : (kind : Kind) (run b v r : List ℕ) → list_all (is_plain kind) run ≡ true → BeginsRun kind b v r
     → (w : List ℕ) × BeginsRun kind (run ++ b) w r
 row_after kind [] b v r plain row = (v, row)
@@ -140,7 +142,7 @@ row_after kind (c ∷ run) b v r plain row =
 
 -- ---- a sequence that is as long as possible is unique
 
--- The first character or escape of a sequence is the one that `unit_at` returns.
+-- `unit_at` returns the first character or escape of a sequence of characters and escapes, with the text after it.
 first_unit : (kind : Kind) (u : QuotedUnit) (us : List QuotedUnit) (r : List ℕ) → AllByRecursion (IsUnit kind) (u ∷ us)
     → RunEnds (u ∷ us) r → unit_at kind (texts (u ∷ us) ++ r) ≡ found (unit_value kind u) (texts us ++ r)
 first_unit kind u us r each ends =

@@ -1,11 +1,11 @@
--- Sequences of characters that pass a test, and the suffixes of numbers.
+-- Leading characters of a text that pass a test (`run`), the text after them (`after_run`), and the suffixes of numbers.
 use Rattle.rl_syntax.proofs.Common.{◌≡◌, ℕ, Bool, true, false, not, ◌&&◌, ◌==◌, cond, List, [], ◌∷◌, ◌++◌, refl, ap, ◌∙◌, inl, inr, and_parts, and_from, not-true, not_from_false, list_all}
 use Rattle.rl_lenient.proofs.Names.{first_passes, xid_ok, IsSuffix, is_blank, after_run}
 use Rattle.rl_lenient.specs.Mirrors.NumberAt.{run, is_suffix}
 use Rattle.rl_lenient.specs.Mirrors.UnitAt.{after_blanks}
 use Rattle.rl_lenient.proofs.DigitRowLemmas.{run_yes, run_no}
 
--- Each character of the sequence passes the test.
+-- Each character that `run` returns passes the test.
 pub run_all : (test : ℕ → Bool) (t : List ℕ) → list_all test (run test t) ≡ true
 unfolding run
 run_all test [] = refl
@@ -16,7 +16,7 @@ run_all test (c ∷ cs) = go (run_all test cs) (test c) refl
     go ih true h = ap (λ b. b && list_all test (run test cs)) h ∙ ih
     go ih false h = refl
 
--- The text after the sequence doesn't begin with a character that passes the test.
+-- The text that `after_run` returns doesn't begin with a character that passes the test.
 pub run_ends : (test : ℕ → Bool) (t : List ℕ) → first_passes test (after_run test t) ≡ false
 run_ends test [] = refl
 run_ends test (c ∷ cs) = go (run_ends test cs) (test c) refl
@@ -26,7 +26,7 @@ run_ends test (c ∷ cs) = go (run_ends test cs) (test c) refl
     go ih true h = ih
     go ih false h = h
 
--- A text is the sequence and the text after it.
+-- A text is the leading characters that `run` returns, and the text that `after_run` returns.
 pub run_join : (test : ℕ → Bool) (t : List ℕ) → t ≡ run test t ++ after_run test t
 unfolding run
 run_join test [] = refl
@@ -37,8 +37,8 @@ run_join test (c ∷ cs) = go (run_join test cs) (test c)
     go ih true = ap (λ z. c ∷ z) ih
     go ih false = refl
 
--- If all characters of `row` pass the test, and `x` doesn't begin with a character that does, `row` is the sequence at the start
--- of `row ++ x`, and `x` follows it.
+-- If all characters of `row` pass a test, and `x` doesn't begin with a character that does, `row` is the leading sequence of
+-- passing characters of `row ++ x`, and `x` follows it.
 pub run_past : (test : ℕ → Bool) (row x : List ℕ) → list_all test row ≡ true → first_passes test x ≡ false
     → (run test (row ++ x) ≡ row) × (after_run test (row ++ x) ≡ x)
 unfolding run

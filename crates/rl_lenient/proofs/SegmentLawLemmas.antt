@@ -1,4 +1,5 @@
--- All segments of a literal, and the order of their offsets.
+-- The segments of a quoted literal, and the order of the offsets of their bytes. A segment is a sequence of plain characters, or
+-- one other character or escape.
 use Rattle.rl_syntax.proofs.Common.{◌≡◌, ◌⊎◌, inl, inr, ℕ, ◌+◌, ◌≤◌, ◌<◌, Bool, true, false, cond, ltb, List, [], ◌∷◌, ◌++◌, length, replicate, refl, sym, ap, subst, ◌∙◌, arith, append-nil, IsUtf8, encodes-chars, append_cancel_right}
 use Rattle.rl_lenient.proofs.Names.{append_cancel_left, flat_map-append, Kind, byte_len, first_passes, QuotedUnit, Plain, CrLf, Named, Hex, Unicode, Continuation, Cooked, Raw, Single, IsUnit, is_plain, opener, raw_opener, texts, unit_text, unit_value, values, HasContents, ReadsQuoted, quoted_contents}
 use Rattle.std.proofs.Common.{◌-◌, map}
@@ -116,8 +117,9 @@ all_make kind text start end ss whole p none =
 
 -- ---- offsets in order
 
--- The requirements on an offset in a character or escape: it is within its text, later bytes have later offsets, and two
--- characters or escapes with equal texts have equal offsets if both or neither represent themselves.
+-- A function that gives the offset of a byte of a value within the character or escape that the byte comes from. The offset is
+-- within the text of the character or escape. Later bytes have later offsets. Characters and escapes with equal texts have equal
+-- offsets, if both or neither represent themselves.
 pub record IsPlacing (inside : QuotedUnit → ℕ → ℕ) : Type 0 where
   pub within : (kind : Kind) (u : QuotedUnit) (at : ℕ) → at < length (unit_bytes kind u)
       → inside u at ≤ byte_len (unit_text u)
@@ -125,7 +127,7 @@ pub record IsPlacing (inside : QuotedUnit → ℕ → ℕ) : Type 0 where
   pub alike : (u w : QuotedUnit) (at : ℕ) → is_itself u ≡ is_itself w → unit_text u ≡ unit_text w → inside u at
       ≡ inside w at
 
--- The offset of a byte is within a character that is its own value.
+-- A byte of a character that represents itself has an offset within the text of the character.
 itself_within : (kind : Kind) (u : QuotedUnit) (at d : ℕ) → at < length (unit_bytes kind u) → d ≤ 1 → is_itself u ≡ true
     → at + d ≤ byte_len (unit_text u)
 itself_within kind (Plain c) at d small one is = omega (arith, small, one, ap length (held_in_bytes kind (c ∷ [])))
@@ -135,7 +137,7 @@ itself_within kind (Hex high low) at d small one is = absurd (cc)
 itself_within kind (Unicode first more) at d small one is = absurd (cc)
 itself_within kind (Continuation c run) at d small one is = absurd (cc)
 
--- A property that holds for each of two numbers holds for the one that a condition chooses.
+-- If a property holds for each of two numbers, it holds for the one that a condition chooses.
 chosen : (P : ℕ → Type 0) (b : Bool) (x y : ℕ) → (b ≡ true → P x) → P y → P (cond b x y)
 chosen P true x y f g = f refl
 chosen P false x y f g = g
@@ -178,7 +180,7 @@ order_in inside p kind (u ∷ us) at next h =
     (λ small. absurd (omega (arith, h, large, small)))
     (λ large_too. omega (arith, order_in inside p kind us (at - n) (next - n) (omega (arith, h, large)))))
 
--- The range that a byte comes from begins no later than it ends.
+-- The range of the text that a byte of the value comes from begins no later than it ends.
 ends_after : (kind : Kind) (us : List QuotedUnit) (at : ℕ) → unit_place begins_in kind us at ≤ unit_place ends_in kind
     us at
 ends_after kind [] at = omega arith
@@ -195,7 +197,7 @@ ends_after kind (u ∷ us) at =
 
 -- ---- each byte of the value of a text between quotes comes from one offset
 
--- The first character of a unit tells whether the unit is its own value.
+-- The first character of a character or escape shows whether it represents itself.
 told : (kind : Kind) (u : QuotedUnit) → IsUnit kind u → is_itself u ≡ first_passes (is_plain kind) (unit_text u)
 told kind (Plain c) h = sym h
 told kind CrLf h = sym (quote_and_return kind h).1
@@ -334,7 +336,7 @@ place_within inside p kind (u ∷ us) at =
     (λ small. omega (arith, long, p.within kind u at small))
     (λ large. omega (arith, long, place_within inside p kind us (at - n)))
 
--- The value of a unit is no longer than its text.
+-- The values of the characters and escapes of a body are no longer than the body.
 units_long : (kind : Kind) (plain : Bool) (body : List ℕ) (us : List QuotedUnit) → AreUnitsIn kind plain body us
     → (byte_len (texts us) ≡ byte_len body) × (length (units_bytes kind us) ≤ byte_len body)
 units_long kind true body us are = (
@@ -346,7 +348,7 @@ units_long kind false body us are =
     let text = ap byte_len are.text_is in
     (sym text, omega (arith, text, ap length (values_bytes kind us), (row_shrinks kind us are.each).no_longer))
 
--- If the body is the value, each byte comes from its own offset.
+-- If a body is its own value, each byte of the value comes from the byte at its offset in the body.
 itself_places : (inside : QuotedUnit → ℕ → ℕ) (d : ℕ) → ((c i : ℕ) → inside (Plain c) i ≡ i + d)
     → (kind : Kind) (plain : Bool) (body : List ℕ) (us : List QuotedUnit) (at : ℕ) → plain ≡ true
     → AreUnitsIn kind plain body us → at < byte_len body → unit_place inside kind us at ≡ at + d
@@ -355,7 +357,7 @@ itself_places inside d itself kind true body us at is are h =
     ap (λ z. unit_place inside kind z at) (are ∙ sym (append-nil (map Plain body)))
     ∙ place_in_run inside d kind body [] at itself h
 
--- The offset that a byte of the value comes from is that in the body, plus the offset where the body begins.
+-- The offset of a byte of the value in a literal's text is its offset in the body, plus the offset where the body begins.
 of_body : (inside : QuotedUnit → ℕ → ℕ) → IsPlacing inside → (kind : Kind) (t : List ℕ) (body : Body) (at place : ℕ)
     → IsUtf8 t → IsQuotedAt kind t body → IsGivenAt inside kind (chars t) at place → (us : List QuotedUnit)
     × AreUnitsIn kind body.plain (chars (body_in t body)) us × (place ≡ body.lo + unit_place inside kind us at)
@@ -388,7 +390,7 @@ stand_in inside w kind t body u q =
           (omega (arith, o.2), omega (arith, o.2, hi, whole, long.0, place_within inside w kind o.0 at));
     }
 
--- If the body is the value, the offset in the body is that in the value.
+-- If a body is its own value, the offset of a byte in the body is its offset in the value.
 itself_in : (inside : QuotedUnit → ℕ → ℕ) → IsPlacing inside → (d : ℕ) → ((c i : ℕ) → inside (Plain c) i ≡ i + d)
     → (kind : Kind) (t : List ℕ) (body : Body) → IsUtf8 t → IsQuotedAt kind t body → (at place : ℕ)
     → IsGivenAt inside kind (chars t) at place → body.plain ≡ true → at < length (body_in t body) → place
@@ -418,7 +420,7 @@ stands_in kind t body u q =
       within_end = ends.within;
     }
 
--- An offset that a byte comes from is within the text.
+-- The offset that a byte of the value comes from is within the literal's text.
 in_text : (inside : QuotedUnit → ℕ → ℕ) → IsPlacing inside → (kind : Kind) (t : List ℕ) (at place : ℕ)
     → IsGivenAt inside kind t at place → place ≤ byte_len t
 in_text inside w kind t at place p = go p.units_are

@@ -1,4 +1,5 @@
--- The segments of a quoted literal, one after another.
+-- The segments of a quoted literal, one after another. A segment is a sequence of plain characters, or one other character or
+-- escape.
 use Rattle.rl_syntax.proofs.Common.{◌≡◌, ◌==◌, ℕ, ◌+◌, ◌<◌, ◌≤◌, Bool, true, false, cond, ltb, List, [], ◌∷◌, ◌++◌, length, get_or, Some, None, refl, sym, ap, subst, ◌∙◌, arith, append_assoc, append-nil, encode_utf8, encode_utf8_all, list_all, IsUtf8, and_parts, both_ways, eqb-true, lt-ltb, ltb-false, ltb-true, encodes-append, encodes-chars, chars-nil}
 use Rattle.rl_lenient.proofs.Names.{flat_map-append, Kind, byte_len, first_passes, QuotedUnit, Plain, CrLf, Named, Hex, Unicode, Continuation, unit_text, unit_value, content_of, is_plain, is_string, IsUnit, EndsBefore, texts}
 use Rattle.std.proofs.Common.{◌-◌, map, length-append}
@@ -23,7 +24,7 @@ use Rattle.rl_lenient.proofs.FrontLenLemmas.{byte_len_append}
 
 -- ---- sequences of characters and escapes
 
--- The text begins with a character or escape of a literal of the kind.
+-- The text `t` begins with a character or escape of a literal of the kind. The record has its value, and the text after it.
 pub record UnitInFront (kind : Kind) (t v r : List ℕ) : Type 0 where
   pub unit : QuotedUnit
   pub allowed : IsUnit kind unit
@@ -50,7 +51,7 @@ row_front kind t (u ∷ us) p row h =
       run = record { each = row.each.1; ends = row.ends.1; text_is = sym same.1 };
     }
 
--- If a sequence of characters and escapes isn't empty, its text begins with one of them.
+-- If a nonempty text is a sequence of characters and escapes, `unit_at` returns the first one.
 pub row_stands : (kind : Kind) (t : List ℕ) (us : List QuotedUnit) → IsUnitRun kind t us → (t ≡ [] → ⊥) → unit_at kind t
     ≡ None → ⊥
 row_stands kind t [] row some h = some row.text_is
@@ -58,7 +59,7 @@ row_stands kind t (u ∷ us) row some h =
     let e : None ≡ found (unit_value kind u) (texts us) = sym h ∙ ap (unit_at kind) row.text_is
     ∙ unit_complete kind u (texts us) row.each.0 row.ends.0 in absurd (cc)
 
--- The text after plain characters is a sequence of characters and escapes too.
+-- If plain characters begin a sequence of characters and escapes, the text after the plain characters is a sequence of them too.
 pub row_after_run : (kind : Kind) (run b : List ℕ) (us : List QuotedUnit) → list_all (is_plain kind) run ≡ true
     → IsUnitRun kind (run ++ b) us → (ws : List QuotedUnit) × IsUnitRun kind b ws
 row_after_run kind [] b us plain row = (us, row)
@@ -99,7 +100,7 @@ run_segment kind run u = record { are = refl; bytes_are = sym (run_bytes kind (c
 
 -- ---- the segment at the start
 
--- A plain body is one segment.
+-- A body that is its own value is one segment.
 pub plain_front : (kind : Kind) (plain : Bool) (run : Bor (List ℕ)) → plain ≡ true → IsUtf8 run.now
     → IsFirstSegment kind plain (chars run.now) (Text run) (chars [])
 plain_front kind true run is u = subst (IsFirstSegment kind true (chars run.now) (Text run)) (sym chars-nil) (record {
@@ -111,7 +112,7 @@ plain_front kind true run is u = subst (IsFirstSegment kind true (chars run.now)
 })
 plain_front kind false run is u = absurd (cc)
 
--- A sequence of plain characters is the first segment.
+-- A sequence of plain characters at the start of a body is the body's first segment.
 pub run_front : (kind : Kind) (plain : Bool) (t b : List ℕ) (run : Bor (List ℕ)) → plain ≡ false → IsUtf8 run.now → t
     ≡ chars run.now ++ b → list_all (is_plain kind) (chars run.now) ≡ true → (us : List QuotedUnit)
     × AreUnitsIn kind plain t us → IsFirstSegment kind plain t (Text run) b
@@ -127,7 +128,7 @@ run_front kind false t b run is u cut plain has =
     }
 run_front kind true t b run is u cut plain has = absurd (cc)
 
--- A character or escape at a text that doesn't begin with a plain character doesn't represent itself.
+-- If a text begins with no plain character, the character or escape at its start doesn't represent itself.
 not_itself : (kind : Kind) (u : QuotedUnit) (t b : List ℕ) → IsUnit kind u → t ≡ unit_text u ++ b
     → first_passes (is_plain kind) t ≡ false → is_itself u ≡ false
 not_itself kind (Plain c) t b allowed e stops = absurd (both_ways (is_plain kind c)
@@ -167,12 +168,12 @@ unit_front kind false t b piece v is stops unit fits named value none has =
     }
 unit_front kind true t b piece v is stops unit fits named value none has = absurd (cc)
 
--- A text is split in bytes as its characters are.
+-- If the characters of a text are those of two texts one after the other, the text is these two texts one after the other.
 pub cut_bytes : (t a b : List ℕ) → IsUtf8 t → IsUtf8 a → IsUtf8 b → chars t ≡ chars a ++ chars b → t ≡ a ++ b
 cut_bytes t a b ut ua ub e = sym (encodes-chars t ut) ∙ ap encode_utf8_all e ∙ encodes-append (chars a) (chars b)
     ∙ ap (λ z. z ++ encode_utf8_all (chars b)) (encodes-chars a ua) ∙ ap (λ z. a ++ z) (encodes-chars b ub)
 
--- If the text isn't its own value byte for byte, it is a sequence of characters and escapes.
+-- If a body isn't its own value byte for byte, it is a sequence of characters and escapes.
 pub row_of : (kind : Kind) (plain : Bool) (t : List ℕ) → plain ≡ false → (us : List QuotedUnit)
     × AreUnitsIn kind plain t us → (us : List QuotedUnit) × IsUnitRun kind t us
 row_of kind false t is has = has
@@ -184,7 +185,7 @@ unit_there kind plain text is u some has none =
     let row = row_of kind plain (chars text) is has in
     row_stands kind (chars text) row.0 row.1 (λ e. some (sym (encodes-chars text u) ∙ ap encode_utf8_all e)) none
 
--- A text is empty exactly if its length is 0.
+-- If a test says that a list isn't empty, its length is above 0.
 pub some_length : (empty : Bool) (xs : List ℕ) → empty ≡ (length xs == 0) → empty ≡ false → 0 < length xs
 some_length empty [] e some = absurd (both_ways empty some e)
 some_length empty (x ∷ xs) e some = omega arith
@@ -222,7 +223,7 @@ takes_segment kind plain end rest after v s u f longest whole_body =
       same_end = omega (arith, long, s.room);
     }
 
--- A segment of text is as long as possible.
+-- A segment of plain characters is as long as possible.
 pub text_longest : (kind : Kind) (run : Bor (List ℕ)) (rest : List ℕ)
     → (is_string kind ≡ true → first_passes (is_plain kind) rest ≡ false) → IsLongest kind (Text run) rest
 text_longest kind run rest h = h
@@ -235,7 +236,7 @@ other_longest kind Nothing rest none = tt
 
 -- ---- offsets
 
--- A property that holds for each of two values holds for the one that the test of an offset against a length chooses.
+-- If a property holds for each of two values, it holds for the one that a comparison of two numbers chooses.
 pub tested : {A : Type 0} (P : A → Type 0) (a n : ℕ) (x y : A) → (a < n → P x) → (n ≤ a → P y) → P (cond (ltb a n) x y)
 tested P a n x y f g = go (ltb a n) refl
   where
@@ -243,7 +244,8 @@ tested P a n x y f g = go (ltb a n) refl
     go true e = f (ltb-true a n e)
     go false e = g (ltb-false a n e)
 
--- The offset of a byte after the values of some characters and escapes.
+-- If a byte of the value comes after the values of some characters and escapes, its offset is the length of their text and the
+-- offset in the text after them.
 pub place_past : (inside : QuotedUnit → ℕ → ℕ) (kind : Kind) (done us : List QuotedUnit) (at left : ℕ) → at
     ≡ length (units_bytes kind done) + left → unit_place inside kind (done ++ us) at
     ≡ byte_len (texts done) + unit_place inside kind us left
@@ -261,7 +263,8 @@ place_past inside kind (u ∷ done) us at left e =
     (λ small. absurd (omega (arith, total, small)))
     (λ large. omega (arith, more, byte_len_append (unit_text u) (texts done)))
 
--- The offset of a byte in a sequence of plain characters is the byte's own offset, plus `d`.
+-- The offset of a byte in a sequence of plain characters is the byte's position in the sequence, plus `d`. For the offset where
+-- the byte begins, `d` is 0, and for the offset where it ends, `d` is 1.
 pub place_in_run : (inside : QuotedUnit → ℕ → ℕ) (d : ℕ) (kind : Kind) (cs : List ℕ) (us : List QuotedUnit) (at : ℕ)
     → ((c i : ℕ) → inside (Plain c) i ≡ i + d) → at < length (encode_utf8_all cs)
     → unit_place inside kind (map Plain cs ++ us) at ≡ at + d
@@ -282,12 +285,12 @@ begins_plain c i = omega arith
 pub ends_plain : (c i : ℕ) → ends_in (Plain c) i ≡ i + 1
 ends_plain c i = refl
 
--- The offset of a byte of a character or escape.
+-- The offset of a byte of the first character or escape of a sequence is the offset within this character or escape.
 pub place_in_unit : (inside : QuotedUnit → ℕ → ℕ) (kind : Kind) (u : QuotedUnit) (us : List QuotedUnit) (at : ℕ)
     → at < length (unit_bytes kind u) → unit_place inside kind (u ∷ us) at ≡ inside u at
 place_in_unit inside kind u us at small = rw (lt-ltb at (length (unit_bytes kind u)) small) refl
 
--- The offset of a byte in a segment that is one escape or one line end CR LF.
+-- The segment is one escape or one line end CR LF. The offset of a byte in it is that in the escape or line end.
 pub record IsOneUnit (inside : QuotedUnit → ℕ → ℕ) (kind : Kind) (units us : List QuotedUnit) (at : ℕ) : Type 0 where
   pub unit : QuotedUnit
   pub are : units ≡ unit ∷ []
@@ -352,7 +355,7 @@ ends_in_segment kind (Byte b) units us lo hi at s long small = omega
     (arith, long, one_ends kind units us at (one_place_in ends_in kind (Byte b) units us at s.are s.bytes_are small))
 ends_in_segment kind Nothing units us lo hi at s long small = absurd (omega (arith, small))
 
--- A segment of text is as long as its value.
+-- A segment of plain characters is as long in bytes as its value.
 pub text_long : (kind : Kind) (v : SegmentValue) (run : Bor (List ℕ)) (units : List QuotedUnit)
     → IsSegmentOf kind v units → v ≡ Text run → length (value_bytes v) ≡ byte_len (texts units)
 text_long kind v run units s e = go v e s
@@ -365,7 +368,7 @@ text_long kind v run units s e = go v e s
     go (Byte b) e s = absurd (cc)
     go Nothing e s = absurd (cc)
 
--- The offset that a byte comes from is within its segment.
+-- The offset that a byte of a segment's value comes from is before the end of the segment.
 pub place_below : (kind : Kind) (s : Segment) (units : List QuotedUnit) (i : ℕ) → IsSegmentOf kind s.value units → s.hi
     ≡ s.lo + byte_len (texts units) → s.lo < s.hi → i < length (value_bytes s.value) → segment_place s i < s.hi
 place_below kind s units i is_segment long some small = go s.value refl
@@ -383,7 +386,7 @@ place_below kind s units i is_segment long some small = go s.value refl
     go (Byte b) e = omega (arith, some, ap (λ z. value_place z i) e)
     go Nothing e = omega (arith, some, ap (λ z. value_place z i) e)
 
--- An offset after the values of all characters and escapes is mapped to the end of their text.
+-- An offset at or after the end of the values of characters and escapes is mapped to the end of their text.
 pub place_at_end : (inside : QuotedUnit → ℕ → ℕ) (kind : Kind) (us : List QuotedUnit) (at : ℕ)
     → length (units_bytes kind us) ≤ at → unit_place inside kind us at ≡ byte_len (texts us)
 place_at_end inside kind us at h =
@@ -482,7 +485,7 @@ past_left inside s at place p e = record { units = p.units; are_left = p.are_lef
 
 -- ---- tables
 
--- The offset of a byte is unchanged by later characters and escapes.
+-- The offset that a byte comes from is unchanged by the characters and escapes after it.
 pub place_before : (inside : QuotedUnit → ℕ → ℕ) (kind : Kind) (done more : List QuotedUnit) (at : ℕ)
     → at < length (units_bytes kind done) → unit_place inside kind (done ++ more) at ≡ unit_place inside kind done at
 place_before inside kind [] more at h = absurd (omega (arith, h))
@@ -500,7 +503,7 @@ place_before inside kind (u ∷ done) more at h =
     go true e ih = refl
     go false e ih = ap (λ z. byte_len (unit_text u) + z) (ih (ltb-false at (length (unit_bytes kind u)) e))
 
--- The span of the part that a byte comes from.
+-- Returns the span of the part of a literal that a byte of the literal's value comes from.
 abbrev pub unit_span : SegmentsState → Span → List QuotedUnit → ℕ → Span
 unit_span s base units at = span_from base (s.at + unit_place begins_in s.kind units at)
     (s.at + unit_place ends_in s.kind units at)
@@ -589,7 +592,7 @@ tabled_all start now base table grown t none is =
           (omega (arith, t.place_is, ends)));
     }
 
--- The segment ends within the span `base`.
+-- If the span `base` contains the whole text of a cursor, each segment that the cursor returns ends within `base`.
 pub segment_fits : (start old new : SegmentsState) (base : Span) (table : List Span) (s : Segment)
     → IsTabled start old base table → TakesSegment old s new → base.lo + (start.at + length start.rest) ≤ base.hi
     → base.lo + s.hi ≤ base.hi

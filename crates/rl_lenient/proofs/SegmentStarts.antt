@@ -1,4 +1,4 @@
--- The segments of a whole literal.
+-- The segments of a whole literal. A segment is a sequence of plain characters, or one other character or escape.
 use Rattle.rl_syntax.proofs.Common.{◌≡◌, ◌⊎◌, inl, inr, ℕ, ◌+◌, ◌≤◌, Bool, true, false, List, [], ◌∷◌, ◌++◌, length, drop, refl, sym, ap, subst, ◌∙◌, arith, append-nil, both_ways, list_all, IsUtf8}
 use Rattle.rl_lenient.proofs.Names.{Kind, Str, ByteStr, CStr, Byte, Char, QuotedUnit, Plain, CrLf, Named, Hex, Unicode, Continuation, is_plain, is_single, is_string, opener, texts, unit_text, unit_value, values, Reads, Contents, ReadsQuoted}
 use Rattle.std.proofs.Common.{◌-◌, map, length-drop}
@@ -29,7 +29,7 @@ plain_row kind cs plain = subst (IsUnitRun kind cs) (append-nil (map Plain cs))
     (subst (λ z. IsUnitRun kind z (map Plain cs ++ [])) (append-nil cs)
     (run_joined kind cs [] [] plain (nothing_row kind)))
 
--- Any sequence of characters and escapes with the body's text is that of the string.
+-- If the text of a sequence of characters and escapes is the body of a string literal, it is the literal's sequence.
 cooked_units : (kind : Kind) (t v body x : List ℕ) (units : List QuotedUnit) (lo : ℕ)
     → PartsAre CookedForm kind t v body x → IsUnitRun kind body units → lo ≡ length (opener kind)
     → AreUnitsOf kind t units lo
@@ -61,7 +61,8 @@ append_nothing : (a b : List ℕ) → a ++ b ≡ [] → a ≡ []
 append_nothing [] b e = refl
 append_nothing (c ∷ a) b e = absurd (cc)
 
--- A sequence with the text of one character or escape consists of only that one.
+-- If the text of a sequence of characters and escapes is the body of a character or byte literal, it is the literal's sequence,
+-- which has only one element.
 single_units : (kind : Kind) (t v body x : List ℕ) (units : List QuotedUnit) (lo : ℕ)
     → PartsAre SingleForm kind t v body x → IsUnitRun kind body units → lo ≡ length (opener kind)
     → AreUnitsOf kind t units lo
@@ -134,7 +135,7 @@ body_long t body s =
           (omega (arith, within, s.ordered, length-drop body.lo t)),
     )
 
--- The closing quote is within the text.
+-- The body of a literal ends within the literal's text.
 pub ends_in_text : (t rest : List ℕ) (body : Body) → rest ≡ body_in t body → IsBodyWithin t body
     → (body.hi - length rest) + length rest ≤ length t
 ends_in_text t rest body is s = omega (arith, ap length is, body_long t body s, s.ends.0)
@@ -203,7 +204,7 @@ quoted_kind kind t v x r = elim r.form [
   | inr o ↦ elim o [ inl w ↦ has_quotes kind (inl w.string) | inr s ↦ has_quotes kind (inr s.single) ]
 ]
 
--- A text that begins with another literal begins with no quoted one.
+-- A text that is a literal of an unquoted kind isn't a quoted literal.
 pub no_quoted : (t : List ℕ) (kind : Kind) → ((v : Contents) × (x : List ℕ) × Reads t kind v x) → is_quoted kind ≡ false
     → HasNoQuoted t
 no_quoted t kind reads other k v x r =

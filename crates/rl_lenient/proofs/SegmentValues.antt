@@ -1,7 +1,7 @@
--- The segment values of escapes, CR LF and escaped line ends. The characters and escapes of one segment have only one segment
+-- The segment values of escapes, CR LF and escaped line ends. The characters and escapes of a segment have only one segment
 -- value.
 use Rattle.rl_syntax.proofs.Common.{◌≡◌, ◌==◌, ℕ, ◌||◌, Bool, true, false, not, cond, ltb, List, [], ◌∷◌, ◌++◌, refl, sym, ap, subst, ◌∙◌, both_ways, encode_utf8_all, eqb-true, ltb-true, or_cases}
-use Rattle.rl_lenient.proofs.Names.{IsScalar, Kind, QuotedUnit, Plain, CrLf, Named, Hex, Unicode, Continuation, LowerN, LowerR, LowerT, Backslash, Apostrophe, Quote, Zero, letter_value, hex_value, unicode_value, unit_text, unit_value, content_of, holds_characters, is_line_end, IsUnit}
+use Rattle.rl_lenient.proofs.Names.{IsScalar, Kind, QuotedUnit, Plain, CrLf, Named, Hex, Unicode, Continuation, LowerN, LowerR, LowerT, Backslash, Apostrophe, Quote, Zero, letter_value, hex_value, unicode_value, unit_text, unit_value, content_of, decodes_to_chars, is_line_end, IsUnit}
 use Rattle.std.proofs.Common.{inl, inr, map}
 use Rattle.std.specs.Str.{chars}
 use Rattle.std.proofs.lemmas.Str.{chars-encodes, encode_ascii}
@@ -26,12 +26,12 @@ number_bytes false n h = refl
 
 pub segment_bytes : (kind : Kind) (p : Piece) → IsHeldBy kind p → value_bytes (piece_segment kind p) ≡ piece_bytes p
 segment_bytes kind (Character c) h = refl
-segment_bytes kind (BytePiece b) h = number_bytes (holds_characters kind) b h
+segment_bytes kind (BytePiece b) h = number_bytes (decodes_to_chars kind) b h
 segment_bytes kind NothingPiece h = refl
 
 -- ---- the parsed value of a character or escape
 
--- The escape is `\u{..}`, whose value is a character in literals of every kind.
+-- Whether an escape is `\u{..}`, whose value is a character in literals of every kind.
 abbrev is_unicode : QuotedUnit → Bool
 is_unicode (Unicode first more) = true
 is_unicode _ = false
@@ -57,10 +57,10 @@ character_named kind (Hex high low) b allowed other = refl
 character_named kind (Unicode first more) b allowed other = refl
 character_named kind (Continuation c run) b allowed other = no_line_end c allowed.1
 
--- Characters with one value are equal.
+-- If two characters have equal values in literals of a kind, they are equal.
 one_content : (kind : Kind) (n c : ℕ) → IsScalar n → IsScalar c → content_of kind (n ∷ []) ≡ content_of kind (c ∷ [])
     → n ≡ c
-one_content kind n c s t e = go (holds_characters kind) e
+one_content kind n c s t e = go (decodes_to_chars kind) e
   where
     go : (b : Bool) → cond b (n ∷ []) (encode_utf8_all (n ∷ [])) ≡ cond b (c ∷ []) (encode_utf8_all (c ∷ [])) → n ≡ c
     go true e = cc
@@ -97,7 +97,7 @@ piece_as_unit kind p (Unicode first more) held allowed other e named = unicode_p
     held allowed.4 e named
 piece_as_unit kind p (Continuation c run) held allowed other e named = no_piece kind p e named
 
--- The parsed value of the first character or escape gives its segment.
+-- The segment value of the first character or escape of a text is that of its parsed value.
 pub piece_in_front : (kind : Kind) (p : Piece) (u : QuotedUnit) (t b : List ℕ) → IsHeldBy kind p → IsUnit kind u
     → is_itself u ≡ false → t ≡ unit_text u ++ b → piece_value kind p ≡ unit_value kind u
     → is_character p ≡ is_character_at kind t → piece_segment kind p ≡ unit_segment kind u

@@ -47,7 +47,8 @@ quote_bytes cs = refl
 
 -- ---- the parts of a literal, joined as bytes
 
--- The bytes of an ASCII text that precedes another text are its characters.
+-- If an ASCII text precedes a second text, the bytes of both are the characters of the ASCII text, and then the bytes of the
+-- second.
 front_bytes : (front cs bs : List ℕ) → encode_utf8_all front ≡ front → encode_utf8_all cs ≡ bs
     → encode_utf8_all (front ++ cs) ≡ front ++ bs
 front_bytes front cs bs f e = encodes-append front cs ∙ ap (λ z. z ++ encode_utf8_all cs) f ∙ ap (λ z. front ++ z) e
@@ -56,7 +57,7 @@ text_bytes : (xs cs bs : List ℕ) → IsUtf8 xs → encode_utf8_all cs ≡ bs �
 text_bytes xs cs bs u e = encodes-append (chars xs) cs ∙ ap (λ z. z ++ encode_utf8_all cs) (encodes-chars xs u)
     ∙ ap (λ z. xs ++ z) e
 
--- A text is the bytes of its characters.
+-- A UTF-8 text is the encoding of its characters.
 whole : (t cs bs : List ℕ) → IsUtf8 t → chars t ≡ cs → encode_utf8_all cs ≡ bs → t ≡ bs
 whole t cs bs u e b = sym (encodes-chars t u) ∙ ap encode_utf8_all e ∙ b
 

@@ -17,7 +17,7 @@ use Rattle.rl_lenient.proofs.UnitLemmas.{some_pair, unit_complete, unit_sound}
 
 -- ---- the value of one character or escape
 
--- A kind of literals with one character or escape is `Byte` or `Char`.
+-- A property of `Byte` and of `Char` holds for each kind of literals with a single character or escape.
 by_single : (P : Kind → Type 0) (kind : Kind) → is_single kind ≡ true → P Byte → P Char → P kind
 by_single P Byte s b c = b
 by_single P Char s b c = c
@@ -30,7 +30,7 @@ unit_one kind a p s unit =
     let begun = unit_sound kind a p unit in
     let one = one_value kind begun.unit s begun.allowed in (one.0, begun.value_is ∙ one.1)
 
--- If the value of a character in a literal of the kind is one number, that number is the character.
+-- The value of a character in a character or byte literal is the number of the character, if the value is one number.
 pub character_unit : (kind : Kind) (c n : ℕ) → is_single kind ≡ true → IsScalar c → piece_value kind (Character c)
     ≡ n ∷ [] → IsUnitValue kind (piece_value kind (Character c)) c
 character_unit kind c n s scalar one = by_single (λ k. piece_value k (Character c) ≡ n ∷ []
@@ -44,7 +44,7 @@ character_unit kind c n s scalar one = by_single (λ k. piece_value k (Character
     of_character : c ∷ [] ≡ n ∷ [] → IsUnitValue Char (c ∷ []) c
     of_character e = record { one = λ h. refl; byte = λ h. absurd (cc); character = λ h. scalar; none = λ h k. absurd (k refl) }
 
--- The value of a byte in a character or byte literal is that number.
+-- The value of a byte in a character or byte literal is the number of the byte.
 pub byte_unit : (kind : Kind) (b : ℕ) → is_single kind ≡ true → b < 256 → IsUnitValue kind (b ∷ []) b
 byte_unit kind b s small = by_single (λ k. IsUnitValue k (b ∷ []) b) kind s of_byte of_character
   where
@@ -58,7 +58,7 @@ byte_unit kind b s small = by_single (λ k. IsUnitValue k (b ∷ []) b) kind s o
 pub no_unit : (kind : Kind) (v : List ℕ) → is_string kind ≡ true → IsUnitValue kind v 0
 no_unit kind v s = record { one = λ h. absurd (not_both kind s h); byte = λ h. omega arith; character = λ h. refl; none = λ h k. refl }
 
--- The number is the value of the character or byte literal.
+-- If the value of a character or byte literal's parts is one number, the number is the literal's value.
 pub unit_reads : (form : QuotedForm) (kind : Kind) (t v body x : List ℕ) (n : ℕ) → is_single kind ≡ true
     → PartsAre form kind t v body x → IsUnitValue kind v n → IsUnitOf kind t n
 unit_reads form kind t v body x n s parts is = by_single (λ k. PartsAre form k t v body x → IsUnitValue k v n
@@ -80,18 +80,18 @@ body_unit kind t body has =
     ap (unit_at kind) (has.parts.1 ∙ sym (append-nil (unit_text s.unit)))
     ∙ (unit_complete kind s.unit [] s.is_unit (ends_before s.unit [] refl) ∙ ap (λ v. found v []) (sym s.value_is))
 
--- The body of a character or byte literal begins with a character or escape.
+-- `unit_at` finds a character or escape at the start of the body of a character or byte literal.
 pub body_stands : (kind : Kind) (t body : List ℕ) → HasSingleBody kind t body → unit_at kind (chars body) ≡ None → ⊥
 body_stands kind t body has none =
     let e : None ≡ found has.value [] = sym none ∙ body_unit kind t body has in
     absurd (cc)
 
--- The value of the character or escape in the body is one number.
+-- The value of the character or escape in the body of a character or byte literal is one number.
 pub body_one : (kind : Kind) (t body : List ℕ) (p : List ℕ × List ℕ) → HasSingleBody kind t body
     → unit_at kind (chars body) ≡ Some p → (n : ℕ) × (p.0 ≡ n ∷ [])
 body_one kind t body p has unit = unit_one kind (chars body) p has.parts.0.single unit
 
--- The number of the body's character or escape is the value of the literal.
+-- The number of the character or escape in a literal's body is the value of the character or byte literal.
 pub body_reads : (kind : Kind) (t body : List ℕ) (p : List ℕ × List ℕ) (n : ℕ) → HasSingleBody kind t body
     → unit_at kind (chars body) ≡ Some p → IsUnitValue kind p.0 n → IsUnitOf kind t n
 body_reads kind t body p n has unit is =

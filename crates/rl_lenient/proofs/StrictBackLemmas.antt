@@ -8,8 +8,8 @@ use Rattle.rl_syntax.specs.Strict.{spaced_digit, is_octal, is_unicode_escape, Ha
 use Rattle.rl_syntax.proofs.Basics.{hex_is_sixteen}
 use Rattle.rl_syntax.proofs.StrictQuoted.{hex_first, bare_digits, digits_count}
 
--- The character or escape of Rust's grammar with the text and the value of one of `syn`'s. It isn't an escaped line
--- end.
+-- A character or escape of Rust's grammar, other than an escaped line end, that has the text and the value of one of `syn`'s
+-- grammar.
 pub record Back (k : Kind) (u : QuotedUnit) : Type 0 where
   pub unit : StrictUnit
   pub is_unit : is_strict_unit k unit ≡ true
@@ -17,7 +17,7 @@ pub record Back (k : Kind) (u : QuotedUnit) : Type 0 where
   pub text_is : unit_text u ≡ strict_text unit
   pub value_is : unit_value k u ≡ strict_contents (strict_content_of k) unit
 
--- The kind is one of the quoted ones.
+-- Whether a kind is one of the quoted kinds.
 abbrev pub HasStrictUnits : Kind → Type 0
 HasStrictUnits k = HasUnits k (Itself 0 ∷ [])
 
@@ -38,13 +38,13 @@ plain_is_bare kind c n = refl
 
 -- ---- escapes of a backslash and one character
 
--- Each kind has the escapes of a backslash and a letter, as `\n`.
+-- Each kind of quoted literals has the escapes of a backslash and a letter, as `\n`.
 escape_letter : (k : Kind) (letter : ℕ) → eqb letter 48 ≡ false → is_strict_unit Str (PlainEscape letter) ≡ true
     → is_strict_unit k (PlainEscape letter) ≡ true
 escape_letter CStr letter n h = and_from _ _ h (not_from_false _ n)
 escape_letter _ letter n h = h
 
--- All kinds except C strings have the escape `\0`.
+-- All kinds of quoted literals except C strings have the escape `\0`.
 zero_letter : (k : Kind) → allows_code k 0 ≡ true → is_strict_unit k (PlainEscape 48) ≡ true
 zero_letter CStr h = absurd (cc)
 zero_letter _ h = refl
@@ -104,8 +104,7 @@ hex_escape kind high low q u = absurd q
 
 -- ---- digits, each with the number of underscores after it
 
--- The digits of a text, each with the number of underscores after it, where one digit and n underscores precede the
--- text.
+-- Returns the digits of a text, each with the number of underscores after it. One digit and n underscores precede the text.
 abbrev group : ℕ → ℕ → List ℕ → List (ℕ × ℕ)
 group first n [] = (first, n) ∷ []
 group first n (c ∷ cs) = cond (eqb c 95) (group first (suc n) cs) ((first, n) ∷ group c 0 cs)
@@ -115,7 +114,8 @@ underscore_more : (n : ℕ) (cs : List ℕ) → replicate (suc n) 95 ++ cs ≡ r
 underscore_more zero cs = refl
 underscore_more (suc n) cs = ap (λ z. 95 ∷ z) (underscore_more n cs)
 
--- The digits in the list, each with its underscores, are the text from which the list was made.
+-- The list `group` of an escape's digits, written with the underscores after each digit, is the text from which the list was
+-- made.
 group_text : (first n : ℕ) (cs : List ℕ) → flat_map spaced_digit (group first n cs) ≡ first ∷ (replicate n 95 ++ cs)
 group_text first n [] = refl
 group_text first n (c ∷ cs) =
@@ -127,7 +127,7 @@ group_text first n (c ∷ cs) =
           ∙ ap (λ z. first ∷ (replicate n 95 ++ z)) (group_text c 0 cs)
     ]
 
--- Each digit in the list is hexadecimal.
+-- Each digit in the list `group` of an escape's digits is hexadecimal.
 group_hex : (first n : ℕ) (cs : List ℕ) → is_hex_digit first ≡ true
     → list_all (λ c. is_underscore c || is_hex_digit c) cs ≡ true → list_all hex_first (group first n cs) ≡ true
 group_hex first n [] h each = and_from _ _ (hex_digit_back first h) refl
@@ -140,7 +140,7 @@ group_hex first n (c ∷ cs) h each =
           ∙ and_from _ _ (hex_digit_back first h) (group_hex c 0 cs (ap (λ b. b || is_hex_digit c) (sym a) ∙ p.0) p.1)
     ]
 
--- The list of digits isn't empty.
+-- The list `group` of an escape's digits isn't empty.
 group_some : (first n : ℕ) (cs : List ℕ) → nat_le 1 (length (group first n cs)) ≡ true
 group_some first n [] = refl
 group_some first n (c ∷ cs) =
@@ -151,13 +151,13 @@ group_some first n (c ∷ cs) =
           ∙ le-leb 1 _ (omega arith)
     ]
 
--- The digits in the list represent the escape's number.
+-- The digits in the list `group` of an escape `\u{..}` represent the number of the escape.
 unicode_number : (first : ℕ) (more : List ℕ) → list_all hex_first (group first 0 more) ≡ true
     → place_value 16 (map (λ d. d.0) (group first 0 more)) ≡ unicode_value first more
 unicode_number first more h =
     ap (place_value 16) (sym (bare_digits (group first 0 more) h) ∙ ap without_underscores (group_text first 0 more))
 
--- The digits of an escape `\u{..}` that `syn`'s grammar allows, Rust's grammar allows too.
+-- If `syn`'s grammar allows the digits of an escape `\u{..}`, Rust's grammar allows them too.
 unicode_allowed : (first : ℕ) (more : List ℕ) → is_hex_digit first ≡ true
     → list_all (λ c. is_underscore c || is_hex_digit c) more ≡ true → length (without_underscores (first ∷ more)) ≤ 6
     → IsScalar (unicode_value first more) → is_unicode_escape (group first 0 more) ≡ true

@@ -14,7 +14,7 @@ pub use Rattle.rl_lenient.specs.StrictUnits.{BreakEnds as MayEnd}
 
 -- ---- the text after a character or escape
 
--- Only an escaped line end has a condition on the text after it.
+-- A character or escape of Rust's grammar that isn't an escaped line end may be followed by any text.
 pub no_break_ends : (u : StrictUnit) (r : List ℕ) → ((blanks : List ℕ) → u ≡ LineBreak blanks → ⊥) → MayEnd u r
 no_break_ends (LineBreak blanks) r n = absurd (n blanks refl)
 no_break_ends (Itself c) r n = tt
@@ -32,8 +32,8 @@ line_allowed ByteStr blanks s h = h
 line_allowed CStr blanks s h = h
 line_allowed kind blanks s h = absurd (cc)
 
--- If a character or escape may end before the text of a sequence, each escaped line end of the longer sequence includes all white
--- space after it.
+-- If a character or escape is put before a sequence, and the start of the sequence may follow it, each escaped line end of the
+-- longer sequence includes all white space after it.
 pub blanks_cons : (u : StrictUnit) (us : List StrictUnit) → MayEnd u (flat_map strict_text us) → BlanksEnd us
     → BlanksEnd (u ∷ us)
 blanks_cons (LineBreak blanks) us m b = (m, b)
@@ -55,8 +55,8 @@ IsByteKind _ = ⊥
 
 -- ---- a character or escape
 
--- The character or escape of Rust's grammar with the text and the value of one of `syn`'s grammar. It may end before each text
--- before which that one may end.
+-- The character or escape of Rust's grammar with the text and the value of one of `syn`'s grammar. If a text may follow that of
+-- `syn`'s grammar, it may follow this one too.
 record Same (k : Kind) (u : QuotedUnit) : Type 0 where
   unit : StrictUnit
   is_unit : is_strict_unit k unit ≡ true
@@ -64,7 +64,8 @@ record Same (k : Kind) (u : QuotedUnit) : Type 0 where
   value_is : unit_value k u ≡ strict_contents (strict_content_of k) unit
   may_end : (t : List ℕ) → EndsBefore u t → MayEnd unit t
 
--- An escape has an equal one in Rust's grammar.
+-- If an escape of `syn`'s grammar has an equal one in Rust's grammar, each text that may follow the first one may follow the
+-- second one.
 escape_same : (k : Kind) (u : QuotedUnit) → Back k u → Same k u
 escape_same k u b = record { unit = b.unit; is_unit = b.is_unit; text_is = b.text_is; value_is = b.value_is; may_end = λ t e. no_break_ends b.unit t b.no_break }
 
@@ -73,7 +74,7 @@ quoted_kind ByteStr b = tt
 quoted_kind Byte b = refl
 quoted_kind kind b = absurd b
 
--- The value of an ASCII character in a byte string is its byte.
+-- The value of an ASCII character in a byte string is the byte of the character.
 low_value : (c : ℕ) (more : Bool) → (nat_lt c 128 && more) ≡ true → unit_value ByteStr (Plain c) ≡ c ∷ []
 low_value c more h = ap (λ z. z ++ []) (encode_ascii c (ltb-true c 128 (and_parts (nat_lt c 128) more h).0))
 

@@ -1,10 +1,11 @@
--- A magnitude that is computed from its first digits and its last digits.
+-- The magnitude of a number is computed from its first digits and its last digits.
 use Rattle.rl_syntax.proofs.Common.{◌≡◌, ℕ, ◌+◌, ◌*◌, ◌<◌, ◌≤◌, Option, Some, None, refl, sym, ap, ◌∙◌, arith}
 use Rattle.std.proofs.Math.Nat.{mul-le-mul_left}
 use Rattle.rl_lenient.specs.Mirrors.NumberAt.{append_digit, capped}
 use Rattle.rl_lenient.proofs.DigitRowLemmas.{append_capped, capped_within}
 
--- A number whose last digits get one more digit, multiplied out.
+-- Arithmetic: if the digits of a number are its first digits w and its last digits v, a digit d that is appended to the last
+-- digits is appended to the number.
 spread : (w s r v d : ℕ) → w * (s * r) + (v * r + d) ≡ (w * s + v) * r + d
 spread w s r v d = omega arith
 
@@ -14,10 +15,10 @@ pub append_last : (s r : ℕ) (m : Option ℕ) (v d : ℕ) → 1 ≤ r → appen
 append_last s r None v d h = refl
 append_last s r (Some w) v d h = ap capped (spread w s r v d) ∙ sym (append_capped r (w * s + v) d h)
 
--- A small number with one more digit fits 64 bits.
+-- A number below 2^58, with one more digit in a base up to 36, fits 64 bits.
 pub stays_small : (v r d : ℕ) → v < 288230376151711744 → r ≤ 36 → d < r → v * r + d < 18446744073709551615
 stays_small v r d h k l = omega (arith, mul-le-mul_left v k)
 
--- A small number with one more digit is the number of all digits.
+-- If a number with one more digit fits 64 bits, appending the digit gives that number, which is within 128 bits.
 pub append_small : (v r d : ℕ) → v * r + d < 18446744073709551615 → Some (v * r + d) ≡ append_digit r (Some v) d
 append_small v r d h = sym (capped_within (v * r + d) (omega arith))

@@ -1,4 +1,4 @@
--- A text begins with a unit exactly where `unit_at` returns it.
+-- A text begins with a unit (a plain character or an escape) exactly where `unit_at` returns it.
 use Rattle.rl_syntax.proofs.Common.{◌≡◌, ℕ, suc, ◌+◌, ◌*◌, ◌^◌, ◌<◌, ◌≤◌, ◌||◌, ◌&&◌, Bool, true, false, cond, eqb, ltb, List, [], ◌∷◌, ◌++◌, length, Option, Some, None, refl, sym, ap, subst, ◌∙◌, ◌⊎◌, inl, inr, arith, append_assoc, option_and_then, list_all, digit_value, scalar, and_from, and_parts, both_ways, cases_Bool, eqb-true, ltb-true, lt-ltb, ne_eqb, or_cases, or_right}
 use Rattle.rl_lenient.proofs.Names.{IsScalar, pow-suc, Kind, Str, ByteStr, CStr, Byte, Char, Int, Float, BoolKind, first_passes, is_underscore, QuotedUnit, Letter, Plain, CrLf, Named, Hex, Unicode, Continuation, LowerN, LowerR, LowerT, Backslash, Apostrophe, Quote, Zero, letter_value, letter_text, unit_text, unit_value, unicode_value, without_underscores, place_value, content_of, hex_value, is_hex_digit, is_blank, is_line_end, is_string, is_plain, allows_code, may_be_hex, allows_unicode_escapes, IsUnit, EndsBefore}
 use Rattle.std.proofs.lemmas.Bool.Decides.{eqb_tells}
@@ -10,12 +10,12 @@ chosen : {A : Type 0} (b : Bool) (x y z : A) → cond b x y ≡ z → ((b ≡ tr
 chosen true x y z h = inl (refl, h)
 chosen false x y z h = inr (refl, h)
 
--- If a choice returns a value, its condition is true.
+-- If a choice between a value and `None` returns the value, its condition is true.
 allowed_some : {A : Type 0} (b : Bool) (x y : A) → cond b (Some x) None ≡ Some y → (b ≡ true) × (Some x ≡ Some y)
 allowed_some true x y h = (refl, h)
 allowed_some false x y h = absurd (cc)
 
--- If a function of an option's value returned a value, the option has one.
+-- If `option_and_then` returns a value, the option has a value, and the function returns the result for it.
 bind_some : {A B : Type 0} (o : Option A) (f : A → Option B) (y : B) → option_and_then f o ≡ Some y → (x : A)
     × (o ≡ Some x) × (f x ≡ Some y)
 bind_some None f y h = absurd (cc)
@@ -30,7 +30,7 @@ some_pair p q h = let e : p ≡ q = cc in (ap (λ x. x.0) e, ap (λ x. x.1) e)
 abbrev is_more : ℕ → Bool
 is_more c = is_underscore c || is_hex_digit c
 
--- The number that digits represent after digits with the value v.
+-- Returns the number that digits represent, if digits with the value v precede them.
 abbrev value_on : ℕ → List ℕ → ℕ
 value_on v cs = v * 16 ^ length (without_underscores cs) + place_value 16 (without_underscores cs)
 
@@ -344,7 +344,7 @@ letter_sound c n h =
 
 -- ---- a character or escape
 
--- The text begins with a character or escape that has this value, and `r` is the text after it.
+-- The text begins with a character or escape of a literal of the kind. The record has its value, and the text after it.
 pub record Begins (kind : Kind) (t v r : List ℕ) : Type 0 where
   pub unit : QuotedUnit
   pub allowed : IsUnit kind unit
@@ -476,7 +476,7 @@ unit_sound kind (c ∷ cs) p h =
       ]
     ]
 
--- A backslash isn't plain in literals of any kind.
+-- A backslash isn't a plain character, which is its own value, in literals of any kind.
 pub backslash_not_plain : (kind : Kind) → is_plain kind 92 ≡ false
 backslash_not_plain Str = refl
 backslash_not_plain ByteStr = refl
@@ -487,7 +487,7 @@ backslash_not_plain Int = refl
 backslash_not_plain Float = refl
 backslash_not_plain BoolKind = refl
 
--- Neither the quote nor a CR is plain in a string.
+-- A string may contain neither its quote nor a CR as a plain character, which is its own value.
 pub quote_and_return : (kind : Kind) → is_string kind ≡ true → (is_plain kind 34 ≡ false) × (is_plain kind 13 ≡ false)
 quote_and_return Str h = (refl, refl)
 quote_and_return ByteStr h = (refl, refl)
@@ -544,7 +544,7 @@ unit_complete kind (Unicode first more) r allowed ends = rw (
 ) refl
 unit_complete kind (Continuation c run) r allowed ends = continuation_complete kind c run r allowed ends
 
--- No character or escape of a string begins with its quote, and an empty text begins with none.
+-- No character or escape of a string begins with a quote.
 pub unit_quote : (kind : Kind) (x : List ℕ) → is_string kind ≡ true → unit_at kind (34 ∷ x) ≡ None
 unfolding unit_at
 unit_quote kind x h = rw (quote_and_return kind h).0 refl

@@ -61,7 +61,7 @@ string_reads text f body v h k gives stands =
     subst (λ (y : Kind). HasContents y (chars text) v) (sym k) (stands (chars text) has) in
     subst (λ (y : Kind). Reads (chars text) y v (chars (suffix_in text f.body))) k (found_reads text f v h c)
 
--- A plain body that was copied is the value.
+-- If a string's body is its own value, a copy of the body is the bytes of the value.
 pub copied : (body bytes : List ℕ) (plain : Bool) → plain ≡ true → IsUtf8 body → bytes ≡ body
     → Represents Str body plain (Characters (chars bytes))
 copied body bytes plain is u e =
@@ -94,7 +94,7 @@ within_reads : (t : List ℕ) (s : Sign) (m : ℕ) (x : List ℕ) → IntReads t
     → Reads t Int (Digits (sign_text s ++ decimal m)) x
 within_reads t s m x r w = record { sign = s; magnitude = m; reads = r; within = w; contents_is = refl }
 
--- A number above 128 bits doesn't fit an `i128` either.
+-- A number above 128 bits, with either sign, doesn't fit an `i128`.
 past_limit : (s : Sign) (m : ℕ) → limit < m → IsPastSigned s m
 past_limit NoSign m h = omega arith
 past_limit Minus m h = omega arith
@@ -175,14 +175,14 @@ suffixed_none t some s m r =
 bare : (t : List ℕ) (n : ℕ) → n ≡ length t → chars (drop n t) ≡ []
 bare t n e = let none : drop n t ≡ [] = rw e (drop-length t) in rw none chars-nil
 
--- A suffix without bytes has no characters.
+-- The suffix of a literal is empty exactly if it has no bytes.
 pub some_suffix : (b : Bool) (s : List ℕ) → IsUtf8 s → eqb (length s) 0 ≡ b → MatchBool (not b) (chars s ≢ []) (chars s ≡ [])
 some_suffix true [] u e = chars-nil
 some_suffix true (c ∷ cs) u e = absurd (let z = eqb-true (length (c ∷ cs)) 0 e in omega arith)
 some_suffix false s u e = λ n. both_ways (eqb (length s) 0) e (ap (λ z. eqb (length z) 0)
     (sym (encodes-chars s u) ∙ ap encode_utf8_all n))
 
--- The suffix of the parse result is that of each parse result of the text.
+-- The suffix in the code's parse result of a text is the suffix of the text by the definitions.
 found_suffix : (t : List ℕ) (f : Found) → IsFound t f → (k : Kind) (v : Contents) (x : List ℕ) → Reads (chars t) k v x
     → x ≡ chars (suffix_in t f.body)
 found_suffix t f h k v x r = (one_reading (chars t) k f.kind v h.reads.0 x _ r h.reads.1).2

@@ -31,7 +31,7 @@ pub record HasSingleBody (kind : Kind) (text body : List ℕ) : Type 0 where
 abbrev pub IsStringBody : Kind → List ℕ → Bool → Type 0
 IsStringBody kind body plain = (text : List ℕ) × HasBody kind text body plain
 
--- Each string literal of the kind with this body has this value.
+-- Each string literal of the kind with the given body has the given value.
 abbrev pub Represents : Kind → List ℕ → Bool → Contents → Type 0
 Represents kind body plain contents =
     (text : List ℕ) → HasBody kind text body plain → HasContents kind text contents
@@ -40,7 +40,7 @@ Represents kind body plain contents =
 abbrev pub IsSingleBody : Kind → List ℕ → Type 0
 IsSingleBody kind body = (text : List ℕ) × HasSingleBody kind text body
 
--- Each character or byte literal with this body has this value.
+-- Each character or byte literal with the given body has the given value.
 abbrev pub SingleRepresents : Kind → List ℕ → Contents → Type 0
 SingleRepresents kind body contents =
     (text : List ℕ) → HasSingleBody kind text body → HasContents kind text contents

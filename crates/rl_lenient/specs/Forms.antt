@@ -6,7 +6,7 @@ use Rattle.rl_syntax.specs.Quoted.{Cooked, Raw, Single, is_string, is_single, is
 use Rattle.rl_lenient.specs.declared.quoted_forms.QuotedForm.{QuotedForm}
 use Rattle.rl_lenient.specs.declared.quoted_forms.QuotedForm.TheVariants.{Cooked as CookedForm, Raw as RawForm, Single as SingleForm}
 
--- Literals of the kind can have the form: strings can be with escapes or raw, and characters and bytes are single.
+-- Whether literals of the kind can have the form. Strings can be with escapes or raw, and characters and bytes are single.
 abbrev pub has_form : QuotedForm → Kind → Bool
 has_form CookedForm kind = is_string kind
 has_form RawForm kind = is_string kind
@@ -19,7 +19,7 @@ form_opener CookedForm kind = opener kind
 form_opener RawForm kind = raw_opener kind
 form_opener SingleForm kind = opener kind
 
--- The text is a literal of the form and the kind, with this value, body and suffix.
+-- The text is a literal of the form and the kind, with the given value, body and suffix.
 abbrev pub PartsAre : QuotedForm → Kind → List ℕ → List ℕ → List ℕ → List ℕ → Type 0
 PartsAre CookedForm kind text value body suffix =
     (c : Cooked kind text value suffix) × (body ≡ texts c.units)
@@ -35,8 +35,8 @@ front_len RawForm kind text value body suffix parts =
     length (raw_opener kind) + parts.0.hashes + 1
 front_len SingleForm kind text value body suffix parts = length (opener kind)
 
--- The body of a literal is its own value: that of a raw string, and that of another string with neither escapes nor
--- line ends CR LF.
+-- Whether the body of a literal is its own value. The body of a raw string is, and so is that of another string with neither
+-- escapes nor line ends CR LF.
 abbrev pub is_plain_body : QuotedForm → Kind → List ℕ → Bool
 is_plain_body RawForm kind body = true
 is_plain_body CookedForm kind body = list_all (is_plain kind) body

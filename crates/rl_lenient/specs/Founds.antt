@@ -32,8 +32,8 @@ pub record IsBodyWithin (text : List ℕ) (body : Body) : Type 0 where
 abbrev pub is_quoted : Kind → Bool
 is_quoted kind = is_string kind || is_single kind
 
--- The text is a quoted literal of the kind whose parts are at these byte offsets. `plain` is true exactly if the body
--- is its own value.
+-- The text is a quoted literal of the kind whose parts are at the given byte offsets. `plain` is true exactly if the body is its
+-- own value.
 pub record IsQuotedAt (kind : Kind) (text : List ℕ) (body : Body) : Type 0 where
   pub form : QuotedForm
   pub value : List ℕ
@@ -52,8 +52,8 @@ pub record IsUnitOf (kind : Kind) (text : List ℕ) (unit : ℕ) : Type 0 where
   pub byte : kind ≡ Byte → unit < 256
   pub character : kind ≡ Char → IsScalar unit
 
--- The text is a literal with this parse result: its kind, the byte offsets of its parts, whether the body is its value,
--- the magnitude of an integer, a `bool`, and the value of a character or byte.
+-- The text is a literal with the given parse result: its kind, the byte offsets of its parts, whether the body is its value, the
+-- magnitude of an integer, a `bool`, and the value of a character or byte.
 pub record IsFound (text : List ℕ) (found : Found) : Type 0 where
   pub reads : HasSuffix found.kind (chars text) (chars (suffix_in text found.body))
   pub cut : IsSplit found.kind text (body_in text found.body) (suffix_in text found.body)
@@ -68,7 +68,7 @@ pub record IsFound (text : List ℕ) (found : Found) : Type 0 where
   pub unit : IsTrue (is_single found.kind) → IsUnitOf found.kind (chars text) found.unit
   pub no_unit : found.kind ≢ Byte → found.kind ≢ Char → found.unit ≡ 0
 
--- The text is a float literal with this parse result. The text may be an integer literal too.
+-- The text is a float literal with the given parse result. The text may be an integer literal too.
 pub record IsFoundFloat (text : List ℕ) (found : Found) : Type 0 where
   pub kind : found.kind ≡ Float
   pub reads :
@@ -81,7 +81,7 @@ pub record IsFoundFloat (text : List ℕ) (found : Found) : Type 0 where
   pub no_truth : found.truth ≡ false
   pub no_unit : found.unit ≡ 0
 
--- The text is a number with this parse result: an integer within 128 bits, or a float. If it is a float, it may be an
+-- The text is a number with the given parse result: an integer within 128 bits, or a float. If it is a float, it may be an
 -- integer literal too.
 abbrev pub IsFoundNumber : List ℕ → Found → Type 0
 IsFoundNumber text found =

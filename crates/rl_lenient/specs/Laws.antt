@@ -16,8 +16,8 @@ use Rattle.std.specs.Str.{IsUtf8}
 use Rattle.rl_lenient.specs.declared.found.Body.{Body}
 use Rattle.rl_lenient.specs.Founds.{IsFound, IsQuotedAt, suffix_in}
 
--- By `syn`'s grammar, a text without CR is a byte literal, or a byte string literal that isn't raw, with an empty
--- suffix or an identifier as its suffix, exactly if it is that by Rust's grammar. Its value is then equal by both.
+-- By `syn`'s grammar, a text without CR is a byte literal, or a byte string literal that isn't raw, with an empty suffix or an
+-- identifier as its suffix, exactly if it is one by Rust's grammar. The value is equal by both grammars.
 abbrev pub BytesWithoutReturnsAreStrict : Type 0
 BytesWithoutReturnsAreStrict =
     (text : List ℕ) → KeepsBytesStrict text
@@ -58,7 +58,7 @@ abbrev pub ATakenLiteralIsRead : Type 0
 ATakenLiteralIsRead =
     (old new : CursorState) (l : NextLiteral) → TakesNextLiteral old l new → IsReadLiteral l
 
--- If `find` returns a literal for a text, the text is parsed with that literal's value and suffix.
+-- If `parse_literal` returns a literal for a text, the text is parsed with that literal's value and suffix.
 abbrev pub AFoundLiteralReads : Type 0
 AFoundLiteralReads =
     (text : List ℕ) (found : Found) (contents : Contents) → IsFound text found

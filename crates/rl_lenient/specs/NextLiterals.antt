@@ -18,11 +18,11 @@ use Rattle.rl_lenient.specs.declared.next_literals.RejectionKind.{RejectionKind}
 use Rattle.rl_lenient.specs.declared.next_literals.RejectionKind.TheVariants.{Lex, Group, UnmatchedClose, NotALiteral}
 use Rattle.rl_lenient.specs.Founds.{IsFound}
 
--- The text, in bytes, has this parse result, or `None` if it isn't a literal.
+-- The text, in bytes, has the given parse result, or `None` if it isn't a literal.
 abbrev pub FindsReading : List ℕ → Option Found → Type 0
 FindsReading text found = MatchOption found (HasNoReading (chars text)) (IsFound text)
 
--- A token of this form and text is a literal by itself, with this parse result: a literal token, `true` or `false`. An
+-- A token of the given form and text is a literal by itself, with the given parse result: a literal token, `true` or `false`. An
 -- invalid literal has no parse result.
 abbrev pub IsLiteralToken : LexemeForm → List ℕ → Option Found → Type 0
 IsLiteralToken LiteralForm text found = FindsReading text found
@@ -59,8 +59,8 @@ HasNoNumber t =
     ⊎ ((l : Lexeme) × (new : CursorState) × TakesNext t l new
     × ((form_view l.form ≢ LiteralForm) ⊎ HasNoReading (code "-" ∷ chars l.text.now)))
 
--- Neither the token of this form and text, nor a minus and the next token, is a literal. A literal token always is one,
--- even if it is invalid.
+-- Neither the token of the given form and text, nor a minus and the next token, is a literal. Each literal token counts as a
+-- literal, even if it is invalid.
 abbrev pub BeginsNone : LexemeForm → List ℕ → CursorState → Type 0
 BeginsNone LiteralForm text following = ⊥
 BeginsNone IdentifierForm text following = HasNoTruth (chars text)
@@ -74,7 +74,7 @@ HasNoNextLiteral t =
     ⊎ ((l : Lexeme) × (new : CursorState) × TakesNext t l new
     × BeginsNone (form_view l.form) l.text.now new)
 
--- The reason why a token of this form doesn't begin a literal.
+-- The reason why a token of the given form doesn't begin a literal.
 abbrev pub token_rejection : LexemeForm → RejectionKind
 token_rejection (DelimiterForm c) = if is_opener c then Group else UnmatchedClose
 token_rejection _ = NotALiteral

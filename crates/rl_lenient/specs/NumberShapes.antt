@@ -5,7 +5,7 @@ use Rattle.rl_syntax.specs.declared.kind.Kind.TheVariants.{Int, Float}
 use Rattle.rl_syntax.specs.Numbers.{Sign, IntReads, limit, FloatReads, float_digits}
 use Rattle.rl_syntax.specs.Reading.{Contents, Digits, ReadsInt, ReadsFloat, ReadsAs}
 
--- The text is an integer literal with this magnitude and suffix, within 128 bits.
+-- The text is an integer literal with the given magnitude and suffix, within 128 bits.
 pub record HasMagnitude (text : List ℕ) (magnitude : ℕ) (suffix : List ℕ) : Type 0 where
   pub sign : Sign
   pub reads : IntReads text sign magnitude suffix
@@ -22,7 +22,7 @@ abbrev pub HasOneFloat : List ℕ → Type 0
 HasOneFloat text =
     (n m x y : List ℕ) → FloatReads text n x → FloatReads text m y → (n ≡ m) × (x ≡ y)
 
--- The text is a number of this kind, value and suffix. It is a float only if it isn't an integer.
+-- The text is a number of the given kind, value and suffix. It is a float only if it isn't an integer.
 abbrev pub ReadsNumber : List ℕ → Kind → Contents → List ℕ → Type 0
 ReadsNumber text Int contents suffix = ReadsInt text contents suffix
 ReadsNumber text Float contents suffix = ReadsFloat text contents suffix

@@ -8,7 +8,7 @@ use Rattle.rl_lenient.specs.declared.number_forms.Number.{Number}
 use Rattle.rl_lenient.specs.declared.number_forms.Number.TheVariants.{Integer, Float}
 use Rattle.rl_lenient.specs.NumberShapes.{HasMagnitude}
 
--- The text is the parsed number: an integer with this magnitude and suffix, or a float with this suffix.
+-- The text is the parsed number: an integer with the given magnitude and suffix, or a float with the given suffix.
 abbrev pub IsNumberOf : List ℕ → Number → Type 0
 IsNumberOf text (Integer magnitude suffix) =
     HasMagnitude (chars text) magnitude (chars suffix.now) × IsTail text suffix.now

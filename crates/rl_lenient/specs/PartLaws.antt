@@ -7,7 +7,8 @@ abbrev pub AnIntegerHasOneBase : Type 0
 AnIntegerHasOneBase =
     (text : List ℕ) → HasOneIntegerOf text
 
--- A float literal has at most one of each part, in whichever way its text is parsed as a float.
+-- A float literal has at most one sequence of digits before its dot, one fraction and one exponent, in whichever way its text is
+-- parsed as a float.
 abbrev pub AFloatHasOneOfEachPart : Type 0
 AFloatHasOneOfEachPart =
     (text : List ℕ) → HasOneFloatOf text

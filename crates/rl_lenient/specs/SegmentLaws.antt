@@ -19,13 +19,13 @@ abbrev pub IsSameValue : SegmentValue → SegmentValue → Type 0
 IsSameValue (Text run) (Text other) = run.now ≡ other.now
 IsSameValue value other = value ≡ other
 
--- A segment of a literal of the kind has one value.
+-- A segment of a literal of the kind has only one value.
 abbrev pub AreOneSegment : Kind → List QuotedUnit → Type 0
 AreOneSegment kind units =
     (value other : SegmentValue) → IsSegmentOf kind value units → IsSegmentOf kind other units
     → IsSameValue value other
 
--- The cursor over a literal's segments returns these segments, one after another, between the two states.
+-- The cursor over a literal's segments returns the given segments, one after another, between the two states.
 abbrev pub Passes : SegmentsState → List Segment → SegmentsState → Type 0
 Passes old [] new = new ≡ old
 Passes old (s ∷ ss) new = (next : SegmentsState) × TakesSegment old s next × Passes next ss new
@@ -38,8 +38,8 @@ Tile lo (s ∷ ss) hi = (s.lo ≡ lo) × Tile s.hi ss hi
 abbrev pub segments_bytes : List Segment → List ℕ
 segments_bytes ss = flat_map (λ (s : Segment). value_bytes s.value) ss
 
--- The segments fill the text between a literal's quotes, and their values, joined, are the literal's value. Characters
--- count as their UTF-8 bytes.
+-- The segments fill the text between a literal's quotes, and their values, joined, are the literal's value. Characters are
+-- encoded in UTF-8.
 pub record MakeLiteral (kind : Kind) (text : List ℕ) (ss : List Segment) : Type 0 where
   pub units : List QuotedUnit
   pub lo : ℕ

@@ -7,21 +7,21 @@ use Rattle.rl_syntax.specs.declared.kind.Kind.{Kind}
 use Rattle.rl_syntax.specs.declared.span.Span.{Span}
 use Rattle.rl_syntax.specs.Spans.{nowhere}
 use Rattle.rl_syntax.specs.Texts.{byte_len, first_passes}
-use Rattle.rl_syntax.specs.Quoted.{QuotedUnit, is_plain, is_string, holds_characters, Plain, CrLf, Named, Hex, Unicode, Continuation, Cooked, Raw, Single, IsUnit, ContinuationsEnd, opener, raw_opener, texts, letter_value, hex_value, unicode_value, unit_text, unit_value}
+use Rattle.rl_syntax.specs.Quoted.{QuotedUnit, is_plain, is_string, decodes_to_chars, Plain, CrLf, Named, Hex, Unicode, Continuation, Cooked, Raw, Single, IsUnit, ContinuationsEnd, opener, raw_opener, texts, letter_value, hex_value, unicode_value, unit_text, unit_value}
 use Rattle.rl_lenient.specs.Decoded.{in_bytes}
 use Prim.Native.Char.{code}
 use Rattle.rl_lenient.specs.declared.segments.Segment.{Segment}
 use Rattle.rl_lenient.specs.declared.segments.SegmentValue.{SegmentValue}
 use Rattle.rl_lenient.specs.declared.segments.SegmentValue.TheVariants.{Text, Char, Byte, Nothing}
 
--- The bytes of the value of a character or escape in a literal of the kind. Characters are their UTF-8 bytes.
+-- The bytes of the value of a character or escape in a literal of the kind. Characters are encoded in UTF-8.
 abbrev pub unit_bytes : Kind → QuotedUnit → List ℕ
 unit_bytes kind unit = in_bytes kind (unit_value kind unit)
 
 abbrev pub units_bytes : Kind → List QuotedUnit → List ℕ
 units_bytes kind units = flat_map (unit_bytes kind) units
 
--- The unit is a character that represents itself, and not an escape or a line end CR LF.
+-- Whether a character or escape is a character that represents itself, and not an escape or a line end CR LF.
 abbrev pub is_itself : QuotedUnit → Bool
 is_itself (Plain c) = true
 is_itself _ = false
@@ -73,15 +73,15 @@ IsBytePlace = IsGivenAt begins_in
 abbrev pub IsByteEnd : Kind → List ℕ → ℕ → ℕ → Type 0
 IsByteEnd = IsGivenAt ends_in
 
--- The state of a cursor over a literal's segments: its byte offset in the literal's text, and the bytes from there up
--- to the closing quote. If `plain` is true, each of these characters represents itself.
+-- The state of a cursor over a literal's segments: its byte offset in the literal's text, and the bytes from there up to the
+-- closing quote. If `plain` is true, each character of these bytes represents itself.
 pub record SegmentsState : Type 0 where
   pub kind : Kind
   pub plain : Bool
   pub at : ℕ
   pub rest : List ℕ
 
--- The text is this sequence of characters and escapes, each of which a literal of the kind allows.
+-- The text consists of the given characters and escapes, each of which a literal of the kind allows.
 pub record IsUnitRun (kind : Kind) (text : List ℕ) (units : List QuotedUnit) : Type 0 where
   pub each : AllByRecursion (IsUnit kind) units
   pub ends : ContinuationsEnd units
@@ -98,7 +98,7 @@ AreLeft s units = AreUnitsIn s.kind s.plain (chars s.rest) units
 abbrev pub HasUnitsLeft : SegmentsState → Type 0
 HasUnitsLeft s = (units : List QuotedUnit) × AreLeft s units
 
--- The bytes of a segment's value. Characters are their UTF-8 bytes.
+-- The bytes of a segment's value. Characters are encoded in UTF-8.
 abbrev pub value_bytes : SegmentValue → List ℕ
 value_bytes (Text run) = run.now
 value_bytes (Char c) = encode_utf8 c
@@ -124,7 +124,7 @@ segment_end s at = value_end s.value s.lo s.hi at
 
 -- The value of an escape as that of a segment: a character in a literal of characters, and otherwise a byte.
 abbrev pub number_segment : Kind → ℕ → SegmentValue
-number_segment kind n = if holds_characters kind then Char n else Byte n
+number_segment kind n = if decodes_to_chars kind then Char n else Byte n
 
 -- The value of the segment that is one escape or a line end CR LF. An escape `\u{..}` is a character also in a literal
 -- of bytes.
@@ -154,12 +154,12 @@ abbrev pub AreUnitsFor : Kind → SegmentValue → List QuotedUnit → Type 0
 AreUnitsFor kind (Text run) units = units ≡ map Plain (chars run.now)
 AreUnitsFor kind value units = IsOtherUnit kind value units
 
--- The segment consists of these characters and escapes, and its value is theirs.
+-- The segment consists of the given characters and escapes, and its value is their value.
 pub record IsSegmentOf (kind : Kind) (value : SegmentValue) (units : List QuotedUnit) : Type 0 where
   pub are : AreUnitsFor kind value units
   pub bytes_are : value_bytes value ≡ units_bytes kind units
 
--- The text begins with a segment that has this value, and `rest` is the text after the segment.
+-- The text begins with a segment that has the given value, and `rest` is the text after the segment.
 pub record IsFirstSegment (kind : Kind) (plain : Bool) (text : List ℕ) (value : SegmentValue) (rest : List ℕ)
     : Type 0 where
   pub units : List QuotedUnit
@@ -196,22 +196,23 @@ abbrev pub GivesSegment : SegmentsState → Option Segment → SegmentsState →
 GivesSegment old segment new =
     MatchOption segment ((old.rest ≡ []) × (new ≡ old)) (λ s. TakesSegment old s new)
 
--- The byte offset in the literal's text of the part that the byte `at` of the rest's value comes from. `inside` gives
--- the offset within a character or escape.
+-- The byte offset in the literal's text of the part that the byte `at` of the value of a segment cursor's rest comes from.
+-- `inside` gives the offset within a character or escape.
 pub record IsLeftAt (inside : QuotedUnit → ℕ → ℕ) (s : SegmentsState) (at place : ℕ) : Type 0 where
   pub units : List QuotedUnit
   pub are_left : AreLeft s units
   pub place_is : place ≡ s.at + unit_place inside s.kind units at
 
--- The byte offset in the literal's text where the part begins that a byte of the rest's value comes from. `IsEndLeft`
--- is for the offset where that part ends.
+-- The byte offset in the literal's text where the part begins that a byte of the value of a segment cursor's rest comes from.
+-- `IsEndLeft` is for the offset where this part ends.
 abbrev pub IsPlaceLeft : SegmentsState → ℕ → ℕ → Type 0
 IsPlaceLeft = IsLeftAt begins_in
 
 abbrev pub IsEndLeft : SegmentsState → ℕ → ℕ → Type 0
 IsEndLeft = IsLeftAt ends_in
 
--- The byte `at` of the rest's value comes from this segment, and is the byte `within` of the segment's value.
+-- The byte `at` of the value of a segment cursor's rest comes from the segment `segment`. It is the byte `within` of the
+-- segment's value.
 pub record GivesByte (s : SegmentsState) (at : ℕ) (segment : Segment) (within : ℕ) : Type 0 where
   pub before : List QuotedUnit
   pub units : List QuotedUnit
@@ -224,7 +225,7 @@ pub record GivesByte (s : SegmentsState) (at : ℕ) (segment : Segment) (within 
   pub at_is : at ≡ length (units_bytes s.kind before) + within
   pub inside : within < length (value_bytes segment.value)
 
--- The value of the cursor's rest ends before the byte `at`.
+-- The value of the rest of a segment cursor has no byte `at`: it ends before this offset.
 pub record IsPastLeft (s : SegmentsState) (at : ℕ) : Type 0 where
   pub units : List QuotedUnit
   pub are_left : AreLeft s units
@@ -241,8 +242,8 @@ pub record IsSegmentsOf (kind : Kind) (text : List ℕ) (s : SegmentsState) : Ty
 abbrev pub span_from : Span → ℕ → ℕ → Span
 span_from base lo hi = record { file = base.file; lo = base.lo + lo; hi = base.lo + hi }
 
--- The table has an entry for each byte of the rest's value: the span of the part that the byte comes from. Its last
--- entry is at the closing quote. The literal's text begins at the start of the span `base`.
+-- The table has an entry for each byte of the value of a segment cursor's rest: the span of the part that the byte comes from.
+-- Its last entry is at the closing quote. The literal's text begins at the start of the span `base`.
 pub record IsSpanTable (s : SegmentsState) (base : Span) (table : List Span) : Type 0 where
   pub units : List QuotedUnit
   pub are_left : AreLeft s units

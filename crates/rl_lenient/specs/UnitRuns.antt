@@ -9,8 +9,8 @@ abbrev pub RunEnds : List QuotedUnit → List ℕ → Type 0
 RunEnds [] rest = ⊤
 RunEnds (u ∷ us) rest = EndsBefore u (texts us ++ rest) × RunEnds us rest
 
--- By `syn`'s grammar, the text begins with characters and escapes of a literal of the kind that have this value, and
--- `rest` is the text after them.
+-- By `syn`'s grammar, the text begins with characters and escapes of a literal of the kind that have the given value, and `rest`
+-- is the text after them.
 pub record BeginsRun (kind : Kind) (text value rest : List ℕ) : Type 0 where
   pub units : List QuotedUnit
   pub each : AllByRecursion (IsUnit kind) units

@@ -17,11 +17,11 @@ IsSplit Float text body suffix = text ≡ body ++ suffix
 IsSplit BoolKind text body suffix = (body ≡ text) × (suffix ≡ [])
 IsSplit kind text body suffix = IsQuotedSplit kind text body suffix
 
--- The character begins a number, and no other literal begins with it: it is a minus or a decimal digit.
+-- Whether a character begins a number, and no other literal begins with it: it is a minus or a decimal digit.
 abbrev pub is_number_front : ℕ → Bool
 is_number_front c = c == code "-" || is_ascii_digit c
 
--- The text is a literal of the kind with this suffix, and these bytes are its value, or its digits if it is a number. A
+-- The text is a literal of the kind with the given suffix, and the given bytes are its value, or its digits if it is a number. A
 -- text of the kind `Float` may be an integer literal too.
 abbrev pub HasPlainBody : Kind → List ℕ → List ℕ → List ℕ → Type 0
 HasPlainBody Str text body suffix = ReadsQuoted text Str (Characters (chars body)) suffix

@@ -12,8 +12,8 @@ ghost use Rattle.rl_syntax.specs.declared.kind.Kind.TheVariants.{Float};
 ghost use Rattle.rl_lenient.specs.Decoded.{piece_bytes};
 ghost use Rattle.rl_lenient.specs.Mirrors.Decodes.{Decodes};
 
-use crate::found::{find, find_float, found_in};
-use crate::units::{Piece, piece_code, split_plain, unit};
+use crate::found::{find_float, parse_known_literal, parse_literal};
+use crate::units::{Piece, parse_char_or_escape, piece_code, split_plain};
 use rl_syntax::Kind;
 use rl_syntax::slice_writer::{put, put_byte, put_char};
 
@@ -65,7 +65,7 @@ pub fn decode_into(kind: Kind, text: &str, out: &mut [u8]) -> usize
     loop {
         let (run, later) = split_plain(kind, rest);
         at = put_run(out, at, run);
-        let Some((piece, after)) = unit(kind, later) else {
+        let Some((piece, after)) = parse_char_or_escape(kind, later) else {
             return at;
         };
         at = put_piece(out, at, piece);
@@ -78,7 +78,7 @@ pub fn decode_into(kind: Kind, text: &str, out: &mut [u8]) -> usize
 ///
 /// The body must contain an escape or a line end CR LF, and not be that of a raw literal. Any other body is the value
 /// itself, and its [`Body::plain`](crate::Body::plain) is `true`. Nothing is allocated.
-pub fn str_into(body: &str, out: &mut [u8]) -> usize
+pub fn decode_str_into(body: &str, out: &mut [u8]) -> usize
     requires body { IsStringBody Kind.Str body.now false }
     requires room { length body.now ≤ length out.old }
     ensures value { Represents Kind.Str body.now false (Characters (chars (take result out.new))) }
@@ -94,7 +94,7 @@ pub fn str_into(body: &str, out: &mut [u8]) -> usize
 ///
 /// The body must contain an escape or a line end CR LF, and not be that of a raw literal. Any other body is the value
 /// itself, and its [`Body::plain`](crate::Body::plain) is `true`. Nothing is allocated.
-pub fn bytes_into(kind: Kind, body: &str, out: &mut [u8]) -> usize
+pub fn decode_bytes_into(kind: Kind, body: &str, out: &mut [u8]) -> usize
     requires kind { kind ≡ Kind.ByteStr ⊎ kind ≡ Kind.CStr }
     requires body { IsStringBody kind body.now false }
     requires room { length body.now ≤ length out.old }
@@ -110,7 +110,7 @@ fn body_unit(kind: Kind, body: &str) -> u32
     requires { IsSingleBody kind body.now }
     ensures { (text : List ℕ) → HasSingleBody kind text body.now → IsUnitOf kind text result }
 {
-    let Some((piece, _)) = unit(kind, body) else {
+    let Some((piece, _)) = parse_char_or_escape(kind, body) else {
         unreachable!()
     };
     piece_code(kind, piece)
@@ -122,7 +122,7 @@ pub fn byte_of(text: &str) -> u8
     requires { ReadsAs Kind.Byte (chars text.now) }
     ensures reads { HasContents Kind.Byte (chars text.now) (Bytes (result ∷ [])) }
 {
-    found_in(text).unit as u8
+    parse_known_literal(text).unit as u8
 }
 
 /// Returns the value of the character literal `text`. The text must be a character literal: [`shape`](crate::shape)
@@ -131,7 +131,7 @@ pub fn char_of(text: &str) -> char
     requires { ReadsAs Kind.Char (chars text.now) }
     ensures reads { HasContents Kind.Char (chars text.now) (Characters (result ∷ [])) }
 {
-    match char::from_u32(found_in(text).unit) {
+    match char::from_u32(parse_known_literal(text).unit) {
         Some(c) => c,
         None => unreachable!(),
     }
@@ -189,7 +189,7 @@ fn reads_plain(kind: Kind, text: &str) -> bool
     requires { kind ≢ Float }
     ensures { IsTrue result ↔ IsPlain kind text.now }
 {
-    match find(text) {
+    match parse_literal(text) {
         Some(found) => found.body.plain && found.kind == kind,
         None => false,
     }

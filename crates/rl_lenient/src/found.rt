@@ -215,7 +215,7 @@ fn find_number(text: &str) -> Option<Found>
     ensures found { IfSome result (IsFound text.now) }
     ensures number { IfSome result (λ f. (f.kind ≡ Int) ⊎ (f.kind ≡ Float)) }
 {
-    // Each arm returns by itself. A value that both arms make would be copied once more, padding included.
+    // Each arm of the `match` returns by itself. A value that both arms make would be copied, padding included.
     match read_number(text)? {
         Number::Integer(magnitude, suffix) => {
             return Some(integer_found(text, suffix, magnitude));
@@ -274,12 +274,12 @@ pub(crate) fn find_truth(text: &str) -> Option<Found>
 }
 
 /// Returns the parse result of the literal `text`. The text must be a literal.
-pub fn found_in(text: &str) -> Found
+pub fn parse_known_literal(text: &str) -> Found
     requires { HasReading (chars text.now) }
     ensures found { IsFound text.now result }
     ensures kind { (kind : AnyKind) → ReadsAs kind (chars text.now) → result.kind ≡ kind }
 {
-    match find(text) {
+    match parse_literal(text) {
         Some(found) => found,
         None => unreachable!(),
     }
@@ -289,7 +289,7 @@ pub fn found_in(text: &str) -> Found
 ///
 /// The result contains that of [`shape`](crate::shape), and further offsets and values that parsing computes.
 #[inline(always)]
-pub fn find(text: &str) -> Option<Found>
+pub fn parse_literal(text: &str) -> Option<Found>
     ensures none { IfNone result (HasNoReading (chars text.now)) }
     ensures found { IfSome result (IsFound text.now) }
 {
@@ -316,7 +316,7 @@ fn find_word_or_quoted(text: &str) -> Option<Found>
     let Some((form, kind, inside)) = split_opener(text) else {
         return find_truth(text);
     };
-    // Each arm returns by itself. A value that all arms make would be copied once more.
+    // Each arm of the `match` returns by itself. A value that all arms make would be copied once more.
     match form {
         QuotedForm::Cooked => return find_cooked(kind, text, inside),
         QuotedForm::Single => return find_single(kind, text, inside),
@@ -371,6 +371,6 @@ pub fn shape(text: &str) -> Option<Parts<'_>>
     ensures following { IfSome result (λ p. IsTail text.now p.suffix.now) }
     ensures strict_bytes { KeepsBytesStrict (chars text.now) }
 {
-    let found = find(text)?;
+    let found = parse_literal(text)?;
     Some(found.parts(text))
 }

@@ -4,14 +4,15 @@ ghost use Rattle.rl_lenient.specs.Laws.{BytesWithoutReturnsAreStrict, SegmentsMa
 ghost use Rattle.rl_lenient.specs.PartLaws.{AnIntegerHasOneBase, AFloatHasOneOfEachPart};
 
 /// By `syn`'s grammar, a text without CR is a byte literal, or a byte string literal that isn't raw, with an empty
-/// suffix or an identifier as its suffix, exactly if it is that by Rust's grammar. Its value is then equal by both.
-pub fn bytes_are_strict()
+/// suffix or an identifier as its suffix, exactly if it is one by Rust's grammar. The value is equal by both
+/// grammars.
+pub fn byte_literals_without_cr_are_strict()
     ensures { BytesWithoutReturnsAreStrict }
 {}
 
 /// The segments that [`Segments`](crate::Segments) returns for a literal fill the text between its quotes. Each segment
 /// begins where the one before it ends. The values of all segments, joined, are the literal's value.
-pub fn segments_make_the_literal()
+pub fn segments_join_to_the_literal()
     ensures { SegmentsMakeTheLiteral }
 {}
 
@@ -24,14 +25,14 @@ pub fn a_segment_has_one_value()
 /// Two bytes of a literal's value come from ranges of the literal's text in the same order: the later byte's range
 /// neither begins nor ends before that of the earlier byte. So each byte has one range, which begins no later than it
 /// ends.
-pub fn places_keep_the_order()
+pub fn text_offsets_keep_the_order_of_bytes()
     ensures { ThePlacesOfBytesAreInOrder }
 {}
 
 /// If the parts of a quoted literal are at the given byte offsets, the text that its value comes from is in its body.
 /// The value's end, and every offset after it, is mapped to the closing quote. If the body is the value, a byte's
 /// offset in the body is its offset in the value.
-pub fn offsets_are_in_the_body()
+pub fn text_offsets_are_in_the_body()
     ensures { TheOffsetsOfBytesAreInTheBody }
 {}
 
@@ -41,12 +42,12 @@ pub fn decoding_keeps_a_leading_minus()
 {}
 
 /// The parse result of a literal that [`next_literal`](crate::next_literal) returns is that of the literal's text.
-pub fn a_taken_literal_is_read()
+pub fn a_next_literal_is_parsed_as_its_text()
     ensures { ATakenLiteralIsRead }
 {}
 
-/// If [`find`](crate::find) returns a literal for a text, the text is parsed with that literal's value and suffix.
-pub fn a_found_literal_reads()
+/// If [`parse_literal`](crate::parse_literal) returns a literal for a text, the text is parsed with that literal's value and suffix.
+pub fn a_parsed_literal_has_the_value_of_its_text()
     ensures { AFoundLiteralReads }
 {}
 

@@ -11,18 +11,18 @@
 //! ghost use Rattle.std.specs.Str.{chars};
 //! ghost use Rattle.rl_lenient.specs.Values.{HasIntegerValue};
 //!
-//! use rl_lenient::find;
+//! use rl_lenient::parse_literal;
 //!
-//! pub fn integer_in(text: &str) -> Option<i128>
+//! pub fn integer_literal_value(text: &str) -> Option<i128>
 //!     ensures value { IfSome result (HasIntegerValue (chars text.now) []) }
 //! {
-//!     let found = find(text)?;
+//!     let found = parse_literal(text)?;
 //!     if found.has_suffix(text) {
 //!         return None;
 //!     }
 //!     found.signed(text)
 //! }
-//! // integer_in("-0x1F") == Some(-31)
+//! // integer_literal_value("-0x1F") == Some(-31)
 //! ```
 #![tactic(auto)]
 
@@ -42,17 +42,17 @@ pub mod units;
 mod values;
 
 pub use crate::contents::{
-    byte_of, byte_of_body, bytes_into, char_of, char_of_body, is_plain, str_into,
+    byte_of, byte_of_body, char_of, char_of_body, decode_bytes_into, decode_str_into, is_plain,
 };
 pub use crate::digits::{float_digits_into, is_plain_integer};
 pub use crate::found::{
-    Body, Found, Parts, bool_of, find, find_float, find_int, find_negative, shape,
+    Body, Found, Parts, bool_of, find_float, find_int, find_negative, parse_literal, shape,
 };
 pub use crate::next_literals::{
-    ListStep, NextLiteral, Rejection, RejectionKind, list_step, next_literal,
+    ListStep, NextLiteral, Rejection, RejectionKind, next_list_literal, next_literal,
 };
 pub use crate::number_forms::{float_shape, int_shape, shape_negative};
 pub use crate::numbers::{FloatParts, IntegerParts, float_parts, integer_parts};
 pub use crate::ranges::text_range;
 pub use crate::segments::{Segment, SegmentValue, Segments, split_segment, text_offset};
-pub use crate::source_literals::{SourceStep, source_step};
+pub use crate::source_literals::{SourceStep, next_source_literal};

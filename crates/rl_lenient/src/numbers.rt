@@ -9,8 +9,8 @@ ghost use Rattle.rl_lenient.specs.PartMirrors.PartsAt.{fraction_at, after_letter
 ghost use Rattle.rl_lenient.specs.NumberParts.{IsFloatOf, IsIntegerOf};
 
 use crate::digit_runs::{after_minus, read_digit_run, skip_digits};
-use crate::find;
 use crate::number_forms::split_radix;
+use crate::parse_literal;
 use rl_syntax::Kind;
 use rl_syntax::text::{before, split_char, strip_byte};
 
@@ -43,19 +43,19 @@ pub struct FloatParts<'t> {
 /// ```
 /// use rl_grammar::integer_parts;
 ///
-/// pub fn digits_of_hex(text: &str) -> Option<&str> {
+/// pub fn hex_digits(text: &str) -> Option<&str> {
 ///     let parts = integer_parts(text)?;
 ///     (parts.radix == 16).then_some(parts.digits)
 /// }
-/// // digits_of_hex("-0xF_F_u8") == Some("F_F_")
-/// // digits_of_hex("255") == None
+/// // hex_digits("-0xF_F_u8") == Some("F_F_")
+/// // hex_digits("255") == None
 /// ```
 pub fn integer_parts(text: &str) -> Option<IntegerParts<'_>>
     ensures parts { IfSome result (λ p. IsIntegerOf (chars text.now) p.radix (chars p.digits.now)) }
     ensures reads { IfSome result (λ p. ReadsAs Int (chars text.now)) }
     ensures none { IfNone result (ReadsAs Int (chars text.now) → ⊥) }
 {
-    let found = find(text)?;
+    let found = parse_literal(text)?;
     if !matches!(found.kind, Kind::Int) {
         return None;
     }
@@ -117,7 +117,7 @@ pub fn float_parts(text: &str) -> Option<FloatParts<'_>>
     ensures reads { IfSome result (λ p. ReadsAs Float (chars text.now)) }
     ensures none { IfNone result (ReadsAs Float (chars text.now) → ⊥) }
 {
-    let found = find(text)?;
+    let found = parse_literal(text)?;
     if !matches!(found.kind, Kind::Float) {
         return None;
     }

@@ -14,7 +14,7 @@ ghost use Rattle.rl_syntax.specs.Reading.{HasNoReading};
 ghost use Rattle.rl_syntax.specs.Classes.{after_run, is_hash};
 
 use crate::found::{Body, Found};
-use crate::units::{is_ascii, piece_code, split_plain, unit};
+use crate::units::{is_ascii, parse_char_or_escape, piece_code, split_plain};
 use rl_syntax::Kind;
 use rl_syntax::classes::skip_hashes;
 use rl_syntax::text::{after_prefix, before, split_ascii};
@@ -79,7 +79,7 @@ pub fn split_opener(text: &str) -> Option<(QuotedForm, Kind, &str)>
     if first == first_of(Kind::Char) {
         Some((QuotedForm::Single, Kind::Char, rest))
     } else if first == first_of(Kind::Byte) {
-        // A byte string begins with the letter of a byte literal too.
+        // Byte literals and byte strings begin with the same letter, `b`.
         split_byte_opener(rest)
     } else if first == first_of(Kind::CStr) {
         split_string_opener(Kind::CStr, rest)
@@ -91,7 +91,7 @@ pub fn split_opener(text: &str) -> Option<(QuotedForm, Kind, &str)>
 /// Returns the text after the characters and escapes at its start that a string literal of the kind may contain. For
 /// `Str` the loop is compiled separately, with the kind as a constant.
 #[inline(never)]
-pub fn skip_units(kind: Kind, text: &str) -> &str
+pub fn skip_string_content(kind: Kind, text: &str) -> &str
     requires { IsTrue (is_string kind) }
     ensures run { (v : List ℕ) × BeginsRun kind (chars text.now) v (chars result.now) }
     ensures stuck { unit_at kind (chars result.now) ≡ None }
@@ -111,7 +111,7 @@ fn skip_units_of(kind: Kind, text: &str) -> &str
     ensures stuck { unit_at kind (chars result.now) ≡ None }
 {
     let mut rest = text;
-    while let Some((_, after)) = unit(kind, rest) {
+    while let Some((_, after)) = parse_char_or_escape(kind, rest) {
         let (_, following) = split_plain(kind, after);
         rest = following;
     }
@@ -138,7 +138,7 @@ pub(crate) fn has_nul(text: &str) -> bool
 /// characters and bytes, `"` for strings.
 #[inline(always)]
 #[tactic(auto, using(crate::proofs::AsciiLemmas::no_quote))]
-pub fn after_quote(kind: Kind, text: &str) -> Option<&str>
+pub fn strip_quote(kind: Kind, text: &str) -> Option<&str>
     requires { IsTrue (is_quoted kind) }
     ensures some { IfSome result (λ rest. chars text.now ≡ closer kind ∷ chars rest.now) }
     ensures none { IfNone result ((x : List ℕ) → chars text.now ≢ closer kind ∷ x) }
@@ -153,7 +153,7 @@ pub fn after_quote(kind: Kind, text: &str) -> Option<&str>
 /// Returns the byte offsets of the parts of the quoted literal `text`. `opened`, `closer` and `suffix` are ends of
 /// `text`: those that begin with the body, with the closing quote, and with the suffix.
 #[inline(always)]
-pub fn places(text: &str, opened: &str, closer: &str, suffix: &str, plain: bool) -> Body
+pub fn part_offsets(text: &str, opened: &str, closer: &str, suffix: &str, plain: bool) -> Body
     requires opened { IsTail text.now opened.now }
     requires closer { IsTail opened.now closer.now }
     requires suffix { IsTail closer.now suffix.now }
@@ -201,14 +201,14 @@ pub(crate) fn find_cooked(kind: Kind, text: &str, inside: &str) -> Option<Found>
     ensures none { IfNone result (HasNoReading (chars text.now)) }
     ensures found { IfSome result (IsFound text.now) }
 {
-    // All string literals end with one quote. Naming the kind `Str` makes it a constant for the compiler.
+    // Each string literal ends with `"`. Naming the kind `Str` makes this quote a constant for the compiler.
     let (_, following) = split_plain(kind, inside);
-    if let Some(suffix) = after_quote(Kind::Str, following) {
-        return Some(quoted(kind, places(text, inside, following, suffix, true), 0));
+    if let Some(suffix) = strip_quote(Kind::Str, following) {
+        return Some(quoted(kind, part_offsets(text, inside, following, suffix, true), 0));
     }
-    let closer = skip_units(kind, following);
-    let suffix = after_quote(Kind::Str, closer)?;
-    Some(quoted(kind, places(text, inside, closer, suffix, false), 0))
+    let closer = skip_string_content(kind, following);
+    let suffix = strip_quote(Kind::Str, closer)?;
+    Some(quoted(kind, part_offsets(text, inside, closer, suffix, false), 0))
 }
 
 /// Parses `text` as a raw string literal of the kind, where `inside` is the text after its `r`. Returns the byte
@@ -222,14 +222,14 @@ fn raw_places(kind: Kind, text: &str, inside: &str) -> Option<Body>
 {
     let rest = skip_hashes(inside);
     let hashes = before(inside, rest);
-    let opened = after_quote(Kind::Str, rest)?;
+    let opened = strip_quote(Kind::Str, rest)?;
     let (body, after) = split_last_quote(opened)?;
     let suffix = after_prefix(hashes, after)?;
     if !holds_all(kind, body) {
         return None;
     }
     let closer = &opened[body.len()..];
-    Some(places(text, opened, closer, suffix, true))
+    Some(part_offsets(text, opened, closer, suffix, true))
 }
 
 /// Parses `text` as a raw string literal of the kind, where `inside` is the text after its `r`. Returns `None` if it
@@ -240,7 +240,7 @@ pub(crate) fn find_raw(kind: Kind, text: &str, inside: &str) -> Option<Found>
     ensures none { IfNone result (HasNoReading (chars text.now)) }
     ensures found { IfSome result (IsFound text.now) }
 {
-    // The called function returns only byte offsets. A parse result that it returned would be copied once more.
+    // `raw_places` returns only byte offsets. A parse result that it returned would be copied once more.
     let body = raw_places(kind, text, inside)?;
     Some(quoted(kind, body, 0))
 }
@@ -265,9 +265,9 @@ pub(crate) fn find_single(kind: Kind, text: &str, inside: &str) -> Option<Found>
     ensures none { IfNone result (HasNoReading (chars text.now)) }
     ensures found { IfSome result (IsFound text.now) }
 {
-    let (piece, closer) = unit(kind, inside)?;
-    let suffix = after_quote(Kind::Char, closer)?;
-    let body = places(text, inside, closer, suffix, false);
+    let (piece, closer) = parse_char_or_escape(kind, inside)?;
+    let suffix = strip_quote(Kind::Char, closer)?;
+    let body = part_offsets(text, inside, closer, suffix, false);
     Some(quoted(kind, body, piece_code(kind, piece)))
 }
 

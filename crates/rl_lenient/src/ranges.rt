@@ -14,14 +14,14 @@ use rl_syntax::Kind;
 /// For an empty range the result is empty, and begins where the character or escape of the byte `lo` begins. An escaped
 /// line end after the last byte isn't included.
 ///
-/// `body` contains the byte offsets of the literal's parts, as [`find`](crate::find) returns them.
+/// `body` contains the byte offsets of the literal's parts, as [`parse_literal`](crate::parse_literal) returns them.
 pub fn text_range(kind: Kind, text: &str, body: &Body, lo: usize, hi: usize) -> (usize, usize)
     requires { IsQuotedAt kind text.now body.now }
     ensures { IsRangeOf kind (chars text.now) lo hi result.0 result.1 }
 {
     let first = body.segments_in(kind, text).text_offset(lo);
     if lo < hi {
-        (first, body.segments_in(kind, text).end_of(hi - 1))
+        (first, body.segments_in(kind, text).text_end_offset(hi - 1))
     } else {
         (first, first)
     }

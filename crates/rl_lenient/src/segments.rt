@@ -11,8 +11,8 @@ ghost use Rattle.rl_lenient.specs.Shapes.{HasNoQuoted};
 ghost use Rattle.rl_syntax.specs.declared.kind.Kind.{Kind as AnyKind};
 ghost use Rattle.rl_lenient.specs.Segments.{AreUnitsIn, IsFirstSegment, IsLongest, IsNoText, IsBytePlace, IsSegmentsOf};
 
-use crate::found::{Body, find};
-use crate::units::{Piece, is_plain, split_plain, unit};
+use crate::found::{Body, parse_literal};
+use crate::units::{Piece, is_plain_char, parse_char_or_escape, split_plain};
 use rl_syntax::Kind;
 use rl_syntax::text::{before, split_char};
 use std::marker::Model;
@@ -52,7 +52,7 @@ pub struct Segment<'t> {
 /// ```
 /// use rl_grammar::{SegmentValue, Segments};
 ///
-/// pub fn first_escape(text: &str) -> Option<usize> {
+/// pub fn first_escape_offset(text: &str) -> Option<usize> {
 ///     for segment in Segments::of(text)? {
 ///         if !matches!(segment.value, SegmentValue::Text(_)) {
 ///             return Some(segment.lo);
@@ -60,7 +60,7 @@ pub struct Segment<'t> {
 ///     }
 ///     None
 /// }
-/// // first_escape("\"a\\x41\\n\"") == Some(2)
+/// // first_escape_offset("\"a\\x41\\n\"") == Some(2)
 /// ```
 #[derive(Drop)]
 pub struct Segments<'t> {
@@ -92,7 +92,7 @@ impl Body {
     ghost use Rattle.rl_lenient.specs.Segments.{IsSegmentsOf};
 
     /// Returns the segments of the quoted literal `text` of the kind, where `self` contains the byte offsets of its
-    /// parts, as [`find`] returns them. The text isn't parsed again.
+    /// parts, as [`parse_literal`] returns them. The text isn't parsed again.
     #[inline(always)]
     pub fn segments_in<'t>(&self, kind: Kind, text: &'t str) -> Segments<'t>
         requires { IsQuotedAt kind text.now self.now }
@@ -140,7 +140,7 @@ fn split_run(kind: Kind, text: &str) -> (&str, &str)
         return split_plain(kind, text);
     }
     match split_char(text) {
-        Some((c, rest)) if is_plain(kind, c) => (before(text, rest), rest),
+        Some((c, rest)) if is_plain_char(kind, c) => (before(text, rest), rest),
         _ => ("", text),
     }
 }
@@ -154,7 +154,7 @@ fn value_of<'t>(kind: Kind, piece: Piece) -> SegmentValue<'t>
 {
     match piece {
         Piece::Character(c) => SegmentValue::Char(c),
-        Piece::Byte(b) if kind.holds_characters() => SegmentValue::Char(b as char),
+        Piece::Byte(b) if kind.decodes_to_chars() => SegmentValue::Char(b as char),
         Piece::Byte(b) => SegmentValue::Byte(b),
         Piece::Nothing => SegmentValue::Nothing,
     }
@@ -179,7 +179,7 @@ pub fn split_segment(kind: Kind, plain: bool, text: &str) -> (SegmentValue<'_>, 
     if !run.is_empty() {
         return (SegmentValue::Text(run), following);
     }
-    let Some((piece, after)) = unit(kind, text) else {
+    let Some((piece, after)) = parse_char_or_escape(kind, text) else {
         unreachable!()
     };
     (value_of(kind, piece), after)
@@ -204,7 +204,7 @@ impl<'t> Segment<'t> {
     /// Returns the byte offset in the literal's text after the part that the byte `at` of the segment's value comes
     /// from. In a segment of plain characters that part is the byte itself. Otherwise it is the whole segment.
     #[inline(always)]
-    pub fn end_of(self, at: usize) -> usize
+    pub fn text_end_offset(self, at: usize) -> usize
         requires { segment_place self at < self.hi }
         ensures { result ≡ segment_end self.entry at }
     {
@@ -224,7 +224,7 @@ impl<'t> Segments<'t> {
         ensures within { IfSome result (λ s. s.at + length s.rest ≤ length text.now) }
         ensures none { IfNone result (HasNoQuoted (chars text.now)) }
     {
-        let found = find(text)?;
+        let found = parse_literal(text)?;
         if !is_quoted(found.kind) {
             return None;
         }
@@ -252,7 +252,7 @@ impl<'t> Segments<'t> {
 
     /// Returns the byte offset in the literal's text where the next segment begins, or that of the closing quote if no
     /// segment is left.
-    pub fn at(&self) -> usize
+    pub fn next_offset(&self) -> usize
         ensures { result ≡ self.now.at }
     {
         self.end - self.rest.len()
@@ -298,12 +298,12 @@ impl<'t> Segments<'t> {
     ///
     /// `at` counts from the start of the next segment's value. At the end of the value, and beyond it, the result is
     /// the offset of the closing quote.
-    pub fn end_of(self, at: usize) -> usize
+    pub fn text_end_offset(self, at: usize) -> usize
         ensures { IsEndLeft self.entry at result }
     {
         let end = self.end;
         match self.giving(at) {
-            Some((segment, within)) => segment.end_of(within),
+            Some((segment, within)) => segment.text_end_offset(within),
             None => end,
         }
     }
@@ -341,12 +341,12 @@ fn is_quoted(kind: Kind) -> bool
 /// ```
 /// use rl_grammar::text_offset;
 ///
-/// pub fn place_after_escape(text: &str) -> Option<usize> {
+/// pub fn second_value_byte_offset(text: &str) -> Option<usize> {
 ///     text_offset(text, 1)
 /// }
-/// // place_after_escape("\"\\u{e4}b\"") == Some(1)
-/// // place_after_escape("\"\\x41b\"") == Some(5)
-/// // place_after_escape("5") == None
+/// // second_value_byte_offset("\"\\u{e4}b\"") == Some(1)
+/// // second_value_byte_offset("\"\\x41b\"") == Some(5)
+/// // second_value_byte_offset("5") == None
 /// ```
 pub fn text_offset(text: &str, at: usize) -> Option<usize>
     ensures some { IfSome result (λ place. (kind : AnyKind) × IsBytePlace kind (chars text.now) at place) }

@@ -2,10 +2,10 @@
 
 ghost use Rattle.rl_lenient.specs.SourceLiterals.{StepsSource};
 
-use crate::found::{Found, find};
+use crate::found::{Found, parse_literal};
 use rl_lexer::{LexError, SourceToken, Sources};
 
-/// The result of [`source_step`], which advances over a Rust source to its next literal.
+/// The result of [`next_source_literal`], which advances over a Rust source to its next literal.
 #[derive(Clone, Copy)]
 pub enum SourceStep<'t> {
     /// The end of the source.
@@ -21,11 +21,11 @@ pub enum SourceStep<'t> {
 /// or an error comes first, the function returns that, and the cursor is at the end or before the error. Nothing is
 /// allocated.
 #[inline(always)]
-pub fn source_step<'t>(tokens: &mut Sources<'t>) -> SourceStep<'t>
+pub fn next_source_literal<'t>(tokens: &mut Sources<'t>) -> SourceStep<'t>
     ensures { StepsSource tokens.old result tokens.new }
 {
     match tokens.next_literal() {
-        Some(token) => SourceStep::Literal(token, find(token.text)),
+        Some(token) => SourceStep::Literal(token, parse_literal(token.text)),
         None => match tokens.error() {
             Some(error) => SourceStep::Rejected(error),
             None => SourceStep::End,

@@ -3,7 +3,7 @@
 ghost use Rattle.std.specs.Prelude.{◌≡◌, ◌<◌, ◌≤◌, ◌∷◌, [], ℕ, length, option_map, IfSome, IsTrue, IsFalse, ◌+◌, ◌++◌, drop, map, ◌≢◌, List, not, IfNone};
 ghost use Rattle.std.specs.Str.{chars, IsCharBoundary};
 ghost use Rattle.rl_syntax.specs.Texts.{begins_char, first_passes, IsTail, code};
-ghost use Rattle.rl_syntax.specs.Quoted.{holds_characters, is_plain, is_single, allows_code, may_be_hex, allows_unicode_escapes, is_string};
+ghost use Rattle.rl_syntax.specs.Quoted.{decodes_to_chars, is_plain, is_single, allows_code, may_be_hex, allows_unicode_escapes, is_string};
 ghost use Rattle.rl_syntax.specs.Strict.{is_allowed_in_single_quotes};
 ghost use Rattle.rl_lenient.specs.Bodies.{IsUnitValue};
 ghost use Rattle.rl_lenient.specs.Mirrors.UnitAt.{piece_value, is_character, is_character_at, IsHeldBy, named_in, digit_at, hex_at, code_digits, code_digits_at, first_code_digits_at, closed_at, unicode_at, after_blanks, escape_at, unit_at};
@@ -14,7 +14,7 @@ ghost use Rattle.rl_lenient.specs.Mirrors.Classes.{is_in_run};
 
 use rl_syntax::Kind;
 use rl_syntax::classes::{CharClass, skip_class};
-use rl_syntax::scan::{Marks, ascii_len_before, len_before};
+use rl_syntax::scan::{Marks, ascii_len_before_mark, len_before_mark};
 use rl_syntax::text::{ascii_at, split_char};
 
 /// The delimiters of a search that stops at non-ASCII bytes alone. Each is the byte 255, which is non-ASCII itself.
@@ -58,7 +58,7 @@ pub fn is_allowed_in_single_quotes(c: char) -> bool
 }
 
 /// Returns `true` if a literal of the kind may contain the character unescaped, as its own value.
-pub fn is_plain(kind: Kind, c: char) -> bool
+pub fn is_plain_char(kind: Kind, c: char) -> bool
     ensures { result ≡ is_plain kind c }
 {
     match kind {
@@ -84,7 +84,7 @@ pub fn allows_code(kind: Kind, code: u32) -> bool
 fn may_be_hex(kind: Kind, code: u32) -> bool
     ensures { result ≡ may_be_hex kind code }
 {
-    allows_code(kind, code) && (!kind.holds_characters() || code < 128)
+    allows_code(kind, code) && (!kind.decodes_to_chars() || code < 128)
 }
 
 /// Returns `true` if literals of the kind may contain escapes `\u{..}`: all kinds except byte strings and bytes.
@@ -148,7 +148,7 @@ fn digit(text: &str, at: usize) -> Option<(u32, usize)>
 fn hex_escape(kind: Kind, text: &str, at: usize) -> Option<(u8, usize)>
     requires { IsCharBoundary text.now at }
     ensures value { option_map (λ p. (p.0, chars (drop p.1 text.now))) result ≡ hex_at kind (chars (drop at text.now)) }
-    ensures ascii { IfSome result (λ p. IsTrue (holds_characters kind) → p.0 < 128) }
+    ensures ascii { IfSome result (λ p. IsTrue (decodes_to_chars kind) → p.0 < 128) }
     ensures place { IfSome result (λ p. IsCharBoundary text.now p.1) }
     ensures after { IfSome result (λ p. (at < p.1) × (p.1 ≤ length text.now)) }
 {
@@ -217,7 +217,7 @@ fn more_digits(first: u32, text: &str, from: usize, after: usize) -> CodeDigits
 /// Parses the hexadecimal digits and underscores of an escape `\u{..}`. `from` is the byte offset after its brace.
 /// Returns `None` if no digit is at `from`.
 #[inline(always)]
-pub fn code_digits(text: &str, from: usize) -> Option<CodeDigits>
+pub fn parse_code_digits(text: &str, from: usize) -> Option<CodeDigits>
     requires { IsCharBoundary text.now from }
     ensures value { option_map (λ d. code_digits d.value d.count (chars (drop d.last text.now)) (chars (drop d.end text.now)))
         result ≡ first_code_digits_at (chars (drop from text.now)) }
@@ -260,7 +260,7 @@ fn unicode_escape(kind: Kind, text: &str, at: usize) -> Option<(char, usize)>
     let Some((b'{', inside)) = ascii_at(text, at) else {
         return None;
     };
-    let (c, after) = closed_code(text, code_digits(text, inside)?)?;
+    let (c, after) = closed_code(text, parse_code_digits(text, inside)?)?;
     if allows_unicode_escapes(kind) && allows_code(kind, c as u32) {
         Some((c, after))
     } else {
@@ -280,7 +280,7 @@ fn skip_blanks(text: &str) -> &str
 /// if a literal of the kind doesn't allow the escape.
 #[tactic(auto, unfolding(crate::specs::Mirrors::UnitAt::escape_at), using(crate::proofs::AsciiLemmas::no_escape))]
 #[inline(always)]
-pub fn escape(kind: Kind, text: &str, at: usize) -> Option<(Piece, &str)>
+pub fn parse_escape(kind: Kind, text: &str, at: usize) -> Option<(Piece, &str)>
     requires { IsCharBoundary text.now at }
     ensures value { option_map (λ p. (piece_value kind p.0, chars p.1.now)) result
         ≡ escape_at kind (chars (drop at text.now)) }
@@ -326,7 +326,7 @@ fn character(kind: Kind, text: &str) -> Option<(Piece, &str)>
     ensures shorter { IfSome result (λ p. length p.1.now < length text.now) }
 {
     match split_char(text) {
-        Some((c, rest)) if is_plain(kind, c) => Some((Piece::Character(c), rest)),
+        Some((c, rest)) if is_plain_char(kind, c) => Some((Piece::Character(c), rest)),
         Some(('\r', rest)) if kind.is_string() => match split_char(rest) {
             Some(('\n', rest)) => Some((Piece::Byte(b'\n'), rest)),
             _ => None,
@@ -339,7 +339,7 @@ fn character(kind: Kind, text: &str) -> Option<(Piece, &str)>
 /// literal of the kind doesn't allow it.
 #[tactic(auto, unfolding(crate::specs::Mirrors::UnitAt::unit_at), using(crate::proofs::AsciiLemmas::no_backslash))]
 #[inline(always)]
-pub fn unit(kind: Kind, text: &str) -> Option<(Piece, &str)>
+pub fn parse_char_or_escape(kind: Kind, text: &str) -> Option<(Piece, &str)>
     ensures value { option_map (λ p. (piece_value kind p.0, chars p.1.now)) result
         ≡ unit_at kind (chars text.now) }
     ensures piece { IfSome result (λ p. IsHeldBy kind p.0) }
@@ -347,7 +347,7 @@ pub fn unit(kind: Kind, text: &str) -> Option<(Piece, &str)>
     ensures shorter { IfSome result (λ p. length p.1.now < length text.now) }
 {
     match ascii_at(text, 0) {
-        Some((b'\\', at)) => escape(kind, text, at),
+        Some((b'\\', at)) => parse_escape(kind, text, at),
         _ => character(kind, text),
     }
 }
@@ -355,20 +355,20 @@ pub fn unit(kind: Kind, text: &str) -> Option<(Piece, &str)>
 /// Splits the text before its first delimiter or non-ASCII character. If it contains neither, the first part is the
 /// whole text.
 #[inline(always)]
-pub fn split_ascii_run(marks: Marks, text: &str) -> (&str, &str)
+pub fn split_before_mark_or_non_ascii(marks: Marks, text: &str) -> (&str, &str)
     ensures cut { chars text.now ≡ chars result.0.now ++ chars result.1.now }
     ensures run { IsTrue (list_all (is_ascii_other marks) (chars result.0.now)) }
     ensures stops { IsFalse (first_passes (is_ascii_other marks) (chars result.1.now)) }
     ensures shorter { length result.1.now ≤ length text.now }
 {
-    text.split_at(ascii_len_before(marks, text.as_bytes()))
+    text.split_at(ascii_len_before_mark(marks, text.as_bytes()))
 }
 
 /// Whether all characters of the text are ASCII.
 pub(crate) fn is_ascii(text: &str) -> bool
     ensures { result ≡ list_all is_ascii (chars text.now) }
 {
-    ascii_len_before(NO_MARK, text.as_bytes()) == text.len()
+    ascii_len_before_mark(NO_MARK, text.as_bytes()) == text.len()
 }
 
 /// Returns the ASCII characters that a string literal of the kind doesn't allow unescaped, as the delimiters of a
@@ -399,8 +399,8 @@ fn run_len(kind: Kind, bytes: &[u8]) -> usize
     ensures { result ≡ prefix_len (is_plain kind) bytes.now }
 {
     match kind {
-        Kind::CStr => len_before(ends_of_runs(Kind::CStr), bytes),
-        _ => len_before(ends_of_runs(Kind::Str), bytes),
+        Kind::CStr => len_before_mark(ends_of_runs(Kind::CStr), bytes),
+        _ => len_before_mark(ends_of_runs(Kind::Str), bytes),
     }
 }
 
@@ -409,7 +409,7 @@ fn run_len(kind: Kind, bytes: &[u8]) -> usize
 fn byte_run_len(bytes: &[u8]) -> usize
     ensures { result ≡ prefix_len (is_plain Kind.ByteStr) bytes.now }
 {
-    ascii_len_before(ends_of_runs(Kind::ByteStr), bytes)
+    ascii_len_before_mark(ends_of_runs(Kind::ByteStr), bytes)
 }
 
 /// Returns the number of leading bytes that a string literal of the kind may contain unescaped. At a backslash, 0 is

@@ -10,7 +10,7 @@ ghost use Rattle.rl_lenient.specs.Founds.{IsFound, IsBodyWithin, body_in, suffix
 ghost use Rattle.rl_lenient.specs.Mirrors.NumberAt.{sign_at};
 ghost use Rattle.rl_lenient.specs.Values.{HasIntegerValue, HasNoValue, IsPastSigned, IsReadLiteral, signed, whole_text, with_minus};
 
-use crate::contents::str_into;
+use crate::contents::decode_str_into;
 use crate::digit_runs::is_negative;
 use crate::found::Found;
 use crate::next_literals::NextLiteral;
@@ -74,7 +74,7 @@ impl Found {
 
     /// Decodes a string literal, writes its value to the start of `out`, and returns the value's length in bytes. The
     /// length is at most that of the literal's body. `text` must be the literal's text, which was parsed.
-    pub fn str_into(&self, text: &str, out: &mut [u8]) -> usize
+    pub fn decode_str_into(&self, text: &str, out: &mut [u8]) -> usize
         requires found { IsFound text.now self.now }
         requires kind { self.now.kind ≡ Str }
         requires room { length (body_in text.now self.now.body) ≤ length out.old }
@@ -88,7 +88,7 @@ impl Found {
         if self.body.plain {
             put(out, 0, body.as_bytes())
         } else {
-            str_into(body, out)
+            decode_str_into(body, out)
         }
     }
 

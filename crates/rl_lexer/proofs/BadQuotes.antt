@@ -1,4 +1,4 @@
--- Invalid quoted literals: `after_bad_quote` consumes exactly these.
+-- Invalid quoted literals such as `'ab'`: `after_bad_quote` consumes exactly these.
 use Rattle.rl_syntax.proofs.Common.{◌≡◌, ◌≢◌, ℕ, inl, inr, lit<, Bool, true, false, not, ◌&&◌, ◌||◌, ◌==◌, cond, List, [], ◌∷◌, ◌++◌, append_assoc, Option, Some, None, drop, refl, sym, ◌∙◌, ap, subst, and_parts, or_parts, ne_eqb, none-some, list_all, is_ascii_digit, option_map, option_and_then, is_xid_continue-ascii}
 use Rattle.rl_syntax.proofs.Basics.{false_unless}
 use Rattle.rl_syntax.specs.Texts.{first_passes, is_white, is_start, is_continue, begins_char}
@@ -132,7 +132,7 @@ body_ends c t r h same = ([], tt, (let q : c ≡ 39 = is_equal c 39 h in cc))
 body_escaped : (c e : ℕ) (t r : List ℕ) → (c == 92) ≡ true → QuoteBody t r → QuoteBody (c ∷ e ∷ t) r
 body_escaped c e t r h (parts, is, same) = (EscapedPart e ∷ parts, is, (let q : c ≡ 92 = is_equal c 92 h in cc))
 
--- The text before an apostrophe at the start is empty.
+-- If a text begins with an apostrophe, the part of the text before its first apostrophe is empty.
 no_parts : (parts : List BodyPart) (e : ℕ) (t r : List ℕ) → IsQuoteBody parts → e ∷ t ≡ body_text parts ++ 39 ∷ r → e
     ≡ 39 → parts ≡ []
 no_parts [] e t r is same quote = refl
@@ -180,7 +180,7 @@ next_found (c ∷ e ∷ t) r h =
       ]
     ]
 
--- The text up to the next apostrophe, and the suffix after it.
+-- The text `t` contains an apostrophe. The record has the text before the first apostrophe, and the suffix after it.
 record OtherFound (t r : List ℕ) : Type 0 where
   pub parts : List BodyPart
   pub suffix : List ℕ
@@ -388,7 +388,7 @@ bare_other (c ∷ t) h =
     (cond (is_start c) (option_and_then after_closing (after_any_name (c ∷ t))) (after_other (c ∷ t)))) q.0
     ∙ ap (λ b. cond b (option_and_then after_closing (after_any_name (c ∷ t))) (after_other (c ∷ t))) q.1
 
--- If a text's first character fails the test `begins_word_or_escape`, it fails the test `begins_escape`.
+-- If the first character of a text fails the test `begins_word_or_escape`, it fails the test `begins_escape`.
 no_escape : (t : List ℕ) → first_passes begins_word_or_escape t ≡ false → first_passes begins_escape t ≡ false
 no_escape [] h = refl
 no_escape (c ∷ t) h = (or_parts (begins_escape c) (is_ascii_digit c || is_start c) h).0

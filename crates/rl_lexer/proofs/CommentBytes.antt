@@ -1,4 +1,4 @@
--- The ends of comments, by the bytes of a text.
+-- The ends of comments, which the code finds in the bytes of a text.
 use Rattle.rl_syntax.proofs.Common.{◌≡◌, ℕ, suc, zero, ◌<◌, ◌≤◌, ◌⊎◌, inl, inr, Bool, true, false, ◌&&◌, ◌==◌, cond, List, [], ◌∷◌, ◌++◌, Option, Some, None, refl, sym, ◌∙◌, ap, arith, ltb-false, is_ascii, chars, encode_utf8_all, IsUtf8, option_map, encodes-chars, chars_from_encodes}
 use Rattle.std.specs.Char.{encode_utf8}
 use Rattle.rl_syntax.specs.Texts.{first_passes}
@@ -72,7 +72,8 @@ after_block-encodes d (c ∷ []) = block_one d c (cases128 c)
 after_block-encodes d (c ∷ e ∷ cs) = block_two d c e cs (λ n. after_block-encodes n cs) (after_block-encodes d (e ∷ cs))
     (cases128 c) (cases128 e)
 
--- A rest that is found in the bytes of a text is the rest that is found in its characters.
+-- If the rest that the code finds in the bytes of a text is the encoding of the rest that the model finds in its characters, the
+-- model's rest is the characters of the code's rest.
 same_chars : (m : Option (List ℕ)) (rest : List ℕ) → IsUtf8 rest → Some rest ≡ option_map encode_utf8_all m
     → Some (chars rest) ≡ m
 same_chars None rest is e = absurd (cc)
@@ -96,8 +97,7 @@ block_of_bytes t rest is is_rest e = same_chars (after_block 0 (chars t)) rest i
 pub no_block_of_bytes : (t : List ℕ) → IsUtf8 t → after_block 0 t ≡ None → None ≡ after_block 0 (chars t)
 no_block_of_bytes t is e = same_none (after_block 0 (chars t)) (sym e ∙ block_bytes t is)
 
--- A text that begins with a non-ASCII character doesn't begin a comment. After `//` or `/*`, it is the text of a plain
--- comment.
+-- If a text begins with a non-ASCII character, no plain comment begins it.
 pub wide_comment : (t : List ℕ) → first_passes is_ascii t ≡ false → None ≡ after_comment t
 wide_comment [] h = refl
 wide_comment (c ∷ t) h = rw (

@@ -4,7 +4,7 @@ use Rattle.rl_syntax.specs.Trivia.{is_comment_line, is_comment_block, Inside, En
 use Rattle.rl_lexer.specs.Mirrors.SkippedAt.{after_block, after_line}
 use Rattle.rl_syntax.proofs.Basics.{false_unless}
 
--- The text after a comment's closing delimiter, inside `depth` more block comments.
+-- Returns the text after the closing delimiter of a comment that is nested in `depth` other block comments.
 abbrev pub closed : ℕ → List ℕ → Option (List ℕ)
 closed zero t = Some t
 closed (suc d) t = after_block d t
@@ -30,7 +30,7 @@ both c k e l h = (grind (arith, nat_tests), grind (arith, nat_tests))
 pub not_both : (c k e l : ℕ) → (c == k && e == l) ≡ false → c ≡ k → e ≡ l → ⊥
 not_both c k e l h p q = grind (arith, nat_tests)
 
--- The text consists of the insides of n block comments, and then the text r.
+-- The text consists of the remaining text of n nested block comments, each up to its closing delimiter, and then the text r.
 abbrev pub Closes : ℕ → List ℕ → List ℕ → Type 0
 Closes zero t r = t ≡ r
 Closes (suc n) t r = (i : Inside) × (m : List ℕ) × IsInside i × (t ≡ inside_text i ++ m) × Closes n m r
@@ -88,7 +88,7 @@ after_block-sound d (c ∷ e ∷ t) r h =
       | inr (inr (a, b, y)) ↦ closes_other d c e t r a b (after_block-sound d (e ∷ t) r y)
     ]
 
--- The inside of a block comment isn't empty.
+-- The text inside a block comment, with the closing delimiter, isn't empty.
 inside_cons : (i : Inside) → (e : ℕ) × (u : List ℕ) × (inside_text i ≡ e ∷ u)
 inside_cons End = (42, 47 ∷ [], refl)
 inside_cons (Other c i) = (c, inside_text i, refl)

@@ -1,4 +1,4 @@
--- Comments, including doc comments, don't contain literals.
+-- Comments, including doc comments, don't contain literal tokens.
 use Rattle.rl_syntax.proofs.Common.{◌≡◌, ℕ, Bool, true, false, ◌==◌, cond, List, [], ◌∷◌, Some, None, refl, sym, subst}
 use Rattle.rl_syntax.specs.Trivia.{is_comment_block, is_comment_line}
 use Rattle.rl_syntax.specs.Classes.{after_run}
@@ -14,7 +14,8 @@ use Rattle.rl_lexer.proofs.SourceFronts.{doc_block_found, doc_line_found}
 none-some : {A : Type 0} (x : A) → None ≡ Some x → ⊥
 none-some x e = cc
 
--- From the LF after a doc comment that is a line, tokens are found as from the next line.
+-- If only tokens other than literals precede the text `r` from the start of a line on, this is also so from the end of the line
+-- before on.
 reach_line_end : (t r : List ℕ) → Reaches (after_line t) r → Reaches (after_run is_in_line t) r
 reach_line_end [] r h = h
 reach_line_end (c ∷ t) r h = go (c == 10) refl h (reach_line_end t r)
@@ -52,7 +53,7 @@ reach_comment (c ∷ t) u r is h = go (c == 47) (c == 42) refl refl is
     go false true e f is = subst (λ (k : ℕ). Reaches (47 ∷ k ∷ t) r) (sym (is_equal c 42 f)) (reach_block t u r is h)
     go false false e f is = absurd (none-some u is)
 
--- If `after_any_comment` finds neither a doc comment nor a plain one after a slash, `after_comment` finds no plain one.
+-- If `after_any_comment` finds no comment, neither a doc comment nor a plain one, `after_comment` finds no plain comment.
 pub no_comment : (t : List ℕ) → after_any_comment t ≡ None → after_comment t ≡ None
 no_comment [] none = refl
 no_comment (c ∷ t) none = go (c == 47) (c == 42) (is_comment_block t) refl refl refl none

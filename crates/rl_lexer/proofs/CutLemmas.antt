@@ -1,4 +1,4 @@
--- The tokens of a text with one more token.
+-- The tokens of a text that gets one more token.
 use Rattle.rl_syntax.proofs.Common.{◌≡◌, ℕ, ◌+◌, List, [], ◌∷◌, ◌++◌, length, length-append, Option, Some, None, refl, sym, ◌∙◌, ap, subst, arith, encodes-append, encode_utf8_all, option_and_then}
 use Rattle.rl_lexer.specs.Skipping.{Skipped}
 use Rattle.rl_lexer.specs.Lexemes.{lexeme_text, IsLexeme}
@@ -8,7 +8,7 @@ use Rattle.rl_syntax.specs.Texts.{byte_len}
 pub byte_len-append : (xs ys : List ℕ) → byte_len (xs ++ ys) ≡ byte_len xs + byte_len ys
 byte_len-append xs ys = ap length (encodes-append xs ys) ∙ length-append (encode_utf8_all xs) (encode_utf8_all ys)
 
--- The rest after a token begins where the token ends.
+-- The text after a token begins at the byte offset where the token ends.
 pub tail_place : (w : LexedToken) (after : List ℕ) (n : ℕ) → w.at + byte_len (lexeme_text w.lexeme ++ after) ≡ n
     → end_of w + byte_len after ≡ n
 tail_place w after n place = omega (arith, place, byte_len-append (lexeme_text w.lexeme) after)

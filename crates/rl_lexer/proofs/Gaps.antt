@@ -14,11 +14,11 @@ abbrev pub BeginsGap : List ℕ → Type 0
 BeginsGap [] = ⊤
 BeginsGap (c ∷ t) = IsTrue (is_white c || c == 47)
 
--- Lexemes that their own characters determine: all except punctuation characters.
+-- Every lexeme except a punctuation character. Its own characters determine where such a lexeme ends.
 abbrev pub KeepsItsEnd : Lexeme → Type 0
 KeepsItsEnd (MarkLexeme c) = ⊥
 KeepsItsEnd _ = ⊤
 
--- A lexeme other than a punctuation character is also a lexeme before a separator and at the end of a text.
+-- A lexeme other than a punctuation character stays a lexeme if it is followed by white space, a slash or the end of a text.
 abbrev pub StaysBeforeGap : Type 0
 StaysBeforeGap = (l : Lexeme) (after gap : List ℕ) → KeepsItsEnd l → IsLexeme l after → BeginsGap gap → IsLexeme l gap

@@ -1,4 +1,4 @@
--- The results of `lexeme_at`, by the definitions.
+-- The results of `lexeme_at` are those that the definitions of lexemes describe.
 use Rattle.rl_syntax.proofs.Common.{◌≡◌, ℕ, ◌++◌, List, Option, Some, None, sym, ◌∙◌, ap, Bor, IfSome, IfNone, option_map, chars, none-some}
 use Rattle.rl_lexer.specs.declared.lexeme.Form.{Form as FoundForm}
 use Rattle.rl_lexer.specs.Lexemes.{LexemeForm, form_of, LexemeBefore}
@@ -10,7 +10,7 @@ use Rattle.rl_lexer.proofs.LexemeFound.{lexeme_at-found}
 abbrev Answer : Type 0
 Answer = Option (FoundForm × Bor (List ℕ))
 
--- The form of a token, and the characters of the text after it.
+-- From a result of the code, returns the token's form as the definitions have it, and the characters of the text after the token.
 abbrev seen : FoundForm × Bor (List ℕ) → LexemeForm × List ℕ
 seen p = (form_view p.0, chars p.1.now)
 

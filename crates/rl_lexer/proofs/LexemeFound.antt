@@ -103,7 +103,7 @@ raw_found n (c ∷ t) r h =
       | inr (a, x) ↦ raw_more n c t r a (raw_found n t r x)
     ]
 
--- The text begins with the rest of an escaped character and the closing quote, and `r` is the text after them.
+-- The text begins with the rest of an escaped character and the closing quote, as in `'\n'`, and `r` is the text after them.
 abbrev More : List ℕ → List ℕ → Type 0
 More t r = (more : List ℕ) × (list_all (λ d. not (d == 39 || d == 10)) more ≡ true) × (t ≡ more ++ 39 ∷ r)
 
@@ -208,7 +208,7 @@ exponent_step (c ∷ t) true h =
 pub exponent_found : (t : List ℕ) → Powered t (after_lexed_exponent t)
 exponent_found t = exponent_step t (begins_exponent t) refl
 
--- A lexeme of this form begins the text, and the rest follows it.
+-- A lexeme of the given form begins the text, and the second part of the pair is the text after the lexeme.
 abbrev pub Found : List ℕ → LexemeForm × List ℕ → Type 0
 Found t p = (l : Lexeme) × IsLexeme l p.1 × (t ≡ lexeme_text l ++ p.1) × (form_of l ≡ p.0)
 
@@ -250,7 +250,7 @@ decimal_found d t is other =
       refl,
     )
 
--- The facts about a character that its class gives.
+-- The facts about a character that follow from its class.
 abbrev Fact : HeadClass → ℕ → Type 0
 Fact LetterBHead c = (is_start c ≡ true) × (c ≡ 98)
 Fact LetterCHead c = (is_start c ≡ true) × (c ≡ 99)
@@ -379,8 +379,8 @@ word_found c t p is other h =
 none3 : (p q r : Bool) → p ≡ false → q ≡ false → r ≡ false → (p || (q || r)) ≡ false
 none3 p q r a b d = ap (λ x. x || (q || r)) a ∙ ap (λ x. x || r) b ∙ d
 
--- If `k` is the first character of `t`, a lexeme that begins the text of `c`, `k` and the rest of `t` begins the text of `c` and
--- `t`.
+-- If the text `t` begins with the character k, the text of c, k and the rest of `t` is the text of c and `t`, so a lexeme that
+-- begins the first of these texts begins the second.
 after_prefix : (c k : ℕ) (t : List ℕ) (p : LexemeForm × List ℕ) → begins_char k t ≡ true
     → Found (c ∷ k ∷ drop 1 t) p → Found (c ∷ t) p
 after_prefix c k t p e found = subst (λ (s : List ℕ). Found (c ∷ s) p) (sym (prefixed k t e)) found

@@ -26,7 +26,7 @@ ascii_start c = (c == 95 || is_ascii_alphabetic c) && not (is_white c)
 pub start_ascii : (c : ℕ) → c < 128 → is_start c ≡ ascii_start c
 start_ascii c l = ap (λ b. (c == 95 || b) && not (is_white c)) (is_xid_start-ascii c l)
 
--- If each of the codes passes the test, a character among them passes it.
+-- If all codes of a list pass a test, a character whose code is in the list passes it.
 pub among : (codes : List ℕ) (test : ℕ → Bool) (c : ℕ) → list_all test codes ≡ true → is_among codes c ≡ true → test c
     ≡ true
 among [] test c all is = absurd (cc)
@@ -51,7 +51,7 @@ not_start_among codes c low all is = start_ascii c (low_among codes c low is)
 pub at_class : (c : ℕ) (t : List ℕ) (k : HeadClass) → head_class c ≡ k → lexeme_at (c ∷ t) ≡ by_class k c t
 at_class c t k h = ap (λ x. by_class x c t) h
 
--- The class of a character that is neither a delimiter nor a punctuation character.
+-- Returns the class of a character that is neither a delimiter nor a punctuation character.
 abbrev pub tail_punct : ℕ → HeadClass
 tail_punct c = cond (is_ascii_digit c) DigitHead (cond (c == 34) QuoteHead (cond (c == 39) ApostropheHead StrayHead))
 
@@ -61,7 +61,7 @@ tail_slash c = cond (is_punct c) MarkHead (tail_punct c)
 abbrev pub after_delimiter : ℕ → HeadClass
 after_delimiter c = cond (c == 47) SlashHead (tail_slash c)
 
--- A character in no other class is in the class of stray characters.
+-- A character that is in no other class is a stray character.
 pub stray_class : (c : ℕ) → is_start c ≡ false → is_among delimiters c ≡ false → (c == 47) ≡ false → is_among marks c
     ≡ false → is_ascii_digit c ≡ false → (c == 34) ≡ false → (c == 39) ≡ false → head_class c ≡ StrayHead
 stray_class c start delimiter slash mark digit quote apostrophe =
@@ -145,7 +145,7 @@ front_mark c t (inl is) =
     ∙ ap (λ b. cond (b || c == 47) MarkHead (tail_punct c)) is)
 front_mark c t (inr (e, h)) = ap (λ x. lexeme_at (x ∷ t)) e ∙ front_slash t h ∙ ap (λ x. Some (MarkForm x, t)) (sym e)
 
--- The text of a raw literal, with a text after it, is the literal's parts and that text, joined from the right.
+-- The text of a raw literal is the same, whether its parts and the text after it are joined from the left or from the right.
 pub raw_text : (n : ℕ) (body x t : List ℕ) → (((replicate n 35 ++ (34 ∷ body)) ++ (34 ∷ replicate n 35)) ++ x) ++ t
     ≡ replicate n 35 ++ (34 ∷ (body ++ (34 ∷ (replicate n 35 ++ (x ++ t)))))
 raw_text n body x t = simp append_assoc

@@ -1,4 +1,4 @@
--- The text after each part of a lexeme, by the parts before it.
+-- For each part of a lexeme, a function returns the text after the part.
 use Rattle.rl_syntax.proofs.Common.{◌≡◌, ℕ, suc, zero, Bool, true, false, not, ◌&&◌, ◌||◌, ◌==◌, cond, List, [], ◌∷◌, ◌++◌, Some, None, drop, replicate, refl, sym, ◌∙◌, ap, subst, append_assoc, and_parts, list_all, is_ascii_digit}
 use Rattle.rl_syntax.specs.Texts.{is_underscore, first_passes, is_run_part, is_continue}
 use Rattle.rl_lexer.specs.Lexemes.{BodyPart, PlainPart, EscapedPart, body_text, IsBody, CharacterBody, OneCharacter, EscapedCharacter, character_body_text, IsCharacterBody, LexedFraction, NoLexedFraction, LexedDot, lexed_fraction_text, LexedSign, NoLexedSign, LexedPlus, LexedMinus, lexed_sign_text, LexedPower, lexed_exponent_text, IsRun, IsLexedSuffix, IsRawBody, IsLexedFraction}
@@ -16,7 +16,7 @@ pub neither_true : (a b : Bool) → not (a || b) ≡ true → (a ≡ false) × (
 neither_true true b h = absurd (cc)
 neither_true false b h = (refl, not_true b h)
 
--- A text that doesn't begin with a character that passes the test is unchanged.
+-- If a text doesn't begin with a character that passes a test, `after_run` returns the text itself.
 run_stops : (test : ℕ → Bool) (t : List ℕ) → first_passes test t ≡ false → after_run test t ≡ t
 run_stops test [] h = refl
 run_stops test (c ∷ t) h = ap (λ b. cond b (after_run test t) (c ∷ t)) h
@@ -34,7 +34,7 @@ suffix_past [] (c ∷ t) is = ap (λ b. cond b (after_run is_continue t) (c ∷ 
 suffix_past (c ∷ x) t (is, run) = ap (λ b. cond b (after_run is_continue (x ++ t)) (c ∷ x ++ t)) is
     ∙ run_past is_continue x t run
 
--- A string literal's closing quote at the start of a text ends the literal.
+-- A closing quote at the start of a text ends a string literal, so `after_quote` returns the text after the quote.
 pub quote_now : (t : List ℕ) → after_quote (34 ∷ t) ≡ Some t
 quote_now [] = refl
 quote_now (e ∷ t) = refl

@@ -1,4 +1,4 @@
--- Single steps of the loops over a lexeme.
+-- Single iterations of the loops that lex a token.
 use Rattle.rl_syntax.proofs.Common.{◌≡◌, ◌≢◌, ℕ, ◌⊎◌, inl, inr, ◌||◌, ◌&&◌, true, false, ◌==◌, cond, List, [], ◌∷◌, ◌++◌, append-nil, drop, Some, None, refl, sym, subst, ◌∙◌, ap, arith, and_parts, ne_eqb, list_all, nat_tests}
 use Rattle.rl_lexer.proofs.LexemeRows.{quote_now}
 use Rattle.rl_lexer.specs.Lexemes.{begins_hashes}
@@ -8,7 +8,7 @@ use Rattle.rl_syntax.specs.Scanning.{is_one_of, is_other, IsNextMark}
 use Rattle.rl_syntax.proofs.ScanLemmas.{not_first, not_second}
 use Rattle.rl_syntax.proofs.Basics.{false_unless}
 
--- A character that is neither a quote nor a backslash doesn't end a string literal.
+-- A character that is neither a quote nor a backslash doesn't change the result of the search for the end of a string literal.
 pub quote_passes : (s t : List ℕ) (c : ℕ) → s ≡ c ∷ t → c ≢ 34 → c ≢ 92 → after_quote t ≡ after_quote s
 quote_passes s t c e a b =
     sym (ap after_quote e ∙ go t (false_unless (c == 34) (λ h. let q : c ≡ 34 = grind (arith, nat_tests) in a q))
@@ -75,7 +75,7 @@ pub raw_passes : (m : Marks) (n : ℕ) (s t : List ℕ) (k : ℕ) → m.first �
     → begins_hashes n t ≡ false → after_raw n s ≡ after_raw n t
 raw_passes m n s t k a next is h = raw_at m n s t k a next is ∙ ap (λ b. cond b (Some (drop n t)) (after_raw n t)) h
 
--- The delimiter is one of the two that the search looks for.
+-- If a search looks for two characters, the character that it finds is one of the two.
 pub which : (m : Marks) (a b k : ℕ) → m ≡ record { first = a; second = b; third = b; fourth = b } → is_one_of m k ≡ true
     → (k ≡ a) ⊎ (k ≡ b)
 which m a b k e h = go (subst (λ z. is_one_of z k ≡ true) e h)

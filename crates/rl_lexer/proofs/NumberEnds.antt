@@ -1,4 +1,4 @@
--- A number by its first digit, and numbers that end right after their digits.
+-- A number token that is recognized by its first digit, and number tokens that end right after their digits.
 use Rattle.rl_syntax.proofs.Common.{◌≡◌, ℕ, ◌⊎◌, inl, inr, Bool, true, false, not, ◌&&◌, ◌||◌, ◌==◌, cond, List, [], ◌∷◌, Some, refl, sym, ◌∙◌, ap, lit<, arith, drop, nat_tests, is_ascii, is_ascii_digit}
 use Rattle.rl_syntax.proofs.Basics.{false_unless}
 use Rattle.rl_syntax.specs.Texts.{is_underscore, first_passes, is_run_part, is_start, is_continue}
@@ -21,7 +21,7 @@ apostrophe_first s t b e is = ap lexeme_at e ∙ ap (λ x. lexeme_at (x ∷ t)) 
 pub slash_first : (s t : List ℕ) (b : ℕ) → s ≡ b ∷ t → b ≡ 47 → lexeme_at s ≡ by_class SlashHead 47 t
 slash_first s t b e is = ap lexeme_at e ∙ ap (λ x. lexeme_at (x ∷ t)) is ∙ at_class 47 t SlashHead class47
 
--- The character is neither a dot nor the start of an identifier.
+-- Whether a character is neither a dot nor the start of an identifier. A number token ends before such a character.
 abbrev pub goes_on_none : ℕ → Bool
 goes_on_none c = not (c == 46 || is_start c)
 
@@ -57,7 +57,7 @@ no_start c = not (is_start c)
 starts : (k : ℕ) → is_start k ≡ true → no_start k ≡ false
 starts k h = ap not h
 
--- A number that ends right after its digits has no underscore after them.
+-- If a number token ends right after its leading digits, no underscore follows the digits.
 same_row : (t : List ℕ) → first_passes goes_on_none (after_run is_ascii_digit t) ≡ true
     → after_run (is_run_part is_ascii_digit) t ≡ after_run is_ascii_digit t
 same_row [] h = refl
@@ -75,7 +75,7 @@ same_row (d ∷ u) h = go (is_ascii_digit d) refl h (same_row u)
         (not_among d 95 no_start (ap not (neither_true (d == 46) (is_start d) h).1)
         (starts 95 (start_ascii 95 (lit< tt))))
 
--- Leading digits are part of the leading digits and underscores.
+-- The text after all leading digits and underscores is the same, whether or not the leading digits were skipped before.
 row_on : (t : List ℕ) → after_run (is_run_part is_ascii_digit) (after_run is_ascii_digit t)
     ≡ after_run (is_run_part is_ascii_digit) t
 row_on [] = refl
@@ -88,7 +88,8 @@ row_on (d ∷ u) = go (is_ascii_digit d) refl (row_on u)
     go true is more = more ∙ sym (ap (λ a. cond (a || d == 95) (after_run (is_run_part is_ascii_digit) u) (d ∷ u)) is)
     go false is more = refl
 
--- A base's letter is lexed as the start of a suffix, so each number is lexed as a decimal one.
+-- If a letter of a base such as `x` follows the digit 0, it is lexed as the start of a suffix, so the number is lexed as a
+-- decimal one.
 base_is_suffix : (t : List ℕ) → first_passes is_base_letter t ≡ true → after_run is_continue (drop 1 t)
     ≡ after_decimal t
 base_is_suffix [] h = absurd (cc)

@@ -9,7 +9,7 @@ use Rattle.rl_lexer.proofs.Comments.{chosen, same_Some, Closes, after_block-soun
 use Rattle.rl_syntax.proofs.Basics.{false_unless}
 use Rattle.rl_syntax.specs.Classes.{after_run}
 
--- The meaning of `after_line`: the text after the first LF, or an empty text.
+-- The text `r` follows the first LF of a text. If the text contains no LF, `r` is empty.
 abbrev LineEnds : List ℕ → List ℕ → Type 0
 LineEnds t r = ((body : List ℕ) × OneLine body × (t ≡ body ++ 10 ∷ r)) ⊎ (OneLine t × (r ≡ []))
 
@@ -26,7 +26,7 @@ after_line-sound : (t : List ℕ) → LineEnds t (after_line t)
 after_line-sound [] = inr (refl, refl)
 after_line-sound (c ∷ t) = line_ends_step c t (c == 10) refl (after_line-sound t)
 
--- The meaning of `after_piece`: the text after one piece, or an empty text after a line comment at the end of the text.
+-- The text `r` follows one piece of a text: white space, a plain comment, or a line comment at the end of the text.
 abbrev pub TakesOff : List ℕ → List ℕ → Type 0
 TakesOff t r = ((p : TriviaPiece) × IsTriviaPiece p × (t ≡ trivia_piece_text p ++ r)) ⊎ (IsOpenLine t × (r ≡ []))
 
@@ -104,7 +104,7 @@ after_piece-open t l =
     ∙ ap (λ x. cond x (Some (after_line l.body)) None) l.is_body.plain
     ∙ ap Some (after_line-open l.body l.is_body.one_line)
 
--- No piece begins the text exactly if `after_piece` returns `None`.
+-- If `after_piece` returns `None` for a text, neither white space nor a plain comment begins the text.
 pub stops-from_none : (t : List ℕ) → after_piece t ≡ None → BeginsTrivia t → ⊥
 stops-from_none t h (inl (p, rest, is, same)) = none-some rest
     (sym h ∙ ap after_piece same ∙ after_piece-past p rest is)
@@ -118,7 +118,7 @@ none_unless : (t : List ℕ) (o : Option (List ℕ)) → after_piece t ≡ o →
 none_unless t None h stops = refl
 none_unless t (Some r) h stops = absurd (stops (begins-from_some t r (after_piece-sound t r h)))
 
--- One step of a function that consumes pieces, with a limit on their number.
+-- One iteration of a function that skips white space and comments, with a limit on the number of iterations.
 abbrev goes_on : (List ℕ → List ℕ) → List ℕ → Option (List ℕ) → List ℕ
 goes_on f t None = t
 goes_on f t (Some r) = f r
@@ -148,7 +148,7 @@ skip_in-stops : (n : ℕ) (t : List ℕ) → after_piece t ≡ None → skip_in 
 skip_in-stops zero t h = refl
 skip_in-stops (suc n) t h = ap (λ x. goes_on (skip_in n) t x) h
 
--- If its limit is large enough, the function reaches the text after all pieces.
+-- If its limit is large enough, the skipping function reaches the text after all white space and comments.
 abbrev Reaches : List ℕ → List ℕ → Type 0
 Reaches t r = (ps : List TriviaPiece) × ((n : ℕ) → skip_in (adds ps (suc n)) t ≡ r)
 
@@ -249,7 +249,7 @@ run_ends test t u e = ap (first_passes test) e ∙ go t
     go [] = refl
     go (c ∷ t) = step c t (test c) refl (go t)
 
--- A text that begins with neither white space nor a slash isn't changed by skipping.
+-- Skipping white space and comments doesn't change a text that begins with neither white space nor a slash.
 pub skipped_none : (t : List ℕ) → first_passes is_white t ≡ false → first_passes (λ c. c == 47) t ≡ false → Skipped t t
 skipped_none [] white slash = skipped_here [] refl
 skipped_none (c ∷ t) white slash = skipped_here (c ∷ t) (ap (λ b. cond b (after_comment t)

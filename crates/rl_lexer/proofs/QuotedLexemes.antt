@@ -1,4 +1,4 @@
--- A quoted literal of Rust's grammar is a lexeme, by its kind.
+-- Each quoted literal of Rust's grammar is a lexeme.
 use Rattle.rl_syntax.proofs.Common.{◌≡◌, ◌≢◌, ℕ, ◌⊎◌, inl, inr, zero, suc, Bool, true, false, not, ◌&&◌, ◌||◌, ◌==◌, List, [], ◌∷◌, ◌++◌, length, replicate, refl, sym, ◌∙◌, ap, subst, append-nil, drop, nat_lt, if◌then◌else◌, list_all, flat_map, is_ascii_hexdigit, all_scalars, and_parts, and_from, or_from, not_from_false, list_all-append}
 use Rattle.std.specs.Prelude.{nat_le}
 use Rattle.rl_syntax.specs.declared.kind.Kind.{Kind}
@@ -13,7 +13,7 @@ use Rattle.rl_lexer.proofs.Pieces.{is_equal}
 use Rattle.rl_syntax.proofs.StrictQuoted.{hex_first, octal_hex, one_unit, bare_not_backslash, between}
 use Rattle.rl_syntax.specs.Spelling.{place_value}
 
--- The character is neither of the two that end the text between quotes or begin an escape.
+-- Whether a character is neither of two given characters, such as the quote and the backslash.
 abbrev free : ℕ → ℕ → ℕ → Bool
 free a b c = not (c == a || c == b)
 
@@ -22,7 +22,7 @@ pub free_from : (test : ℕ → Bool) (a b : ℕ) → test a ≡ false → test 
 free_from test a b at_a at_b c h = not_from_false (c == a || c == b)
     (or_from (c == a) (c == b) (apart test c a h at_a) (apart test c b h at_b))
 
--- The two characters aren't part of an escape after its first two characters.
+-- Neither of two given characters can be part of an escape after the escape's first two characters.
 record Outside (a b : ℕ) : Type 0 where
   pub hex_a : is_ascii_hexdigit a ≡ false
   pub hex_b : is_ascii_hexdigit b ≡ false
@@ -36,7 +36,7 @@ quote_outside = record { hex_a = refl; hex_b = refl; underscore = refl; open_bra
 apostrophe_outside : Outside 39 10
 apostrophe_outside = record { hex_a = refl; hex_b = refl; underscore = refl; open_brace = refl; close_brace = refl }
 
--- An escape: a backslash, a character, and more.
+-- The unit is an escape: a backslash, a character, and more characters, none of which is one of two given characters.
 record Escape (a b : ℕ) (s : StrictUnit) : Type 0 where
   pub first : ℕ
   pub more : List ℕ
@@ -117,7 +117,7 @@ unicode_of a b Char ds o h = spaced_escape a b ds o h
 unicode_of a b CStr ds o h = spaced_escape a b ds o (and_parts (is_unicode_escape ds) (not (spaced_value ds == 0)) h).0
 unicode_of a b kind ds o h = absurd (cc)
 
--- The unit is an allowed character, or an escape.
+-- The unit is a character that a literal of the kind may contain unescaped, or an escape.
 abbrev OneOrEscape : ℕ → ℕ → Kind → StrictUnit → Type 0
 OneOrEscape a b k s = ((c : ℕ) × (s ≡ Itself c) × (is_strict_unit k (Itself c) ≡ true)) ⊎ Escape a b s
 
@@ -133,7 +133,7 @@ one_or_escape a b k (UnicodeEscape ds) o line h = inr (unicode_of a b k ds o h)
 one_or_escape a b k (LineBreak blanks) o line h = inr (record
     { first = 10; more = blanks; text = refl; each = line blanks h })
 
--- The properties of a kind of strings that the parts of its body need.
+-- The properties of a kind of strings that make the text between its quotes the body of a lexeme.
 pub record StringKind (k : Kind) : Type 0 where
   pub bare : (c : ℕ) → is_strict_unit k (Itself c) ≡ true → free 34 92 c ≡ true
   pub line : (blanks : List ℕ) → is_strict_unit k (LineBreak blanks) ≡ true → list_all (free 34 92) blanks ≡ true
@@ -168,7 +168,7 @@ plain_body (c ∷ cs) more all is =
     let p = and_parts (free 34 92 c) (list_all (free 34 92) cs) all in
     (p.0, plain_body cs more p.1 is)
 
--- The parts of a string's body with the text of these characters and escapes.
+-- The characters and escapes of a string are the text of a lexeme's body.
 record Spelled (us : List StrictUnit) : Type 0 where
   pub parts : List BodyPart
   pub text : body_text parts ≡ flat_map strict_text us
@@ -200,7 +200,7 @@ quoted_text NoPrefix b x = refl
 quoted_text BytePrefix b x = refl
 quoted_text CPrefix b x = refl
 
--- The text is a string literal with escapes, with this prefix and this suffix.
+-- The text is a string literal with escapes, with the given prefix and suffix.
 pub record StringParts (p : LiteralPrefix) (t x : List ℕ) : Type 0 where
   pub parts : List BodyPart
   pub is_body : IsBody parts
@@ -220,7 +220,7 @@ string_parts k t x v f s =
           ∙ sym (quoted_text f.before (body_text r.parts) x);
     }
 
--- The properties of `Char` and `Byte` that the text between their quotes needs.
+-- The properties of `Char` and `Byte` that make the text between their quotes the body of a lexeme.
 pub record SingleKind (k : Kind) : Type 0 where
   pub bare : (c : ℕ) → is_strict_unit k (Itself c) ≡ true → not (c == 92) ≡ true
   pub line : (blanks : List ℕ) → is_strict_unit k (LineBreak blanks) ≡ true → list_all (free 39 10) blanks ≡ true
@@ -235,7 +235,7 @@ character_kind = record { bare = bare_not_backslash; line = λ blanks h. absurd 
 pub byte_kind : SingleKind Byte
 byte_kind = record { bare = λ c h. bare_not_backslash c (and_parts (nat_lt c 128) (is_allowed_in_single_quotes c) h).1; line = λ blanks h. absurd (cc); is_byte = true; opens_is = refl; ends_is = refl; one = λ us h. h }
 
--- The text between the quotes of a character or byte literal, for its one character or escape.
+-- The text of the character or escape in a character or byte literal is the body of a lexeme.
 record Between (s : StrictUnit) : Type 0 where
   pub inside : CharacterBody
   pub text : strict_text s ≡ character_body_text inside
@@ -250,7 +250,7 @@ single_text : (b : Bool) (w x : List ℕ) → ((if b then 98 ∷ [] else []) ++ 
 single_text true w x = refl
 single_text false w x = refl
 
--- The text is a character or byte literal with this suffix.
+-- The text is a character or byte literal with the given suffix.
 pub record SingleParts (b : Bool) (t x : List ℕ) : Type 0 where
   pub inside : CharacterBody
   pub is_body : IsCharacterBody inside
@@ -277,7 +277,7 @@ single_parts k t x v f s =
           ∙ sym (single_text f.is_byte (character_body_text w.inside) x);
     }
 
--- In a raw string, no quote between its quotes is followed by the hashes.
+-- If no quote in a raw string's body is followed by as many hashes as begin the string, the body is that of a lexeme.
 pub raw_body : (n : ℕ) (body : List ℕ) → ((front rest : List ℕ) → body ≢ (front ++ (34 ∷ replicate n 35)) ++ rest)
     → IsRawBody n body
 raw_body n [] none = tt

@@ -1,4 +1,4 @@
--- The token that the source cursor consumes next, and the parts that it borrows.
+-- The token that a cursor over a source consumes next, and the texts that the cursor borrows.
 use Rattle.rl_syntax.proofs.Common.{◌≡◌, ◌≢◌, ℕ, ◌+◌, ◌-◌, ◌⊎◌, inl, inr, Bool, true, false, ◌||◌, ◌==◌, List, [], ◌∷◌, ◌++◌, length, length-append, take, slice_range, refl, sym, ◌∙◌, ap, subst, arith, codes, if◌then◌else◌, append_cancel_right, encodes-append, encodes-chars, chars_from_encodes, chars, encode_utf8_all, IsUtf8}
 use Rattle.rl_syntax.specs.Texts.{IsTail, byte_len, first_passes, begins}
 use Rattle.rl_lexer.specs.Skipping.{Skipped}
@@ -18,7 +18,7 @@ use Rattle.rl_lexer.proofs.LexemeOpeners.{quote_begins}
 use Rattle.rl_lexer.proofs.SourceFronts.{proper_source, closed_here}
 use Rattle.rl_syntax.proofs.Rests.{tail_length}
 
--- The source cursor's invariant holds before any token is consumed.
+-- Before any token of a source is consumed, the invariant of the cursor over the source holds.
 pub begun : (text front rest : List ℕ) → IsUtf8 text → IsTail text front → IsWithoutPreamble (chars text) (chars front)
     → Skipped (chars front) (chars rest) → IsCutUpTo (chars text) [] (chars rest)
 begun text front rest is following is_front skipped = record {
@@ -29,7 +29,7 @@ begun text front rest is following is_front skipped = record {
   are_cuts = skipped;
 }
 
--- The rest after a token begins where the token ends.
+-- The text after a token of a source begins at the byte offset where the token ends.
 tail_place : (w : CutSource) (after : List ℕ) (n : ℕ) → w.at + byte_len (source_text w.token ++ after) ≡ n
     → source_end w + byte_len after ≡ n
 tail_place w after n place = omega (arith, place, byte_len-append (source_text w.token) after)
@@ -59,7 +59,7 @@ cut_more t done u w after r cut same is place skipped = record {
   are_cuts = sources_more cut.at cut.body done u w after r cut.are_cuts same is (place ∙ sym cut.place) skipped;
 }
 
--- The token at the start of the source's rest, with its bytes and its range.
+-- The token at the start of a source's rest, with its bytes, and its range in the source.
 record SourceAt (text rest following token : List ℕ) (kind : SourceKind) (lo hi : ℕ) : Type 0 where
   pub front : SourceBefore (chars rest) kind (chars following)
   pub rest_text : IsUtf8 rest
@@ -130,7 +130,7 @@ takes text rest following next l is in_rest in_tail skips at =
       following = tail_step rest following next in_rest in_tail;
     }
 
--- The token that the cursor returns is the next one.
+-- A token that the cursor over a source returns is the next token of the source.
 pub takes_source : (text rest following next : List ℕ) (l : SourceToken) → IsCursorState text rest
     → SourceBefore (chars rest) (source_view l.form) (chars following) → IsTail rest following → IsUtf8 l.text.now
     → l.text.now ≡ slice_range rest 0 (length rest - length following) → l.lo ≡ length text - length rest → l.hi
@@ -186,7 +186,7 @@ error_here (c ∷ t) some none = go (opens (c ∷ t)) refl
     go true h = opens_one (c ∷ t) some none (open_bits (c ∷ t) h)
     go false h = absurd (none StrayKind t (record { token = StrayToken c; is_source = (no_proper (c ∷ t) none, closed_here (c ∷ t) h); text_is = refl; kind_is = refl }))
 
--- The error that the source cursor returns if no token begins the rest.
+-- The error that a cursor over a source returns if no token begins its rest. It is the first error of the source.
 pub record StopsSource (t : CursorState) (e : LexError) : Type 0 where
   pub error : SourceErrorAt e.kind (chars t.rest)
   pub place : e.at + length t.rest ≡ length t.text

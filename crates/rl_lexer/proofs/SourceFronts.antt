@@ -51,7 +51,7 @@ pub no_line : (m : Marks) (s : List ℕ) → m ≡ record { first = 10; second =
     → list_all (is_other m) s ≡ true → list_all is_in_line s ≡ true
 no_line m s is others = one_line m s (ap (λ z. z.first) is) others
 
--- The text after a line doesn't decide whether a line comment is plain.
+-- Whether a line is a plain comment doesn't depend on the text after the line.
 line_plain : (body t : List ℕ) → first_passes is_in_line t ≡ false → is_comment_line (body ++ t) ≡ is_comment_line body
 line_plain body [] h = ap is_comment_line (append-nil body)
 line_plain body (c ∷ t) h = ap (λ x. is_comment_line (body ++ x ∷ t)) (is_equal c 10 (not_false (c == 10) h))
@@ -104,7 +104,7 @@ doc_block_past : (i : Inside) (t : List ℕ) → IsInside i → is_comment_block
 doc_block_past i t is doc =
     ap (λ b. cond b None (after_block 0 (inside_text i ++ t))) (plain_block-same i t ∙ doc) ∙ after_block-past i 0 t is
 
--- The token is a doc comment, a lifetime or a raw identifier.
+-- Whether a token is a doc comment, a lifetime or a raw identifier.
 abbrev pub IsOther : SourceLexeme → Type 0
 IsOther (PlainToken l) = ⊥
 IsOther (BadQuoteToken q) = ⊥
@@ -247,8 +247,7 @@ true_false : (b : Bool) → b ≡ true → b ≡ false → ⊥
 true_false true h k = absurd (cc)
 true_false false h k = absurd (cc)
 
--- If the model `opens` says that a text begins neither like a quoted literal nor like a block comment, the definition `Opens`
--- says so too.
+-- If the model `opens` returns `false` for a text, the text begins neither like a quoted literal nor like a block comment.
 pub closed_here : (r : List ℕ) → opens r ≡ false → Opens r → ⊥
 closed_here r h o =
     let e = or_parts (begins (codes "/*") r) (begins_quote r || begins_char 39 r) h in
@@ -317,7 +316,7 @@ stray_found (c ∷ t) p none h =
     here : opens (c ∷ t) ≡ false → Found (c ∷ t) (StrayKind, t)
     here a = record { token = StrayToken c; is_source = (none, closed_here (c ∷ t) a); text_is = refl; kind_is = refl }
 
--- The token is an invalid quoted literal or a stray character, which begin only where no other token does.
+-- Whether a token is an invalid quoted literal or a stray character. These tokens begin only where no other token does.
 abbrev pub IsLate : SourceLexeme → Type 0
 IsLate (BadQuoteToken q) = ⊤
 IsLate (StrayToken c) = ⊤
@@ -403,8 +402,7 @@ pub other_found : (t : List ℕ) (r : Answer) (p : SourceForm × Bor (List ℕ))
     ≡ other_at t → SourceBefore t (source_view p.0) (chars p.1.now)
 other_found t r p is rest = other_at-found t (seen p) (sym rest ∙ ap (option_map seen) is)
 
--- If a text begins neither with a lexeme nor with a token that `other_at` consumes, it begins with a stray character or
--- an invalid quoted literal.
+-- If neither a lexeme nor a token that `other_at` finds begins a text, a stray character or an invalid quoted literal begins it.
 pub no_other : (t : List ℕ) (o r : Answer) → o ≡ None → option_map seen o ≡ other_at t → option_map seen r ≡ stray_at t
     → option_map seen r ≡ any_at t
 no_other t o r none other stray = stray ∙ ap (λ x. or_stray x t) (sym (ap (option_map seen) none) ∙ other)

@@ -1,4 +1,4 @@
--- A source is lexed in one way, and a text's tokens are its tokens as a source too.
+-- A source can be split into tokens in only one way. The tokens of a text are also its tokens as a source.
 use Rattle.rl_syntax.proofs.Common.{◌≡◌, ℕ, inl, inr, true, false, ◌==◌, cond, List, [], ◌∷◌, ◌++◌, map, Option, Some, None, drop, refl, sym, ◌∙◌, ap, subst, arith, lit<, and_parts, append_cancel_right, none-some, list_all, option_map}
 use Rattle.rl_syntax.specs.Texts.{first_passes, byte_len, is_start, is_continue, begins_char}
 use Rattle.rl_syntax.specs.Trivia.{inside_text}
@@ -64,7 +64,8 @@ pub record SameToken (v w : SourceLexeme) (x y : List ℕ) : Type 0 where
   pub kind : source_kind v ≡ source_kind w
   pub rest : x ≡ y
 
--- The sort of a token: a lexeme, an invalid quoted literal, a stray character, or another token.
+-- A token is of one of three sorts: a lexeme; a doc comment, a lifetime or a raw identifier; an invalid quoted literal or a stray
+-- character.
 data Sort (w : SourceLexeme) : Type 0 where
   IsPlainSort : (l : Lexeme) (is : w ≡ PlainToken l) → Sort w
   IsOtherSort : (is : IsOther w) → Sort w

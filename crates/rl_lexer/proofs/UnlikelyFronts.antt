@@ -1,4 +1,4 @@
--- Before the first byte at which a literal or a comment may begin, neither begins.
+-- Neither a literal nor a comment begins before the first byte at which the code says that one may begin.
 use Rattle.rl_syntax.proofs.Common.{◌≡◌, ℕ, zero, suc, ◌+◌, ◌<◌, ◌≤◌, Bool, true, false, not, ◌&&◌, ◌||◌, ◌==◌, nat_le, cond, List, [], ◌∷◌, ◌++◌, Some, None, length, take, drop, get_or, lit<, nat_lt, refl, sym, ap, subst, ◌∙◌, arith, agree_below_at, and_from, and_parts, nat_tests, take-append-drop, IsCharBoundary-start, IsCharBoundary-after_ascii, IsUtf8-take, chars-append, chars-IsAscii, is_ascii_alphabetic, is_ascii_digit, chars, IsAscii, IsCharBoundary, IsUtf8}
 use Rattle.rl_syntax.proofs.BeginsLemmas.{begins_bytes}
 use Rattle.rl_syntax.proofs.UnlikelyPlaces.{is_past}
@@ -10,9 +10,9 @@ use Rattle.rl_syntax.specs.Classes.{after_run}
 use Rattle.rl_lexer.specs.Sources.{PlainKind, StrayKind, SourceBefore, IsLiteralText, source_text}
 use Rattle.rl_lexer.specs.Mirrors.LexemeAt.{StrayHead, LetterBHead, LetterCHead, LetterRHead, OtherLetterHead, word_at, begins_word, is_prefix_letter, is_always_token, mark_form, head_class, lexeme_at, begins_raw_after}
 use Rattle.rl_lexer.specs.Mirrors.SourceAt.{after_bad_quote, any_at, of_kind, opens, or_stray, other_at}
-use Rattle.rl_syntax.specs.Mirrors.RunsAt.{is_word_byte}
+use Rattle.rl_syntax.specs.Mirrors.RunsAt.{is_ascii_id_continue}
 use Rattle.rl_lexer.specs.Mirrors.LiteralsAt.{HasOnlyOtherTokens, Reaches, past_word}
-use Rattle.rl_syntax.specs.Mirrors.UnlikelyAt.{is_likely_mark, is_likely_head, goes_on_likely, may_begin, begins_none, first_or, unlikely_after, skippable_len, last_of, byte_before}
+use Rattle.rl_syntax.specs.Mirrors.UnlikelyAt.{is_likely_mark, is_likely_head, goes_on_likely, may_begin, begins_none, first_or, unlikely_after, literal_free_prefix_len, last_of, byte_before}
 use Rattle.rl_syntax.proofs.AsciiRuns.{held_agrees}
 use Rattle.rl_lexer.proofs.LexemeAnswers.{form_before, no_lexeme}
 use Rattle.rl_lexer.proofs.LexemeFronts.{at_class, class_start, class98, class99, class114, stray_class, start_ascii}
@@ -27,9 +27,9 @@ implied : (a b : Bool) → (not a || b) ≡ true → a ≡ true → b ≡ true
 implied true b h is = h
 implied false b h is = absurd (cc)
 
--- The ASCII character begins an identifier, and not a literal.
+-- Whether an ASCII character begins an identifier, and not a literal.
 abbrev word_here : ℕ → Bool
-word_here c = is_word_byte c && not (is_likely_head c)
+word_here c = is_ascii_id_continue c && not (is_likely_head c)
 
 abbrev word_facts : ℕ → Bool
 word_facts c = (not (is_prefix_letter c) && ((c == 95 || is_ascii_alphabetic c) && not (is_white c)))
@@ -39,9 +39,9 @@ word_table : (c : ℕ) → c < 128 → word_here c ≡ true → word_facts c ≡
 word_table c low is = implied (word_here c) (word_facts c) (agree_below_at (λ k. not (word_here k) || word_facts k)
     (λ _. true) 128 c refl low) is
 
--- The ASCII character begins neither an identifier, white space, a delimiter nor a punctuation character.
+-- Whether an ASCII character begins neither an identifier, nor white space, nor a delimiter, nor a punctuation character.
 abbrev stray_here : ℕ → Bool
-stray_here c = not (is_word_byte c) && (not (is_likely_mark c) && (not (is_white c) && not (is_always_token c)))
+stray_here c = not (is_ascii_id_continue c) && (not (is_likely_mark c) && (not (is_white c) && not (is_always_token c)))
 
 abbrev none_of : ℕ → Bool
 none_of c = not (c == 47) && (not (c == 39) && (not (c == 34) && (not (c == 98) && (not (c == 99) && not (c == 114)))))
@@ -56,7 +56,7 @@ stray_table c low is = implied (stray_here c) (stray_facts c)
 
 -- ---- characters that begin an identifier, and not a literal
 
--- An identifier whose first two letters are neither those of `true` nor those of `false` is neither of these two words.
+-- If an identifier doesn't begin with `tr` or `fa`, it is neither `true` nor `false`.
 word_no_truth : (c : ℕ) (u after : List ℕ) (token : SourceBefore (c ∷ u) (PlainKind IdentifierForm) after)
     → ((c == 116) && begins_char 114 u) ≡ false → ((c == 102) && begins_char 97 u) ≡ false
     → IsLiteralText (PlainKind IdentifierForm) (source_text token.token) → ⊥
@@ -116,7 +116,7 @@ reach_letter c u r slash white word no_t no_f more =
     reach_token c u (after_run is_continue u) r (PlainKind IdentifierForm) slash white token
     (word_no_truth c u (after_run is_continue u) token no_t no_f) more
 
--- A delimiter or punctuation character isn't a literal.
+-- A delimiter or a punctuation character isn't a literal.
 mark_no_literal : (d : Bool) (c : ℕ) (text : List ℕ) → IsLiteralText (PlainKind (cond d (DelimiterForm c) (MarkForm c)))
     text → ⊥
 mark_no_literal true c text is = is
@@ -185,8 +185,8 @@ low_of p c h = go (nat_le 128 c) refl h
     marks_low false false false x h = cc
 
     go : (b : Bool) → nat_le 128 c ≡ b → is_past (p, c) ≡ true → c < 128
-    go true e h = absurd (marks_low (c == 34) (c == 39) (c == 47) (not (is_word_byte p) && is_likely_head c)
-        (ap (λ b. not ((c == 34 || c == 39 || c == 47 || b) || (not (is_word_byte p) && is_likely_head c))) (sym e)
+    go true e h = absurd (marks_low (c == 34) (c == 39) (c == 47) (not (is_ascii_id_continue p) && is_likely_head c)
+        (ap (λ b. not ((c == 34 || c == 39 || c == 47 || b) || (not (is_ascii_id_continue p) && is_likely_head c))) (sym e)
         ∙ h))
     go false e h = grind (arith, nat_tests)
 
@@ -202,8 +202,8 @@ slash_of false false true b h = absurd (cc)
 slash_of false false false b h = refl
 
 -- If a text begins with a character that begins neither an identifier nor a literal nor a comment, and only tokens other than
--- literals follow up to `r`, this also holds for the whole text.
-reach_other : (c : ℕ) (u r : List ℕ) → c < 128 → is_word_byte c ≡ false → not (is_likely_mark c) ≡ true → Reaches u r
+-- literals follow the character up to the text `r`, there are only such tokens before `r` in the whole text.
+reach_other : (c : ℕ) (u r : List ℕ) → c < 128 → is_ascii_id_continue c ≡ false → not (is_likely_mark c) ≡ true → Reaches u r
     → Reaches (c ∷ u) r
 reach_other c u r low plain unlikely more = go (is_white c) (is_always_token c) refl refl
   where
@@ -220,12 +220,12 @@ reach_other c u r low plain unlikely more = go (is_white c) (is_always_token c) 
 abbrev Passes : ℕ → ℕ → List ℕ → List ℕ → Type 0
 Passes p c u r =
     (c < 128) × (not (is_likely_mark c) ≡ true)
-    × (is_word_byte p ≡ false → is_word_byte c ≡ true → Reaches (after_run is_continue u) r → Reaches (c ∷ u) r)
+    × (is_ascii_id_continue p ≡ false → is_ascii_id_continue c ≡ true → Reaches (after_run is_continue u) r → Reaches (c ∷ u) r)
 
--- If the byte before a byte shows that neither a literal nor a comment begins there, the facts `Passes` hold for the byte.
+-- If the byte before a byte shows that neither a literal nor a comment begins at the second byte, the facts `Passes` hold for it.
 passes_before : (p c : ℕ) (u r : List ℕ) → is_past (p, c) ≡ true → Passes p c u r
 passes_before p c u r past =
-    let parts = parts_of (is_likely_mark c) (is_word_byte p) (is_likely_head c) past in (
+    let parts = parts_of (is_likely_mark c) (is_ascii_id_continue p) (is_likely_head c) past in (
       low_of p c past,
       parts.0,
       λ plain word more. reach_word c u r (low_of p c past) (rw (word, parts.1 plain) refl)
@@ -247,7 +247,7 @@ three false true d h = absurd (cc)
 three false false true h = absurd (cc)
 three false false false h = (refl, refl, refl)
 
--- If the byte after a byte shows that neither a literal nor a comment begins there, the facts `Passes` hold for the byte.
+-- If the byte after a byte shows that neither a literal nor a comment begins at the first byte, the facts `Passes` hold for it.
 passes_letter : (p c next : ℕ) (u r : List ℕ) → Agrees next u → goes_on_likely c next ≡ false → Passes p c u r
 passes_letter p c next u r agrees stops = go (c == 98) (c == 99) (c == 114) (c == 116) (c == 102) refl refl refl refl refl
     stops
@@ -316,7 +316,8 @@ passes p c next u r agrees none = go (goes_on_likely c next) refl none
 
 -- ---- sequences of bytes at which neither a literal nor a comment begins
 
--- Neither a literal nor a comment begins at any of the bytes, where `next` is the byte after them.
+-- Whether neither a literal nor a comment begins at any byte of a list. The byte before the list and the byte after it, `next`,
+-- are given.
 abbrev none_in : ℕ → List ℕ → ℕ → Bool
 none_in p [] next = true
 none_in p (c ∷ cs) next = begins_none p c (first_or next cs) && none_in c cs next
@@ -328,8 +329,8 @@ agrees_in next (d ∷ cs) t agrees = λ k some low. refl
 pub reach_front : (p next : ℕ) (cs t r : List ℕ) → Agrees next t → none_in p cs next ≡ true
     → Reaches (past_word (last_of p cs) t) r → Reaches (past_word p (cs ++ t)) r
 reach_front p next [] t r agrees all h = h
-reach_front p next (c ∷ cs) t r agrees all h = go (reach_front c next cs t r agrees parts.1 h) (is_word_byte p)
-    (is_word_byte c) refl refl
+reach_front p next (c ∷ cs) t r agrees all h = go (reach_front c next cs t r agrees parts.1 h) (is_ascii_id_continue p)
+    (is_ascii_id_continue c) refl refl
   where
     parts : (begins_none p c (first_or next cs) ≡ true) × (none_in c cs next ≡ true)
     parts = and_parts (begins_none p c (first_or next cs)) (none_in c cs next) all
@@ -337,15 +338,15 @@ reach_front p next (c ∷ cs) t r agrees all h = go (reach_front c next cs t r a
     facts : Passes p c (cs ++ t) r
     facts = passes p c (first_or next cs) (cs ++ t) r (agrees_in next cs t agrees) parts.0
 
-    run : (b : Bool) → is_word_byte c ≡ b → after_run is_continue (c ∷ (cs ++ t))
+    run : (b : Bool) → is_ascii_id_continue c ≡ b → after_run is_continue (c ∷ (cs ++ t))
         ≡ cond b (after_run is_continue (cs ++ t)) (c ∷ (cs ++ t))
     run b e = ap (λ z. cond z (after_run is_continue (cs ++ t)) (c ∷ (cs ++ t))) (held_agrees true c facts.0 ∙ e)
 
-    here : Reaches (past_word c (cs ++ t)) r → (b : Bool) → is_word_byte c ≡ b
+    here : Reaches (past_word c (cs ++ t)) r → (b : Bool) → is_ascii_id_continue c ≡ b
         → Reaches (cond b (after_run is_continue (cs ++ t)) (cs ++ t)) r
     here more b e = subst (λ (z : Bool). Reaches (cond z (after_run is_continue (cs ++ t)) (cs ++ t)) r) e more
 
-    go : Reaches (past_word c (cs ++ t)) r → (w v : Bool) → is_word_byte p ≡ w → is_word_byte c ≡ v
+    go : Reaches (past_word c (cs ++ t)) r → (w v : Bool) → is_ascii_id_continue p ≡ w → is_ascii_id_continue c ≡ v
         → Reaches (past_word p (c ∷ (cs ++ t))) r
     go more true true e f = subst (λ (z : List ℕ). Reaches z r)
         (sym (ap (λ b. cond b (after_run is_continue (c ∷ (cs ++ t))) (c ∷ (cs ++ t))) e ∙ run true f))
@@ -362,7 +363,7 @@ reach_front p next (c ∷ cs) t r agrees all h = go (reach_front c next cs t r a
 
 -- ---- the bytes before the first one at which a literal or a comment may begin
 
--- The byte after the first n bytes of a list is the next one in the list.
+-- The first byte of a list is the first one of its first n bytes. If n is 0, it is the first one of the other bytes.
 first_same : (n : ℕ) (bs : List ℕ) → first_or (first_or 0 (drop n bs)) (take n bs) ≡ first_or 0 bs
 first_same zero bs = refl
 first_same (suc n) [] = refl
@@ -393,7 +394,7 @@ front_ascii p next (c ∷ cs) h zero = none_low p c (first_or next cs) (and_part
 front_ascii p next (c ∷ cs) h (suc i) = front_ascii c next cs (and_parts (begins_none p c (first_or next cs))
     (none_in c cs next) h).1 i
 
--- The next byte is the next character, if that is ASCII.
+-- The next byte of a text is the text's next character, if this character is ASCII.
 agrees_bytes : (rest : List ℕ) → IsUtf8 rest → Agrees (first_or 0 rest) (chars rest)
 agrees_bytes rest u = λ k some low. first_char k (chars rest)
     ∙ sym (begins_bytes (k ∷ []) rest u (and_from (nat_lt k 128) true (below k low) refl)) ∙ first_byte k rest some
@@ -418,7 +419,7 @@ get_taken (suc n) [] m h = refl
 get_taken (suc n) (b ∷ bs) zero h = refl
 get_taken (suc n) (b ∷ bs) (suc m) h = get_taken n bs m (omega arith)
 
-pub unlikely-within : (bs : List ℕ) → skippable_len bs ≤ length bs
+pub unlikely-within : (bs : List ℕ) → literal_free_prefix_len bs ≤ length bs
 unlikely-within bs = go 0 bs
   where
     go : (p : ℕ) (bs : List ℕ) → unlikely_after p bs ≤ length bs
@@ -429,7 +430,7 @@ unlikely-within bs = go 0 bs
         step true h = omega arith
         step false h = omega arith
 
-pub unlikely-boundary : (bs : List ℕ) (n : ℕ) → IsUtf8 bs → n ≤ skippable_len bs → IsCharBoundary bs n
+pub unlikely-boundary : (bs : List ℕ) (n : ℕ) → IsUtf8 bs → n ≤ literal_free_prefix_len bs → IsCharBoundary bs n
 unlikely-boundary bs zero u e = IsCharBoundary-start bs u
 unlikely-boundary bs (suc m) u e =
     let long = unlikely-within bs in
@@ -440,9 +441,9 @@ unlikely-boundary bs (suc m) u e =
     let next : m + 1 ≡ suc m = omega arith in
     subst (IsCharBoundary bs) next (IsCharBoundary-after_ascii bs m u (omega arith) (omega (arith, low, same)))
 
--- Between the text's start and the text after the skipped bytes, and after the identifier that continues there, there
--- are only tokens that aren't literals.
-pub unlikely-reaches : (bs rest : List ℕ) (n : ℕ) (r : List ℕ) → IsUtf8 bs → IsUtf8 rest → n ≤ skippable_len bs
+-- The code skips bytes of a text, and the rest of an identifier in which they end. The skipped text contains only tokens that
+-- aren't literals.
+pub unlikely-reaches : (bs rest : List ℕ) (n : ℕ) (r : List ℕ) → IsUtf8 bs → IsUtf8 rest → n ≤ literal_free_prefix_len bs
     → rest ≡ drop n bs → Reaches (past_word (byte_before bs n) (chars rest)) r → Reaches (chars bs) r
 unlikely-reaches bs rest n r u v e cut reaches =
     let front = take n bs in
@@ -457,9 +458,9 @@ unlikely-reaches bs rest n r u v e cut reaches =
     (agrees_bytes rest v) in
     subst (λ (z : List ℕ). Reaches z r) (sym whole) (reach_front 0 next front (chars rest) r agrees all reaches)
 
--- The lemma `unlikely-reaches` in the form in which the contract states it. `before` is the byte before the text after the
--- skipped bytes.
-pub unlikely-holds : (bs rest past next : List ℕ) (n before : ℕ) → IsUtf8 bs → IsUtf8 rest → n ≤ skippable_len bs
+-- The lemma `unlikely-reaches` as the contract states it: the bytes that the code skips contain only tokens that aren't literals.
+-- `before` is the last byte that was skipped.
+pub unlikely-holds : (bs rest past next : List ℕ) (n before : ℕ) → IsUtf8 bs → IsUtf8 rest → n ≤ literal_free_prefix_len bs
     → rest ≡ drop n bs → before ≡ byte_before bs n → past ≡ past_word before (chars rest) → Reaches past next
     → HasOnlyOtherTokens (chars bs) next
 unlikely-holds bs rest past next n before u v e cut is word more =

@@ -1,4 +1,4 @@
--- Identifiers and punctuation characters that the first one or two bytes decide.
+-- Identifiers and punctuation characters that are recognized by their first one or two bytes.
 use Rattle.rl_syntax.proofs.Common.{◌≡◌, ℕ, inl, lit<, Bool, true, false, not, ◌&&◌, ◌||◌, ◌==◌, cond, List, [], ◌∷◌, Some, None, nat_le, ◌<◌, ◌≤◌, ◌+◌, ◌-◌, refl, sym, subst, ◌∙◌, ap, arith, or_parts, and_parts, agree_below, agree_below_at, nat_tests, is_ascii, is_ascii_alphabetic, is_ascii_digit}
 use Rattle.rl_lexer.proofs.LexemeRows.{not_true}
 use Rattle.rl_syntax.specs.Texts.{first_passes, is_among, is_white, is_start, is_continue}
@@ -16,7 +16,7 @@ use Rattle.rl_lexer.proofs.Pieces.{is_equal}
 pub low_marks : (c : ℕ) → c < 64 → has_bit 18158653859520577536 c ≡ is_always_token c
 low_marks c low = agree_below_at (has_bit 18158653859520577536) is_always_token 64 c refl low
 
--- A mask of the characters from 64 on agrees with the test.
+-- A mask of 64 bits agrees with a test of the characters from 64 up to 127.
 high_set : (bits : ℕ) (test : ℕ → Bool) → agree_below (has_bit bits) (λ k. test (64 + k)) 64 ≡ true → (c : ℕ) → 64 ≤ c
     → c < 128 → has_bit bits (c - 64) ≡ test c
 high_set bits test all c h low =

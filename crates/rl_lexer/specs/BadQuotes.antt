@@ -1,5 +1,5 @@
--- Invalid quoted literals of a source, as `''` and `'ab'`. Each begins neither as a valid literal nor as a lifetime,
--- but ends before the text does. As for rustc, it is a literal token, and lexing continues after it.
+-- Invalid quoted literals of a source, as `''` and `'ab'`. Each begins like neither a valid literal nor a lifetime, and has an
+-- end in the source. rustc also lexes it as a literal token, and continues after it.
 use Rattle.std.specs.Prelude.{◌≡◌, ℕ, Bool, false, not, ◌||◌, ◌==◌, List, [], codes, ◌∷◌, ◌++◌, IsTrue, ⊤}
 use Rattle.std.specs.Char.{is_ascii_digit}
 use Rattle.std.specs.List.{list_all}
@@ -37,7 +37,7 @@ IsQuoteBody (EscapedPart c ∷ parts) = IsQuoteBody parts
 abbrev pub begins_escape : ℕ → Bool
 begins_escape c = c == code "\\"
 
--- The character begins an identifier, a number or an escape.
+-- Whether a character begins an identifier, a number or an escape.
 abbrev pub begins_word_or_escape : ℕ → Bool
 begins_word_or_escape c = begins_escape c || (is_ascii_digit c || is_start c)
 

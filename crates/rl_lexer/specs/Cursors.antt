@@ -47,8 +47,8 @@ pub record TakesNext (old : CursorState) (l : Lexeme) (new : CursorState) : Type
   pub same : new.text ≡ old.text
   pub following : IsTail old.rest new.rest
 
--- The first error of the cursor's text has this kind and this byte offset, if the text before the rest can be lexed
--- into tokens whose groups match.
+-- The first error of the cursor's text has the given kind and byte offset, if the text before the rest can be lexed into tokens
+-- whose groups match.
 abbrev pub IsFirstError : CursorState → LexKind → ℕ → Type 0
 IsFirstError t kind at =
     (cuts : List LexedToken) (groups : List OpenGroup)

@@ -15,8 +15,8 @@ pub record LexedToken : Type 0 where
 abbrev pub end_of : LexedToken → ℕ
 end_of w = w.at + byte_len (lexeme_text w.lexeme)
 
--- The text `t` is lexed into these tokens, with white space and comments before each of them. After the last token, and
--- the white space and comments after it, the text `r` is left. The text `t` begins at the byte offset `at`.
+-- The text `t` is lexed into the given tokens, with white space and comments before each of them. After the last token, and the
+-- white space and comments after it, the text `r` is left. The text `t` begins at the byte offset `at`.
 abbrev pub LexesUpTo : ℕ → List ℕ → List LexedToken → List ℕ → Type 0
 LexesUpTo at t [] r = Skipped t r
 LexesUpTo at t (w ∷ ws) r =
@@ -24,7 +24,7 @@ LexesUpTo at t (w ∷ ws) r =
     × (w.at + byte_len (lexeme_text w.lexeme ++ after) ≡ at + byte_len t)
     × LexesUpTo (end_of w) after ws r
 
--- The two characters are the opening and the closing delimiter of a group.
+-- Whether two characters are the opening and the closing delimiter of a group.
 abbrev pub is_pair : ℕ → ℕ → Bool
 is_pair opener closer =
     (opener == code "(" && closer == code ")") || (opener == code "[" && closer == code "]")
@@ -65,14 +65,14 @@ after_form groups _ at = Some groups
 abbrev pub after_lexeme : List OpenGroup → Lexeme → ℕ → Option (List OpenGroup)
 after_lexeme groups l at = after_form groups (form_of l) at
 
--- The groups that are open after these tokens, where `groups` are open before them. `None` if a delimiter is an error.
+-- The groups that are open after the given tokens, where `groups` are open before them. `None` if a delimiter is an error.
 abbrev pub open_groups : List OpenGroup → List LexedToken → Option (List OpenGroup)
 open_groups groups [] = Some groups
 open_groups groups (w ∷ ws) =
     option_and_then (λ g. open_groups g ws) (after_lexeme groups w.lexeme w.at)
 
--- The text begins like a doc comment: with `///` but not `////`, with `//!`, with `/**` but neither `/**/` nor `/***`,
--- or with `/*!`.
+-- Whether a text begins like a doc comment: with `///` but not `////`, with `//!`, with `/**` but neither `/**/` nor `/***`, or
+-- with `/*!`.
 abbrev pub begins_doc_comment : List ℕ → Bool
 begins_doc_comment r =
     (begins (codes "///") r && not (begins (codes "////") r)) || begins (codes "//!") r
@@ -90,14 +90,14 @@ BeginsQuote r =
     IsTrue (begins (codes "\"") r) ⊎ (IsTrue (begins_prefixed_quote r)
     ⊎ (BeginsRaw r ⊎ (IsTrue (begins (codes "'") r) × IsFalse (begins_lifetime r))))
 
--- The text begins with a token. `BeginsNoLexeme` says that it doesn't.
+-- The text begins with a token. `BeginsNoLexeme` states that a text doesn't begin with a token.
 abbrev pub BeginsLexeme : List ℕ → Type 0
 BeginsLexeme r = (after : List ℕ) × LexemeBefore r after
 
 abbrev pub BeginsNoLexeme : List ℕ → Type 0
 BeginsNoLexeme r = (after : List ℕ) → LexemeBefore r after → ⊥
 
--- The lexer's error of this kind is at the start of the rest `r`, where `groups` are open. A failed allocation isn't an
+-- The lexer's error of the given kind is at the start of the rest `r`, where `groups` are open. A failed allocation isn't an
 -- error of the text.
 abbrev pub ErrorAt : LexKind → List OpenGroup → List ℕ → Type 0
 ErrorAt DocComment groups r = IsTrue (begins_doc_comment r)
@@ -119,8 +119,8 @@ abbrev pub innermost : List OpenGroup → ℕ → ℕ
 innermost [] at = at
 innermost (o ∷ os) at = o.at
 
--- The byte offset of an error. For a group that isn't closed it is that of the innermost opening delimiter, and
--- otherwise the start of the rest.
+-- The byte offset of an error. A group that isn't closed is an error at its opening delimiter, the innermost open one. Any other
+-- error is at the start of the rest.
 abbrev pub error_place : LexKind → List OpenGroup → ℕ → ℕ
 error_place UnclosedGroup groups at = innermost groups at
 error_place _ groups at = at

@@ -12,7 +12,7 @@ use Prim.Native.Char.{code}
 use Rattle.rl_syntax.specs.Texts.{is_among, first_passes, begins, is_run_part}
 use Rattle.rl_syntax.specs.Numbers.{is_exponent_letter}
 
--- The character names a base after a zero: x, o or b.
+-- Whether a character names a base after a zero: x, o or b.
 abbrev pub is_base_letter : ℕ → Bool
 is_base_letter c = c == code "x" || c == code "o" || c == code "b"
 
@@ -23,13 +23,13 @@ delimiters = codes "()[]{}"
 abbrev pub marks : List ℕ
 marks = codes "~!@#$%^&*-=+|;:,<.>?"
 
--- The text begins with a given number of hashes.
+-- Whether a text begins with a given number of hashes.
 abbrev pub begins_hashes : ℕ → List ℕ → Bool
 begins_hashes zero t = true
 begins_hashes (suc n) [] = false
 begins_hashes (suc n) (c ∷ t) = c == code "#" && begins_hashes n t
 
--- The text begins with the dot of a number, which is followed by neither another dot nor an identifier.
+-- Whether a text begins with the dot of a number, which is followed by neither another dot nor an identifier.
 abbrev pub begins_dot : List ℕ → Bool
 begins_dot [] = false
 begins_dot (c ∷ t) = c == code "." && not (first_passes (λ d. d == code "." || is_start d) t)
@@ -58,12 +58,12 @@ pub record BeginsRaw (t : List ℕ) : Type 0 where
   pub opens : BeginsHashedQuote rest
   pub text_is : t ≡ prefix_text prefix ++ (code "r" ∷ rest)
 
--- The text begins with a literal's prefix and its quote: `b"`, `c"` or `b'`.
+-- Whether a text begins with a literal's prefix and its quote: `b"`, `c"` or `b'`.
 abbrev pub begins_prefixed_quote : List ℕ → Bool
 begins_prefixed_quote t =
     begins (codes "b\"") t || (begins (codes "c\"") t || begins (codes "b'") t)
 
--- The text begins with `r#` and a character that may begin an identifier.
+-- Whether a text begins with `r#` and a character that may begin an identifier.
 abbrev pub begins_raw_identifier : List ℕ → Bool
 begins_raw_identifier [] = false
 begins_raw_identifier (c ∷ []) = false
@@ -177,12 +177,13 @@ lexeme_text (IdentifierLexeme c more) = c ∷ more
 lexeme_text (DelimiterLexeme c) = c ∷ []
 lexeme_text (MarkLexeme c) = c ∷ []
 
--- The text `run` consists of characters that pass the test, and the text `after` it doesn't begin with another one.
+-- The text `run` consists of characters that pass the test, and the text `after`, which follows it, doesn't begin with such a
+-- character.
 pub record IsRun (test : ℕ → Bool) (run after : List ℕ) : Type 0 where
   pub each : IsTrue (list_all test run)
   pub ends : first_passes test after ≡ false
 
--- The suffix of a lexeme: an identifier, or nothing if no identifier follows.
+-- The suffix of a lexeme: an identifier, or an empty text if no identifier follows.
 abbrev pub IsLexedSuffix : List ℕ → List ℕ → Type 0
 IsLexedSuffix [] after = first_passes is_start after ≡ false
 IsLexedSuffix (c ∷ more) after = IsTrue (is_start c) × IsRun is_continue more after
@@ -249,6 +250,6 @@ form_of _ = LiteralForm
 abbrev pub LexemeBefore : List ℕ → List ℕ → Type 0
 LexemeBefore t after = (w : List ℕ) × LexemeWith w after × (t ≡ w ++ after)
 
--- The character is a punctuation character: one of `marks`, or the slash.
+-- Whether a character is a punctuation character: one of `marks`, or the slash.
 abbrev pub is_punct : ℕ → Bool
 is_punct c = is_among marks c || c == code "/"

@@ -121,7 +121,7 @@ source_view found.Lifetime = LifetimeKind
 source_view found.DocComment = DocCommentKind
 source_view found.Stray = StrayKind
 
--- A token of this kind begins the text `t`, and the text `rest` follows it.
+-- A token of the given kind begins the text `t`, and the text `rest` follows it.
 pub record SourceBefore (t : List ℕ) (kind : SourceKind) (rest : List ℕ) : Type 0 where
   pub token : SourceLexeme
   pub is_source : IsSource token rest
@@ -166,9 +166,8 @@ pub record CutSource : Type 0 where
 abbrev pub source_end : CutSource → ℕ
 source_end w = w.at + byte_len (source_text w.token)
 
--- The text `t` is lexed into these tokens of a source, with white space and plain comments before each of them. After
--- the last token, and the white space and comments after it, the text `r` is left. The text `t` begins at the byte
--- offset `at`.
+-- The text `t` is lexed into the given tokens of a source, with white space and plain comments before each of them. After the
+-- last token, and the white space and comments after it, the text `r` is left. The text `t` begins at the byte offset `at`.
 abbrev pub SourcesUpTo : ℕ → List ℕ → List CutSource → List ℕ → Type 0
 SourcesUpTo at t [] r = Skipped t r
 SourcesUpTo at t (w ∷ ws) r =
@@ -176,8 +175,8 @@ SourcesUpTo at t (w ∷ ws) r =
     × (w.at + byte_len (source_text w.token ++ after) ≡ at + byte_len t)
     × SourcesUpTo (source_end w) after ws r
 
--- The source `t` is lexed into these tokens, after a byte order mark and an interpreter's line if it has them. After
--- the last token, and the white space and comments after it, the text `r` is left.
+-- The source `t` is lexed into the given tokens, after a byte order mark and an interpreter's line if it has them. After the last
+-- token, and the white space and comments after it, the text `r` is left.
 pub record IsCutUpTo (t : List ℕ) (cuts : List CutSource) (r : List ℕ) : Type 0 where
   pub at : ℕ
   pub body : List ℕ
@@ -251,7 +250,7 @@ IsAfterLine t r = (line : List ℕ) × IsTrue (list_all is_in_line line) × (t �
 
 -- ---- errors
 
--- The lexer's error of this kind is at the start of `r`, the rest of a source.
+-- The lexer's error of the given kind is at the start of `r`, the rest of a source.
 abbrev pub SourceErrorAt : LexKind → List ℕ → Type 0
 SourceErrorAt UnclosedComment r = BeginsNoSource r × IsTrue (begins (codes "/*") r)
 SourceErrorAt UnclosedQuote r =
@@ -266,8 +265,7 @@ pub record SourceError (t : List ℕ) (kind : LexKind) (at : ℕ) : Type 0 where
   pub error : SourceErrorAt kind rest
   pub rest_place : at + byte_len rest ≡ byte_len t
 
--- The first error of the cursor's source has this kind and this byte offset, if the source before the rest can be
--- lexed.
+-- The first error of the cursor's source has the given kind and byte offset, if the source before the rest can be lexed.
 abbrev pub IsFirstSourceError : CursorState → LexKind → ℕ → Type 0
 IsFirstSourceError t kind at =
     (cuts : List CutSource) → IsCutUpTo (chars t.text) cuts (chars t.rest)

@@ -118,10 +118,10 @@ impl<'t> Tokens<'t> {
     /// ```
     /// use rl_tokens::{LexKind, Tokens};
     ///
-    /// pub fn no_token(text: &str) -> Option<LexKind> {
+    /// pub fn lex_error_kind(text: &str) -> Option<LexKind> {
     ///     Some(Tokens::new(text).error()?.kind)
     /// }
-    /// // no_token("\"a") == Some(UnclosedQuote)
+    /// // lex_error_kind("\"a") == Some(UnclosedQuote)
     /// ```
     pub fn error(&self) -> Option<LexError>
         // The error is at the start of the cursor's rest. It is an error of that rest, whichever groups are open.

@@ -5,7 +5,7 @@ ghost use Rattle.rl_lexer.specs.Laws.{LiteralsDontBeginWithAMinus};
 
 /// A Rust source is lexed in one way: to equal tokens at equal byte offsets. If it can't be lexed to its end, the rest
 /// that isn't lexed is equal too.
-pub fn one_lexing()
+pub fn a_source_has_one_lexing()
     ensures { OneLexing }
 {}
 

@@ -20,8 +20,8 @@ ghost use Rattle.rl_lexer.specs.declared.lexeme.Lead.TheVariants.{Word, Mark, Pr
 use number::{after_decimal, after_digits, ends_number};
 pub(crate) use quotes::begins_hashed_quote;
 use quotes::{after_character, after_quoted, after_raw_literal};
-use rl_syntax::characters::is_start;
-use rl_syntax::classes::skip_word;
+use rl_syntax::characters::is_id_start;
+use rl_syntax::classes::skip_id_continue;
 use rl_syntax::lanes::has_bit;
 use rl_syntax::text::{begins_with_char, split_ascii, split_char, strip_byte, without_first_char};
 pub(crate) use suffix::after_suffix;
@@ -129,7 +129,7 @@ fn lexeme_but_number(text: &str) -> Option<(Form, &str)>
         b'\'' => character_literal(following),
         b'/' => rebuilt(after_slash(following)),
         _ if is_always_token(byte) => Some((mark_form(byte as char), following)),
-        _ if is_start(byte as char) => rebuilt(literal_or_identifier(byte as char, following)),
+        _ if is_id_start(byte as char) => rebuilt(literal_or_identifier(byte as char, following)),
         _ => None,
     }
 }
@@ -158,10 +158,10 @@ fn wide_identifier(text: &str) -> Option<(Form, &str)>
     ensures shorter { IfSome result (λ p. length p.1.now < length text.now) }
 {
     let (c, following) = split_char(text)?;
-    if !is_start(c) {
+    if !is_id_start(c) {
         return None;
     }
-    Some((Form::Identifier, skip_word(following)))
+    Some((Form::Identifier, skip_id_continue(following)))
 }
 
 /// Returns the form of a token that begins with the letter `letter`, and the text after the token: a literal with a
@@ -178,7 +178,7 @@ fn literal_or_identifier(letter: char, text: &str) -> Option<(Form, &str)>
         'b' | 'c' if begins_raw_literal(text) => raw_literal(without_first_char(text)),
         'r' if begins_hashed_quote(text) => raw_literal(text),
         'r' if begins_marked_identifier(text) => None,
-        _ => Some((Form::Identifier, skip_word(text))),
+        _ => Some((Form::Identifier, skip_id_continue(text))),
     }
 }
 
@@ -194,10 +194,10 @@ pub(crate) fn word_or_mark(text: &str) -> Option<(Form, &str)>
 {
     let (byte, following) = split_ascii(text)?;
     match lead_of(byte) {
-        Lead::Word => Some((Form::Identifier, skip_word(following))),
+        Lead::Word => Some((Form::Identifier, skip_id_continue(following))),
         Lead::Mark => Some((mark_form(byte as char), following)),
         Lead::Prefix if continues_word(following) => {
-            Some((Form::Identifier, skip_word(following)))
+            Some((Form::Identifier, skip_id_continue(following)))
         }
         Lead::Slash if begins_other_than_comment(following) => Some((Form::Mark('/'), following)),
         _ => None,
@@ -308,8 +308,8 @@ fn mark_form(c: char) -> Form
     }
 }
 
-// The next three functions are alike. They are separate functions, because the memory for a call's result is zeroed at
-// the entry of the calling function.
+// The functions `quoted_literal`, `character_literal` and `raw_literal` are alike. They are separate functions,
+// because the memory for a call's result is zeroed at the entry of the calling function.
 
 /// Returns the form `Literal` and the text after a string literal, where `text` follows its opening `"`. Returns `None`
 /// if the literal isn't closed.
@@ -390,7 +390,7 @@ pub(crate) fn begins_marked_identifier(text: &str) -> bool
 {
     match split_char(text) {
         Some(('#', following)) => match split_char(following) {
-            Some((next, _)) => is_start(next),
+            Some((next, _)) => is_id_start(next),
             None => false,
         },
         _ => false,

@@ -10,7 +10,7 @@ ghost use Rattle.rl_lexer.specs.Lexemes.{begins_raw_identifier};
 
 use crate::lex_error::LexKind;
 use crate::lexeme::{begins_hashed_quote, begins_marked_identifier};
-use rl_syntax::characters::is_start;
+use rl_syntax::characters::is_id_start;
 use rl_syntax::kind::{BYTE_OPENER, BYTE_STR_OPENER, C_STR_OPENER, CHAR_OPENER, STR_OPENER};
 use rl_syntax::text::{begins, begins_with_char, split_char};
 
@@ -95,7 +95,7 @@ fn begins_lifetime(text: &str) -> bool
 {
     match split_char(text) {
         Some(('\'', following)) => match split_char(following) {
-            Some((c, _)) => is_start(c),
+            Some((c, _)) => is_id_start(c),
             None => false,
         },
         _ => false,

@@ -20,10 +20,10 @@ use crate::lexeme::{Form, number_or_other, rebuilt, word_or_mark};
 use crate::no_token::{begins_raw_identifier, opens};
 use crate::whitespace::{after_block, after_line, is_comment_block, is_comment_line, skip};
 use bad_quote::after_bad_quote;
-use rl_syntax::characters::is_start;
-use rl_syntax::classes::{skip_white, skip_word};
-use rl_syntax::lanes::{byte_before, is_word_byte, skippable_len};
-use rl_syntax::lines::{after_line_feed, split_line};
+use rl_syntax::characters::is_id_start;
+use rl_syntax::classes::{skip_id_continue, skip_white};
+use rl_syntax::lanes::{byte_before, is_ascii_id_continue, literal_free_prefix_len};
+use rl_syntax::lines::{after_first_line_feed, split_line};
 use rl_syntax::text::{begins_with_char, split_ascii, split_char, strip_byte, without_first_char};
 
 /// The form of a token that [`Sources`](crate::Sources) returns.
@@ -73,7 +73,7 @@ pub(crate) fn skip_unlikely(text: &str) -> &str
     ensures shorter { length result.now ≤ length text.now }
 {
     let bytes = text.as_bytes();
-    let at = skippable_len(bytes);
+    let at = literal_free_prefix_len(bytes);
     let rest = after_word(byte_before(bytes, at), &text[at..]);
     skip_all_comments(skip_white(rest))
 }
@@ -119,8 +119,8 @@ fn after_word(before: u8, text: &str) -> &str
     ensures following { IsTail text.now result.now }
     ensures shorter { length result.now ≤ length text.now }
 {
-    if is_word_byte(before) {
-        skip_word(text)
+    if is_ascii_id_continue(before) {
+        skip_id_continue(text)
     } else {
         text
     }
@@ -263,7 +263,7 @@ pub(crate) fn after_first_line(text: &str) -> Option<&str>
     ensures following { IfSome result (λ lines. IsTail text.now lines.now) }
     ensures shorter { IfSome result (λ lines. length lines.now < length text.now) }
 {
-    after_line_feed(text)
+    after_first_line_feed(text)
 }
 
 /// Returns the text after the identifier at its start, or `None` if it begins with no identifier.
@@ -272,7 +272,7 @@ fn after_name(text: &str) -> Option<&str>
     ensures following { IfSome result (λ rest. IsTail text.now rest.now) }
 {
     match split_char(text) {
-        Some((c, following)) if is_start(c) => Some(skip_word(following)),
+        Some((c, following)) if is_id_start(c) => Some(skip_id_continue(following)),
         _ => None,
     }
 }

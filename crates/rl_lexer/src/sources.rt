@@ -51,14 +51,14 @@ impl SourceToken<'_> {
 /// ```
 /// use rl_tokens::{SourceForm, Sources};
 ///
-/// pub fn first_docs(source: &str) -> Option<&str> {
+/// pub fn leading_doc_comment(source: &str) -> Option<&str> {
 ///     let token = Sources::new(source).next()?;
 ///     match token.form {
 ///         SourceForm::DocComment => Some(token.text),
 ///         _ => None,
 ///     }
 /// }
-/// // first_docs("/// Docs.") == Some("/// Docs.")
+/// // leading_doc_comment("/// Docs.") == Some("/// Docs.")
 /// ```
 ///
 /// [`Tokens`]: crate::Tokens
@@ -192,7 +192,7 @@ impl<'t> Sources<'t> {
     /// use rl_tokens::Sources;
     /// use std::alloc::Global;
     ///
-    /// pub fn all_places(alloc: Global, source: &str) -> Option<Vec<usize>> {
+    /// pub fn literal_and_error_offsets(alloc: Global, source: &str) -> Option<Vec<usize>> {
     ///     let mut places = Vec::new(alloc);
     ///     let mut lines = source;
     ///     loop {
@@ -210,7 +210,7 @@ impl<'t> Sources<'t> {
     ///         }
     ///     }
     /// }
-    /// // all_places(alloc, "f(\"a);\nlet b = 'x';\ng('ab');") == Some([2, 15, 22])
+    /// // literal_and_error_offsets(alloc, "f(\"a);\nlet b = 'x';\ng('ab');") == Some([2, 15, 22])
     /// ```
     pub fn following_lines(&self) -> Option<&'t str>
         ensures lines { IfSome result

@@ -9,7 +9,7 @@ ghost use Rattle.rl_lexer.specs.Mirrors.SkippedAt.{after_line, after_block, afte
 
 use rl_syntax::classes::skip_white;
 use rl_syntax::lanes::byte_at;
-use rl_syntax::lines::after_line_feed;
+use rl_syntax::lines::after_first_line_feed;
 use rl_syntax::scan::{Marks, len_before_near_mark};
 use rl_syntax::text::{begins_with_char, split_ascii, strip_byte};
 
@@ -35,7 +35,7 @@ pub fn skip(text: &str) -> &str
     ensures skipped { Skipped (chars text.now) (chars result.now) }
     // The result is a slice at the end of the text.
     ensures following { IsTail text.now result.now }
-    // Only one rest of a text meets this definition, and skipping again doesn't change the result.
+    // Each text has only one text after its white space and plain comments. Skipping again doesn't change the result.
     ensures only { OneRest }
     ensures again { Skipped (chars result.now) (chars result.now) }
 {
@@ -119,7 +119,7 @@ pub(crate) fn after_line(text: &str) -> &str
     ensures rest { chars result.now ≡ after_line (chars text.now) }
     ensures following { IsTail text.now result.now }
 {
-    after_line_feed(text).unwrap_or("")
+    after_first_line_feed(text).unwrap_or("")
 }
 
 /// Returns the text after a block comment, where `text` follows its `/*`. Returns `None` if the comment isn't closed.
@@ -150,7 +150,7 @@ pub(crate) fn after_block(text: &str) -> Option<&str>
                 depth += 1;
             }
         } else {
-            at += len_before_near_mark(Marks::two(b'*', b'/'), &bytes[at..]);
+            at += len_before_near_mark(Marks::from_two_bytes(b'*', b'/'), &bytes[at..]);
         }
     }
     None

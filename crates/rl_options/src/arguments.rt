@@ -23,7 +23,7 @@ use crate::suggestion::option_part;
 use crate::table::{effect_of, effect_of_letter, joined_of, meant_by};
 use crate::visible::visible_text;
 use rl_files::Selection;
-use rl_output::{Matching, Shown, Spelling, names};
+use rl_output::{Matching, Shown, Spelling, list_contains};
 use rl_restyle::default_style;
 use rl_tokens::text::split_char;
 use std::alloc::{AllocError, Allocator, Global};
@@ -35,7 +35,7 @@ const KINDS: &str = "Str,ByteStr,CStr,Byte,Char,Int,Float,Bool,Verbatim";
 fn is_no_kind(word: &str) -> bool
     ensures { MatchBool result (IsKindWord word.now → ⊥) (IsKindWord word.now) }
 {
-    !names(KINDS, word)
+    !list_contains(KINDS, word)
 }
 
 /// Returns the first unknown kind of literals in a list, or `None`. Commas separate the kinds.
@@ -118,7 +118,7 @@ fn unknown_letter<A: Allocator + Copy>(
 }
 
 /// Returns a file extension without the dot at its start, if there is one.
-fn without_dot(text: &str) -> &str
+fn strip_dot_slash(text: &str) -> &str
     ensures { IsWithoutDot text.now result.now }
 {
     match after_front(".", text) {
@@ -328,7 +328,7 @@ impl<'a, A: Allocator + Copy> ParsedArguments<'a, A> {
         if has_more_than_extension(text) {
             return Err(ArgumentError::UnknownExtension(visible_text(alloc, text)?));
         }
-        match self.extensions.push(without_dot(text)) {
+        match self.extensions.push(strip_dot_slash(text)) {
             Ok(()) => Ok(()),
             Err(_) => Err(ArgumentError::Memory),
         }

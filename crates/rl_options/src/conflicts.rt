@@ -11,7 +11,7 @@ use crate::arguments::ParsedArguments;
 use crate::command::{Action, Command, Output};
 use crate::modes::{mode_of, mode_words, modes_hint};
 use crate::table::without_effect;
-use rl_output::{Shown, has_extents, names};
+use rl_output::{Shown, has_extents, list_contains};
 use std::alloc::Allocator;
 
 /// The kinds of literals whose value may contain a text.
@@ -21,7 +21,7 @@ const TEXT_KINDS: &str = "Str,ByteStr,CStr,Byte,Char";
 fn has_text_kind(list: &str) -> bool
     ensures { IsTrue result ↔ HasTextKind list.now }
 {
-    list.split(',').any(|word| names(TEXT_KINDS, word))
+    list.split(',').any(|word| list_contains(TEXT_KINDS, word))
 }
 
 /// Whether the literals that are printed may have a value that contains a text.

@@ -20,6 +20,6 @@ pub use crate::arguments::{ParsedArguments, parse_arguments};
 pub use crate::command::{Action, Command, Console, Macros, Output, PlaceForm, Restyling};
 pub use crate::conflicts::{asks_context, lists_files};
 pub use crate::help::{HELP, VERSION};
-pub use crate::path_list::{Unread, push_all_listed};
+pub use crate::path_list::{Unread, push_listed_paths};
 pub use crate::rules::{LineError, RulesError, read_rules_file};
 pub use crate::visible::visible_text;

@@ -9,7 +9,7 @@ use crate::visible::visible_text;
 use rl_files::{PathError, Tree};
 use rl_lexer::without_byte_order_mark;
 use rl_output::count_line_feeds;
-use rl_restyle::{StyleError, StyleErrorKind, style_of};
+use rl_restyle::{StyleError, StyleErrorKind, parse_style};
 use rl_style::Style;
 use std::alloc::{AllocError, Allocator, Global};
 use std::fmt;
@@ -116,7 +116,7 @@ fn rules_of<A: Allocator>(alloc: A, text: &str) -> Result<Style, RulesError<A>>
     ensures rules { IfOk result (SaysStyle text.now) }
     ensures error { IfErr result (IsNoStyle text.now) }
 {
-    match style_of(text) {
+    match parse_style(text) {
         Ok(rules) => Ok(rules),
         Err(error) => match line_error(alloc, text, error) {
             Ok(error) => Err(RulesError::Style(error)),

@@ -9,7 +9,7 @@ use Rattle.rl_files.specs.Visible.{visible}
 use Rattle.rl_output.specs.declared.github.Level.{Level}
 use Rattle.rl_output.specs.declared.github.Level.TheVariants.{Error, Notice}
 use Rattle.rl_output.specs.declared.line_column.Extent.{Extent}
-use Rattle.rl_output.specs.Paths.{without_dot}
+use Rattle.rl_output.specs.Paths.{strip_dot_slash}
 
 -- A character of an annotation's message. A percent sign, CR and LF are escaped by their numbers.
 abbrev pub data_char : ℕ → List ℕ
@@ -40,7 +40,7 @@ level_word Notice = codes "notice"
 -- The property `file` of an annotation, if there is a path: the path without `./` at its start.
 abbrev pub annotation_path : Option (Bor (List ℕ)) → List ℕ
 annotation_path None = []
-annotation_path (Some path) = codes "file=" ++ (github_property (without_dot (chars path.now)) ++ codes ",")
+annotation_path (Some path) = codes "file=" ++ (github_property (strip_dot_slash (chars path.now)) ++ codes ",")
 
 -- The properties of an annotation for a range: the lines and columns of its start and its end.
 abbrev pub extent_properties : Extent → List ℕ

@@ -14,6 +14,6 @@ shorter_or path None = path
 shorter_or path (Some shorter) = shorter
 
 -- A path without `./` at its start. A path such as `.//a` stays, since the rest of it would be absolute.
-abbrev pub without_dot : List ℕ → List ℕ
-without_dot [] = []
-without_dot (c ∷ rest) = if c == code "." then shorter_or (c ∷ rest) (relative_after rest) else c ∷ rest
+abbrev pub strip_dot_slash : List ℕ → List ℕ
+strip_dot_slash [] = []
+strip_dot_slash (c ∷ rest) = if c == code "." then shorter_or (c ∷ rest) (relative_after rest) else c ∷ rest

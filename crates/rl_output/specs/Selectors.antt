@@ -4,8 +4,8 @@ use Rattle.rl_output.specs.Rows.{row_value}
 use Rattle.rl_output.specs.SelectorRows.{base_rows}
 
 -- The character is one of the variation selectors FE00 to FE0F and E0100 to E01EF.
-abbrev pub is_selector : ℕ → Bool
-is_selector c = (nat_le 0xFE00 c && nat_le c 0xFE0F) || (nat_le 0xE0100 c && nat_le c 0xE01EF)
+abbrev pub is_variation_selector : ℕ → Bool
+is_variation_selector c = (nat_le 0xFE00 c && nat_le c 0xFE0F) || (nat_le 0xE0100 c && nat_le c 0xE01EF)
 
 -- The number of the character in the table: 1 for an emoji, 2 for a mathematical symbol, 3 for both, 4 for an ideograph, and 0 for
 -- another character.

@@ -9,7 +9,7 @@ ghost use Rattle.rl_files.specs.Visible.{visible, visible_char};
 ghost use Rattle.rl_output.specs.Github.{data_char, property_char, github_data, github_property, level_word, annotation_path, annotation_end, message_text};
 
 use crate::member::push_ascii;
-use crate::path::without_dot;
+use crate::path::strip_dot_slash;
 use rl_files::needs_escape;
 use std::alloc::{AllocError, Allocator};
 
@@ -63,7 +63,7 @@ fn push_property_char<A: Allocator>(out: &mut String<A>, c: char) -> Result<(), 
 /// # Errors
 ///
 /// Returns an error if an allocation fails. A beginning of the text may have been appended then.
-pub fn push_data<A: Allocator>(out: &mut String<A>, text: &str) -> Result<(), AllocError>
+pub fn push_annotation_text<A: Allocator>(out: &mut String<A>, text: &str) -> Result<(), AllocError>
     ensures { OnOk result (chars (string_bytes out.new)
         ≡ chars (string_bytes out.old) ++ github_data (chars text.now)) }
 {
@@ -127,11 +127,11 @@ fn push_message<A: Allocator>(
     ensures { OnOk result (chars (string_bytes out.new) ≡ chars (string_bytes out.old)
         ++ github_data (message_text (chars words.now) (chars piece.now))) }
 {
-    push_data(out, words)?;
+    push_annotation_text(out, words)?;
     if piece.is_empty() {
         return Ok(());
     }
-    push_data(out, ": ")?;
+    push_annotation_text(out, ": ")?;
     push_shown_data(out, piece)
 }
 
@@ -147,7 +147,7 @@ pub(crate) fn push_annotation_path<A: Allocator>(
         None => Ok(()),
         Some(path) => {
             push_ascii(out, "file=")?;
-            push_property(out, without_dot(path))?;
+            push_property(out, strip_dot_slash(path))?;
             push_ascii(out, ",")
         }
     }

@@ -232,7 +232,7 @@ impl<'t> Places<'t> {
     }
 
     /// Returns the byte offset where `rest`, an end of the text, begins.
-    pub fn byte_of(&self, rest: &'t str) -> usize
+    pub fn offset_of(&self, rest: &'t str) -> usize
         requires { IsCursorState self.now rest.now }
         ensures { result + length rest.now ≡ length self.now }
     {
@@ -240,7 +240,7 @@ impl<'t> Places<'t> {
     }
 
     /// Returns the line and column where `rest`, an end of the text, begins.
-    pub fn at(&mut self, rest: &'t str) -> Position
+    pub fn position_of(&mut self, rest: &'t str) -> Position
         requires { IsCursorState self.old rest.now }
         ensures place { IsPositionOf self.old rest.now result }
         ensures same { self.new ≡ self.old }
@@ -260,7 +260,7 @@ impl<'t> Places<'t> {
         ensures extent { IsExtentOf (chars self.old) lo hi result }
         ensures same { self.new ≡ self.old }
     {
-        let start = self.at(rest);
+        let start = self.position_of(rest);
         extent_from(self.text, rest, start, lo, hi)
     }
 
@@ -271,7 +271,7 @@ impl<'t> Places<'t> {
         ensures lines { HasLinesBefore count (chars self.old) (chars rest.now) result.0.now (chars result.1.now) }
         ensures same { self.new ≡ self.old }
     {
-        let spot = self.at(rest);
+        let spot = self.position_of(rest);
         let (lines, inside) = before_in_line(self.text, rest, spot);
         (last_lines(lines, count), inside)
     }

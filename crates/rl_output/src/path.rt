@@ -2,7 +2,7 @@
 
 ghost use Rattle.std.specs.Prelude.{◌≡◌, Some, None, MatchOption};
 ghost use Rattle.std.specs.Str.{chars};
-ghost use Rattle.rl_output.specs.Paths.{relative_after as rest_of, without_dot};
+ghost use Rattle.rl_output.specs.Paths.{relative_after as rest_of, strip_dot_slash};
 
 use rl_syntax::text::{begins_with_char, split_char};
 
@@ -19,8 +19,8 @@ fn relative_after(text: &str) -> Option<&str>
 
 /// Returns a path without `./` at its start, as `git apply` and the annotations of GitHub need it. A path such as `.//a`
 /// stays, since the rest of it would be absolute.
-pub fn without_dot(path: &str) -> &str
-    ensures { chars result.now ≡ without_dot (chars path.now) }
+pub fn strip_dot_slash(path: &str) -> &str
+    ensures { chars result.now ≡ strip_dot_slash (chars path.now) }
 {
     match split_char(path) {
         Some(('.', rest)) => relative_after(rest).unwrap_or(path),

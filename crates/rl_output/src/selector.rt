@@ -1,13 +1,13 @@
 //! Variation selectors, and the characters that take them.
 
 ghost use Rattle.std.specs.Prelude.{◌≡◌};
-ghost use Rattle.rl_output.specs.Selectors.{base_number as number_of, is_selector as selects, takes};
+ghost use Rattle.rl_output.specs.Selectors.{base_number as number_of, is_variation_selector as selects, takes};
 
 use crate::rows::row_value;
 use crate::selector_rows::BASES;
 
 /// Returns `true` if the character is one of the variation selectors U+FE00 to U+FE0F and U+E0100 to U+E01EF.
-pub fn is_selector(c: char) -> bool
+pub fn is_variation_selector(c: char) -> bool
     ensures { result ≡ selects c }
 {
     matches!(c, '\u{fe00}'..='\u{fe0f}' | '\u{e0100}'..='\u{e01ef}')
@@ -25,7 +25,7 @@ fn base_number(c: char) -> usize
 ///
 /// An emoji with emoji variation sequences takes U+FE0E and U+FE0F. A mathematical symbol takes U+FE00 to U+FE02. An ideograph takes
 /// U+FE00 to U+FE02, and U+E0100 to U+E01EF.
-pub fn takes_selector(base: char, selector: char) -> bool
+pub fn takes_variation_selector(base: char, selector: char) -> bool
     ensures { result ≡ takes base selector }
 {
     let number = base_number(base);

@@ -41,7 +41,7 @@ fn split_pair(bytes: &[u8]) -> Option<(u8, u8, &[u8])>
 /// # Errors
 ///
 /// Returns an error if an allocation fails. The error is the standard library's and has no position.
-pub fn decoded<A: Allocator>(alloc: A, digits: &[u8]) -> Result<Option<Vec<u8, A>>, AllocError>
+pub fn decode_hex<A: Allocator>(alloc: A, digits: &[u8]) -> Result<Option<Vec<u8, A>>, AllocError>
     ensures { IfOk result (λ bytes. bytes_if_any bytes ≡ bytes_of digits.now) }
 {
     let mut bytes = Vec::new(alloc);

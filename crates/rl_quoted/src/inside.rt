@@ -83,10 +83,10 @@ impl<A: Allocator> LitStr<A> {
         }
         match value_byte_spans(alloc, self.segments(), span) {
             Ok(table) => {
-                stream.relocate(table.as_slice());
+                stream.map_spans(table.as_slice());
                 Ok(())
             }
-            Err(_) => Err(Error::memory(span)),
+            Err(_) => Err(Error::out_of_memory(span)),
         }
     }
 
@@ -151,7 +151,7 @@ impl<A: Allocator> LitStr<A> {
                 span,
                 kind: ErrorKind::Suffix(suffix),
             }),
-            Err(_) => Err(Error::memory(span)),
+            Err(_) => Err(Error::out_of_memory(span)),
         }
     }
 
@@ -250,15 +250,15 @@ impl<A: Allocator> LitStr<A> {
     /// use rust_literals::Lit;
     /// use std::alloc::Global;
     ///
-    /// pub fn literal_in_file(alloc: Global, text: &str) -> Option<Span> {
+    /// pub fn inner_literal_span(alloc: Global, text: &str) -> Option<Span> {
     ///     let literal = parse_all::<LitStr, Global>(alloc, text, 0).ok()?;
     ///     match literal.parse_in_file(alloc, ByParse::<Lit>::new()) {
     ///         Ok(inner) => Some(inner.span()),
     ///         Err(error) => Some(error.span),
     ///     }
     /// }
-    /// // literal_in_file(alloc, "\"\\x20\\\"a\\\"\"") == Some(Span { file: 0, lo: 5, hi: 10 })
-    /// // literal_in_file(alloc, "\"\\u{31}, 2\"") == Some(Span { file: 0, lo: 7, hi: 8 })
+    /// // inner_literal_span(alloc, "\"\\x20\\\"a\\\"\"") == Some(Span { file: 0, lo: 5, hi: 10 })
+    /// // inner_literal_span(alloc, "\"\\u{31}, 2\"") == Some(Span { file: 0, lo: 7, hi: 8 })
     /// ```
     pub fn parse_in_file<P: Parser<B>, B: Allocator + Copy>(
         &self,

@@ -8,11 +8,11 @@
 //! use rl_tokens::Span;
 //! use std::alloc::Global;
 //!
-//! pub fn string_of(alloc: Global, value: &str) -> Option<String> {
+//! pub fn string_literal_text(alloc: Global, value: &str) -> Option<String> {
 //!     let literal = LitStr::new(alloc, value, Span::call_site()).ok()?;
 //!     String::from_str(alloc, literal.text()).ok()
 //! }
-//! // string_of(alloc, "a\tb") == Some("\"a\\tb\"")
+//! // string_literal_text(alloc, "a\tb") == Some("\"a\\tb\"")
 //! ```
 #![tactic(auto)]
 

@@ -40,7 +40,7 @@ impl<A: Allocator> LitByte<A> {
     {
         match Literal::byte_character(alloc, value) {
             Ok(token) => Ok(Quoted::written(token, &[value], span)),
-            Err(_) => Err(Error::memory(span)),
+            Err(_) => Err(Error::out_of_memory(span)),
         }
     }
 

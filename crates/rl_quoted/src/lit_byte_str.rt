@@ -33,14 +33,14 @@ impl QuotedKind for ByteStrKind {
 /// use rl_tokens::parse_all;
 /// use std::alloc::Global;
 ///
-/// pub fn bytes_len(alloc: Global, text: &str) -> Option<usize> {
+/// pub fn byte_string_len(alloc: Global, text: &str) -> Option<usize> {
 ///     let literal = parse_all::<LitByteStr, Global>(alloc, text, 0).ok()?;
 ///     match literal.value_ref() {
 ///         Some(value) => Some(value.len()),
 ///         None => Some(literal.value(alloc).ok()?.len()),
 ///     }
 /// }
-/// // bytes_len(alloc, "b\"a\\xFF\"") == Some(2)
+/// // byte_string_len(alloc, "b\"a\\xFF\"") == Some(2)
 /// ```
 pub type LitByteStr<A = Global> = Quoted<ByteStrKind, A>;
 
@@ -57,7 +57,7 @@ impl<A: Allocator> LitByteStr<A> {
     {
         match Literal::byte_string(alloc, value) {
             Ok(token) => Ok(Quoted::written(token, value, span)),
-            Err(_) => Err(Error::memory(span)),
+            Err(_) => Err(Error::out_of_memory(span)),
         }
     }
 
@@ -76,7 +76,7 @@ impl<A: Allocator> LitByteStr<A> {
         let (body, plain) = self.body();
         match bytes_of_body(alloc, Kind::ByteStr, body, plain) {
             Ok(value) => Ok(value),
-            Err(_) => Err(Error::memory(self.token.span())),
+            Err(_) => Err(Error::out_of_memory(self.token.span())),
         }
     }
 

@@ -58,11 +58,11 @@ impl<A: Allocator> LitStr<A> {
     /// use rl_tokens::Span;
     /// use std::alloc::Global;
     ///
-    /// pub fn string_of(alloc: Global, value: &str) -> Option<String> {
+    /// pub fn string_literal_text(alloc: Global, value: &str) -> Option<String> {
     ///     let literal = LitStr::new(alloc, value, Span::call_site()).ok()?;
     ///     String::from_str(alloc, literal.text()).ok()
     /// }
-    /// // string_of(alloc, "a\tb") == Some("\"a\\tb\"")
+    /// // string_literal_text(alloc, "a\tb") == Some("\"a\\tb\"")
     /// ```
     pub fn new(alloc: A, value: &str, span: Span) -> Result<LitStr<A>, Error<A>>
         ensures text { IfOk result (λ l. IsWrittenForm Str (chars value.now) (chars l.text)) }
@@ -71,7 +71,7 @@ impl<A: Allocator> LitStr<A> {
     {
         match Literal::string(alloc, value) {
             Ok(token) => Ok(Quoted::written(token, value.as_bytes(), span)),
-            Err(_) => Err(Error::memory(span)),
+            Err(_) => Err(Error::out_of_memory(span)),
         }
     }
 
@@ -91,7 +91,7 @@ impl<A: Allocator> LitStr<A> {
         let (body, plain) = self.body();
         match str_of_body(alloc, body, plain) {
             Ok(value) => Ok(value),
-            Err(_) => Err(Error::memory(self.token.span())),
+            Err(_) => Err(Error::out_of_memory(self.token.span())),
         }
     }
 

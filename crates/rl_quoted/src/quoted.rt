@@ -26,7 +26,7 @@ ghost use Rattle.rl_syntax.specs.Words.{kind_name};
 
 use crate::written::written_body;
 use rl_fronts::{begins_with_kind, take_literal_of_kind};
-use rl_lenient::{Body, Found, Segments, byte_of_body, char_of_body, find, text_range};
+use rl_lenient::{Body, Found, Segments, byte_of_body, char_of_body, parse_literal, text_range};
 use rl_syntax::Kind;
 use rl_tokens::{
     Error, Literal, Parse, ParseBuffer, Span, ToTokens, Token, TokenStream, append_literal,
@@ -81,11 +81,11 @@ impl<K: QuotedKind, A: Allocator> Quoted<K, A> {
         requires { ReadsAs K.KIND (chars token.text) }
         ensures { result ≡ token }
     {
-        let found = find(token.text()).unwrap();
+        let found = parse_literal(token.text()).unwrap();
         Quoted::of_found(token, found)
     }
 
-    /// Creates the quoted literal of the literal token `token` from the parse result of the token's text. [`find`]
+    /// Creates the quoted literal of the literal token `token` from the parse result of the token's text. [`parse_literal`]
     /// returned the parse result `found`. The text must be a literal of the kind `K`.
     #[inline(always)]
     pub fn of_found(token: Literal<A>, found: Found) -> Quoted<K, A>
@@ -145,7 +145,7 @@ impl<K: QuotedKind, A: Allocator> Quoted<K, A> {
         self.between()
     }
 
-    /// Returns the parse result of the literal's text, as [`find`] does. It is built from the stored byte offsets, and
+    /// Returns the parse result of the literal's text, as [`parse_literal`] does. It is built from the stored byte offsets, and
     /// the text isn't parsed again.
     pub fn found(&self) -> Found
         requires { IsTrue (is_quoted K.KIND) }
@@ -189,13 +189,13 @@ impl<K: QuotedKind, A: Allocator> Quoted<K, A> {
     /// use rl_tokens::parse_all;
     /// use std::alloc::Global;
     ///
-    /// pub fn brace_in_file(alloc: Global, text: &str) -> Option<usize> {
+    /// pub fn brace_offset_in_file(alloc: Global, text: &str) -> Option<usize> {
     ///     let literal = parse_all::<LitStr, Global>(alloc, text, 0).ok()?;
     ///     let value = literal.value(alloc).ok()?;
     ///     let at = value.as_str().find('{')?;
     ///     Some(literal.span_of(at, at + 1).lo())
     /// }
-    /// // brace_in_file(alloc, "  \"\\u{e4}\\n{x}\"") == Some(11)
+    /// // brace_offset_in_file(alloc, "  \"\\u{e4}\\n{x}\"") == Some(11)
     /// ```
     pub fn text_offset(&self, at: usize) -> usize
         requires { IsTrue (is_quoted K.KIND) }
@@ -211,7 +211,7 @@ impl<K: QuotedKind, A: Allocator> Quoted<K, A> {
         requires { IsTrue (is_quoted K.KIND) }
         ensures { IsByteEnd K.KIND (chars self.now.text) at result }
     {
-        self.segments().end_of(at)
+        self.segments().text_end_offset(at)
     }
 
     /// Returns the byte range of the literal's text from which the bytes `lo` up to `hi` of the decoded value come.
@@ -335,7 +335,7 @@ impl<K: QuotedKind, A: Allocator> Parse<A> for Quoted<K, A> {
     ghost runs = { RunsAs K.KIND (kind_word K.KIND) };
 
     fn parse(alloc: A, input: &mut ParseBuffer<'_, A>) -> Result<Quoted<K, A>, Error<A>> {
-        match take_literal_of_kind(alloc, input, K::KIND, K::KIND.word()) {
+        match take_literal_of_kind(alloc, input, K::KIND, K::KIND.description()) {
             Ok((token, found)) => Ok(Quoted::of_found(token, found)),
             Err(error) => Err(error),
         }
@@ -356,7 +356,7 @@ impl<K: QuotedKind, A: Allocator> Token for Quoted<K, A> {
     }
 
     fn display() -> &'static str {
-        K::KIND.shown()
+        K::KIND.display_name()
     }
 }
 

@@ -13,7 +13,7 @@ use Rattle.rl_recovery.specs.declared.unclosed.Unclosed.{Unclosed}
 use Rattle.rl_recovery.proofs.LineEnds.{EndsWith, rest_ends, quoted_lines, raw_lines}
 use Rattle.rl_recovery.proofs.OpenerLemmas.{hashed, quoted_stuck, quoted_unclosed, raw_stuck, raw_unclosed}
 
--- ---- quoted literals
+-- ---- quoted literals that are unclosed in a text and in its end
 
 -- If no quote in a text closes the literal, a backslash escapes each quote in it. So no quote in the text `body` after one of
 -- these quotes closes the literal either.
@@ -41,7 +41,7 @@ quote_tail (c ∷ d ∷ front) body h = go (c == 34) (c == 92) h (quote_tail fro
 quoted_none : (body : List ℕ) → after_quote body ≡ None → NoneCloses Quoted body
 quoted_none t h = λ front body e. quote_tail front body (ap after_quote (sym e) ∙ h)
 
--- ---- raw strings
+-- ---- raw strings that are unclosed in a text and in its end
 
 raw_tail : (n : ℕ) (front t : List ℕ) → after_raw n (front ++ t) ≡ None → after_raw n t ≡ None
 raw_tail n [] t h = h
@@ -72,7 +72,7 @@ raw_more n m (c ∷ t) l h = go (c == 34) (begins_hashes n t) (begins_hashes m t
     go true false true p r h more = absurd (let e : true ≡ false = sym (hashes_fewer n m t l r) ∙ p in cc)
     go true false false p r h more = more h
 
--- ---- strings with escapes and raw strings
+-- ---- the set of unclosed opening delimiters of a text and of its end
 
 pub none_tail : (opener : Opener) (front t : List ℕ) → NoneCloses opener (front ++ t) → NoneCloses opener t
 none_tail Quoted front t h = λ f body e.
@@ -93,7 +93,7 @@ unclosed_tail k front t h = record {
 pub unclosed_end : (k : Unclosed) (t r : List ℕ) → EndsWith t r → AreUnclosed k t → AreUnclosed k r
 unclosed_end k t r ends h = unclosed_tail k ends.0 r (subst (AreUnclosed k) ends.1 h)
 
--- A literal isn't closed in an empty text.
+-- In an empty text, each opening delimiter of a set is unclosed, since the text contains no opening delimiter.
 pub unclosed_nil : (k : Unclosed) → AreUnclosed k []
 unclosed_nil k = record { quoted = λ on front body e. absurd (no_quote front body e); raw = nothing k.raw }
   where

@@ -15,11 +15,11 @@ use Rattle.rl_lenient.specs.declared.found.Found.{Found}
 use Rattle.rl_recovery.specs.Leading.{Leads, LeadsNone, LeadsNegative, LeadsNoNegative, may_lead}
 use Rattle.rl_recovery.specs.declared.leading.LeadingLiteral.{LeadingLiteral}
 
--- If the text begins with no token, its first token isn't a literal.
+-- A text that begins with no token doesn't begin with a literal.
 pub none_begins : (text : List ℕ) → BeginsNoSource (chars text) → LeadsNone text
 none_begins text none l h = none h.kind (chars l.following.now) h.begins
 
--- If the text begins with a token that isn't a literal, its first token isn't a literal.
+-- A text that begins with a token other than a literal doesn't begin with a literal.
 pub other_begins : (text literal rest : List ℕ) (kind : SourceKind) → SourceBefore (chars text) kind rest
     → chars text ≡ literal ++ rest → (IsLiteralText kind literal → ⊥) → LeadsNone text
 other_begins text literal rest kind begins are other l h =
@@ -31,7 +31,7 @@ other_begins text literal rest kind begins are other l h =
     let both : ◌≡◌ {A = SourceKind × List ℕ} (h.kind, chars l.text.now) (kind, literal) = cc in
     other (subst (λ (z : SourceKind × List ℕ). IsLiteralText z.0 z.1) both h.is_literal)
 
--- At most one literal begins a text.
+-- At most one literal begins a text: two literals that begin it have equal texts.
 one_leads : (text : List ℕ) (k l : LeadingLiteral) → Leads text k → Leads text l → chars k.text.now ≡ chars l.text.now
 one_leads text k l p q =
     let same = one_token p.begins.token q.begins.token (chars k.following.now) (chars l.following.now)
@@ -42,7 +42,7 @@ one_leads text k l p q =
 pub truth_false : IsTrue false → ⊥
 truth_false is = cc
 
--- ---- the first characters of a literal
+-- ---- the first characters that a literal may begin with
 
 digit_leads : (d : ℕ) (t : List ℕ) → is_ascii_digit d ≡ true → may_lead (d ∷ t) ≡ true
 digit_leads d t is = go (is_ascii_digit d) _ is
@@ -98,7 +98,7 @@ token_leads (DocBlockToken inside) after literal is lit same = absurd lit
 token_leads (BadQuoteToken q) after literal is lit same = bad_quote_leads q after
 token_leads (StrayToken c) after literal is lit same = absurd lit
 
--- If the first characters of a text can't begin a literal, the first token isn't one.
+-- If the first characters of a text can't begin a literal, the text's first token isn't a literal.
 pub no_lead : (text : List ℕ) → may_lead (chars text) ≡ false → LeadsNone text
 no_lead text none l h =
     let after = chars l.following.now in
@@ -107,7 +107,7 @@ no_lead text none l h =
     (sym h.begins.text_is ∙ h.chars_are) in
     truth_false (let e : true ≡ false = sym leads ∙ sym (ap may_lead h.begins.text_is) ∙ none in cc)
 
--- ---- a minus before a number
+-- ---- a minus directly before a number
 
 minus_chars : (t : List ℕ) → IsUtf8 (45 ∷ t) → chars (45 ∷ t) ≡ 45 ∷ chars t
 minus_chars t u = chars_past_char (45 ∷ t) t 45 u (sym (ap (λ x. x ++ t) (encode_ascii 45 (lit< tt))))

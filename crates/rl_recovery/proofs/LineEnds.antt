@@ -1,11 +1,11 @@
--- The text from the end of a line on is an end of the text, and of the text after an opening delimiter.
+-- The text from a line end on is an end of the whole text. It is also an end of the text after an opening delimiter.
 use Rattle.rl_syntax.proofs.Common.{◌≡◌, ℕ, zero, suc, Bool, true, false, not, ◌&&◌, ◌==◌, List, [], ◌∷◌, ◌++◌, drop, replicate, Option, Some, refl, sym, ◌∙◌, ap, none-some, if◌then◌else◌}
 use Rattle.rl_lexer.proofs.Comments.{same_Some}
 use Rattle.rl_lexer.specs.Lexemes.{LiteralPrefix, NoPrefix, BytePrefix, CPrefix, prefix_text}
 use Rattle.rl_recovery.specs.Recoveries.{from_line_end}
 use Rattle.rl_recovery.proofs.OpenerLemmas.{hashed}
 
--- The second text is an end of the first one.
+-- The text `r` is an end of the text `t`.
 abbrev pub EndsWith : List ℕ → List ℕ → Type 0
 EndsWith t r = (front : List ℕ) × (t ≡ front ++ r)
 
@@ -26,7 +26,7 @@ pub rest_ends : (joins escaped : Bool) (t r : List ℕ) → from_line_end joins 
 rest_ends joins escaped [] r h = absurd (none-some r h)
 rest_ends joins escaped (c ∷ t) r h = let (front, e) = line_ends joins escaped t r h in (c ∷ front, ap (λ z. c ∷ z) e)
 
--- ---- the text after an opening delimiter that contains neither an LF nor a backslash
+-- ---- an opening delimiter contains neither an LF nor a backslash, so the first line end of a text is after it
 
 and_false : (b : Bool) → (b && false) ≡ false
 and_false true = refl

@@ -14,7 +14,7 @@ use Rattle.rl_lexer.proofs.LexemeFronts.{at_class, class34, class98, class99, cl
 use Rattle.rl_lexer.proofs.LexemeOpeners.{quote_here, raw_opens_here}
 use Rattle.rl_lexer.proofs.SourceFronts.{plain_before, source_none}
 
--- ---- no token begins a text if and only if each of the three parsers finds none
+-- ---- no token begins a text if the parsers of plain tokens, of other tokens of sources and of stray characters find none
 
 stuck : (t : List ℕ) → lexeme_at t ≡ None → other_at t ≡ None → stray_at t ≡ None → BeginsNoSource t
 stuck t lexeme other stray = source_none t None (no_lexeme t lexeme) (sym (ap (λ o. or_stray o t) other ∙ stray))
@@ -26,7 +26,7 @@ lexeme_stuck t none = go (lexeme_at t) refl
     go None e = e
     go (Some p) e = absurd (none (PlainKind p.0) p.1 (plain_before t p.1 p.0 (form_before t p e)))
 
--- The literal with its suffix if its closing delimiter is found, and `None` otherwise.
+-- If the closing delimiter of a literal is found, the literal with its suffix is returned. Otherwise the result is `None`.
 abbrev ended : Option (List ℕ) → Option (LexemeForm × List ℕ)
 ended o = literal_at (option_map after_suffix o)
 
@@ -34,7 +34,7 @@ not_ended : (o : Option (List ℕ)) → ended o ≡ None → o ≡ None
 not_ended None h = refl
 not_ended (Some r) h = absurd (cc)
 
--- ---- quoted literals
+-- ---- a string with escapes begins a token if and only if it is closed
 
 quoted_lexeme : (p : LiteralPrefix) (body : List ℕ) → lexeme_at (prefix_text p ++ 34 ∷ body) ≡ ended (after_quote body)
 quoted_lexeme NoPrefix body = at_class 34 body QuoteHead class34
@@ -61,7 +61,7 @@ pub quoted_unclosed : (p : LiteralPrefix) (body : List ℕ) → BeginsNoSource (
 quoted_unclosed p body none = not_ended (after_quote body)
     (sym (quoted_lexeme p body) ∙ lexeme_stuck (prefix_text p ++ 34 ∷ body) none)
 
--- ---- raw strings
+-- ---- a raw string begins a token if and only if it is closed
 
 -- Hashes, a double quote and the text after it.
 abbrev pub hashed : ℕ → List ℕ → List ℕ
@@ -139,13 +139,13 @@ pub raw_unclosed : (p : LiteralPrefix) (n : ℕ) (body : List ℕ) → BeginsNoS
 raw_unclosed p n body none = not_ended (after_raw n body)
     (sym (raw_lexeme p n body) ∙ lexeme_stuck (prefix_text p ++ 114 ∷ hashed n body) none)
 
--- ---- the number of hashes
+-- ---- the number of hashes of a raw string
 
 hash_bytes : (n : ℕ) → length (encode_utf8_all (replicate n 35)) ≡ n
 hash_bytes zero = refl
 hash_bytes (suc n) = ap length (low_front 35 (replicate n 35) (lit< tt)) ∙ ap suc (hash_bytes n)
 
--- If a double quote follows the hashes at the start of a text, the number of these hashes is the number of their bytes.
+-- If a double quote follows the hashes at the start of a text, there are as many hashes as bytes before the quote.
 pub hashes_taken : (front : List ℕ) (t quote body : List ℕ) → IsUtf8 front → t ≡ chars front ++ quote
     → quote ≡ after_run is_hash t → quote ≡ 34 ∷ body → 114 ∷ t ≡ 114 ∷ hashed (length front) body
 hashes_taken front t quote body u cut past is =

@@ -1,4 +1,4 @@
--- Single steps of a cursor over a source, which resumes after errors.
+-- Single steps of a cursor that reads a source, and resumes after errors.
 use Rattle.rl_syntax.proofs.Common.{◌≡◌, ℕ, ◌+◌, ◌-◌, ◌≤◌, Bool, true, false, ◌==◌, List, [], length, take, drop, Some, None, refl, sym, subst, arith, inr, append-nil, codes, chars, IsUtf8, IsUtf8-nil, IsUtf8-take, chars-nil, if◌then◌else◌, none-some}
 use Rattle.rl_syntax.specs.Texts.{IsTail, begins}
 use Rattle.rl_syntax.proofs.TailLemmas.{tail_self, tail_step, cut_boundary, cut_chars}
@@ -28,7 +28,7 @@ pub unclosed_rest : (k : Unclosed) (a b : List ℕ) → IsUtf8 a → IsTail a b 
     → AreUnclosed k (chars b)
 unclosed_rest k a b u tail is = unclosed_end k (chars a) (chars b) (tail_chars a b u tail) is
 
--- ---- the tokens between two literals
+-- ---- the cursor reads the tokens between two literals
 
 pub stays : (s : CursorState) → IsUtf8 s.rest → PassesTo s s
 stays s u = record {
@@ -55,7 +55,7 @@ walks_on k old now new l w takes other = record {
   unclosed = unclosed_rest k now.rest new.rest w.passes.following.is_text takes.following w.unclosed;
 }
 
--- ---- errors of a source
+-- ---- the errors of a source
 
 pub error_of : (rest : List ℕ) (kind : LexKind) → IsUtf8 rest → (empty : Bool) → empty ≡ (length rest == 0)
     → empty ≡ false → BeginsNoSource (chars rest) → kind ≡ source_error_kind (chars rest) → SourceErrorAt kind (chars rest)
@@ -83,7 +83,8 @@ begins_state text rest known cursor all = record {
   unclosed = all (chars rest);
 }
 
--- If the cursor reads more of the part in which lexing resumed last, its state is still valid.
+-- A cursor's part of the text is the text from the position at which lexing last resumed. If the cursor reads more of this
+-- part, its state is still valid.
 pub further : (whole part left rest : List ℕ) (known : Unclosed) → IsRecoveryState whole part left known
     → IsTail left rest → IsRecoveryState whole part rest known
 further whole part left rest known is tail = record {
@@ -97,7 +98,7 @@ pub literal_tail : (old : CursorState) (l : SourceToken) (new : CursorState) →
     → IsTail old.rest new.rest
 literal_tail old l new t = tail_step old.rest t.between.rest new.rest t.passes.following t.takes.following
 
--- If lexing resumes in the lines after an error, the cursor's state is valid there.
+-- If lexing resumes in the lines after an error, the cursor's state at the start of these lines is valid.
 pub taken_up : (whole part left rest lines following : List ℕ) (known now : Unclosed)
     → IsRecoveryState whole part left known → IsTail left rest → IsTail rest lines → IsCursorState lines following
     → AreUnclosed now (chars lines) → IsRecoveryState whole lines following now
@@ -119,7 +120,7 @@ nothing_left whole part left known is = record {
   unclosed = subst (AreUnclosed known) (sym chars-nil) (unclosed_nil known);
 }
 
--- A position in a part of the text is also a position in the whole text.
+-- A position in the part of a text that the cursor reads is also a position in the whole text.
 pub in_whole_len : (whole part left rest : List ℕ) (known : Unclosed) → IsRecoveryState whole part left known
     → IsTail left rest → length rest ≤ length whole
 in_whole_len whole part left rest known is tail = omega (

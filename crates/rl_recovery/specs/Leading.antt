@@ -21,8 +21,8 @@ pub record Leads (text : List ℕ) (l : LeadingLiteral) : Type 0 where
   pub following : IsTail text l.following.now
   pub reading : FindsReading l.text.now l.found
 
--- The text begins with a digit, an apostrophe or a quote, with a literal's prefix, or with `true` or `false`. Each text that
--- begins with a literal does.
+-- The text begins with a digit, an apostrophe or a quote, with a literal's prefix, or with `true` or `false`. A text that
+-- begins otherwise doesn't begin with a literal.
 abbrev pub may_lead : List ℕ → Bool
 may_lead t =
     first_passes is_ascii_digit t || (begins (codes "\"") t || (begins (codes "'") t || (begins (codes "r\"") t
@@ -33,7 +33,7 @@ may_lead t =
 abbrev pub LeadsNone : List ℕ → Type 0
 LeadsNone text = (l : LeadingLiteral) → Leads text l → ⊥
 
--- The text begins with a minus and a number directly after it, which parse as one negative number.
+-- The text begins with a minus and a number directly after it. Together they parse as one negative number.
 pub record LeadsNegative (text : List ℕ) (l : LeadingLiteral) : Type 0 where
   pub unsigned : List ℕ
   pub number : LeadingLiteral

@@ -11,21 +11,21 @@ use Rattle.rl_lenient.specs.NextLiterals.{FindsReading}
 use Rattle.rl_lenient.specs.declared.source_literals.SourceStep.{SourceStep}
 use Rattle.rl_lenient.specs.declared.source_literals.SourceStep.TheVariants.{End, Literal, Rejected}
 
--- The state of a cursor over a source: the whole text, in bytes, and the part of it in which lexing resumed last, up to the
--- text's end. The part is lexed as a source of its own.
+-- The state of a cursor over a source: the whole text, in bytes, and the part of the text from the position at which lexing
+-- last resumed. The part is lexed as a source of its own.
 pub record RecoveryState : Type 0 where
   pub whole : List ℕ
   pub part : CursorState
 
 -- ---- the next literal
 
--- The token of the cursor's part, with its byte range in the whole text.
+-- A token of the part of the text that the cursor reads, with its byte range in the whole text.
 abbrev pub token_of_whole : RecoveryState → SourceToken → SourceToken
 token_of_whole t l =
     let before = length t.whole - length t.part.text in
     record { form = l.form; text = l.text; lo = before + l.lo; hi = before + l.hi }
 
--- The literal `l` is the next one of the cursor's part.
+-- The literal `l` is the next literal of the part of the text that the cursor reads.
 pub record TakesLiteral (old : RecoveryState) (l : SourceToken) (new : RecoveryState) : Type 0 where
   pub token : SourceToken
   pub takes : TakesLiteralAfter old.part token new.part
@@ -47,7 +47,8 @@ from_line_end joins escaped (c ∷ t) =
     if c == code "\n" && not escaped then Some (c ∷ t)
     else from_line_end joins (joins && c == code "\\" && not escaped) t
 
--- The part of the text where lexing resumes after the error at the text's start, or `None` if there is no such part.
+-- The text from the position where lexing resumes after the error at the start of the given text, or `None` if lexing doesn't
+-- resume.
 --
 -- After an unclosed block comment, lexing doesn't resume. After an unclosed quote, it resumes at the LF that ends the quote's
 -- line. After the quote of a character or byte literal, an escaped line end continues the line.
@@ -55,14 +56,14 @@ abbrev pub lines_after : List ℕ → Option (List ℕ)
 lines_after t =
     if begins (codes "/*") t then None else from_line_end (begins_character t) false (drop 1 t)
 
--- Lexing resumes at `lines`, an end of the text, which is lexed as a source of its own. None of its tokens are lexed yet.
+-- Lexing resumes at `lines`, an end of the text. This end is lexed as a source of its own. None of its tokens are lexed yet.
 pub record TakesUp (text lines : List ℕ) (part : CursorState) : Type 0 where
   pub following : IsTail text part.text
   pub lines_are : chars part.text ≡ lines
   pub begun : IsCutUpTo (chars part.text) [] (chars part.rest)
   pub cursor : IsCursorState part.text part.rest
 
--- Lexing resumes after the error at the start of the text. If the error extends to the text's end, the cursor's part is empty.
+-- Lexing resumes after the error at the start of the text. If the error extends to the text's end, no text is left to lex.
 abbrev pub TakesUpAfter : List ℕ → CursorState → Type 0
 TakesUpAfter text part =
     MatchOption (lines_after (chars text)) (part ≡ record { text = []; rest = [] })
@@ -78,7 +79,7 @@ pub record StopsAt (rest : List ℕ) (old : RecoveryState) (e : LexError) (new :
   pub goes_on : TakesUpAfter rest new.part
   pub same : new.whole ≡ old.whole
 
--- The error `e` is the first one in the cursor's part.
+-- The error `e` is the first error in the part of the text that the cursor reads.
 pub record ReportsUnclosed (old : RecoveryState) (e : LexError) (new : RecoveryState) : Type 0 where
   pub at : CursorState
   pub passes : PassesTo old.part at

@@ -5,7 +5,7 @@ ghost use Rattle.std.specs.Str.{chars};
 ghost use Rattle.rl_recovery.specs.Leading.{Leads, LeadsNone, LeadsNegative, LeadsSigned, LeadsNoneSigned, LeadsNoNegative, may_lead};
 
 use rl_lenient::digit_runs::begins_digit;
-use rl_lenient::{Found, find, find_negative};
+use rl_lenient::{Found, find_negative, parse_literal};
 use rl_lexer::{SourceToken, first_source_token};
 use rl_syntax::text::{before, begins, strip_byte};
 
@@ -63,7 +63,7 @@ pub fn leading_literal(text: &str) -> Option<LeadingLiteral<'_>>
     }
     Some(LeadingLiteral {
         text: literal,
-        found: find(literal),
+        found: parse_literal(literal),
         following,
     })
 }

@@ -10,14 +10,14 @@
 //!
 //! use rl_recovery::leading_literal;
 //!
-//! pub fn first_literal(text: &str) -> Option<&str>
+//! pub fn literal_at_start(text: &str) -> Option<&str>
 //!     ensures found { IfSome result
 //!         (λ literal. (l : LeadingLiteral) × Leads text.now l × (literal.now ≡ l.text.now)) }
 //!     ensures none { IfNone result (LeadsNone text.now) }
 //! {
 //!     Some(leading_literal(text)?.text)
 //! }
-//! // first_literal("1.5, 2") == Some("1.5")
+//! // literal_at_start("1.5, 2") == Some("1.5")
 //! ```
 #![tactic(auto)]
 
@@ -28,4 +28,4 @@ mod recovery;
 mod unclosed;
 
 pub use crate::leading::{LeadingLiteral, leading_literal, leading_signed_literal};
-pub use crate::recovery::{Recovery, recovery_step};
+pub use crate::recovery::{Recovery, next_recovered_literal};

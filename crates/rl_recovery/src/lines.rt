@@ -8,10 +8,11 @@ ghost use Rattle.rl_recovery.specs.Recoveries.{begins_character, from_line_end, 
 
 use rl_syntax::text::{begins, begins_with_char, split_char};
 
-/// Returns the part of the text where lexing resumes after the error at the text's start, or `None` if there is no such part.
+/// Returns the text from the position where lexing resumes after the error at the start of the given text, or `None` if lexing
+/// doesn't resume.
 ///
-/// Lexing resumes at the LF that ends the line of an unclosed quote. After an unclosed block comment it doesn't resume.
-/// After the quote of an unclosed character or byte literal, an escaped line end continues the line.
+/// Lexing resumes at the LF that ends the line of an unclosed quote. After an unclosed block comment it doesn't resume. After
+/// the quote of an unclosed character or byte literal, an escaped line end continues the line.
 pub(crate) fn lines_after(text: &str) -> Option<&str>
     ensures lines { option_map (λ lines. chars lines.now) result ≡ lines_after (chars text.now) }
     ensures following { IfSome result (λ lines. IsTail text.now lines.now) }

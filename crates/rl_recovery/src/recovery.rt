@@ -10,7 +10,7 @@ ghost use Rattle.rl_recovery.specs.Mirrors.Closing.{AreUnclosed};
 
 use crate::lines::lines_after;
 use crate::unclosed::Unclosed;
-use rl_lenient::{SourceStep, find};
+use rl_lenient::{SourceStep, parse_literal};
 use rl_lexer::{LexError, SourceToken, Sources, source_error_kind};
 use std::marker::Model;
 
@@ -235,11 +235,11 @@ fn placed(before: usize, token: SourceToken<'_>) -> SourceToken<'_>
 /// Returns the next literal of a source and its parse result, or the error before the literal. After an error, lexing resumes
 /// after it. The result is `End` at the text's end. Nothing is allocated.
 #[inline(always)]
-pub fn recovery_step<'t>(source: &mut Recovery<'t>) -> SourceStep<'t>
+pub fn next_recovered_literal<'t>(source: &mut Recovery<'t>) -> SourceStep<'t>
     ensures { StepsRecovery source.old result source.new }
 {
     match source.next_literal() {
-        Some(Ok(token)) => SourceStep::Literal(token, find(token.text)),
+        Some(Ok(token)) => SourceStep::Literal(token, parse_literal(token.text)),
         Some(Err(error)) => SourceStep::Rejected(error),
         None => SourceStep::End,
     }

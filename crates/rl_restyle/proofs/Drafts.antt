@@ -10,7 +10,7 @@ use Rattle.rl_lexer.specs.declared.lex_error.LexError.{LexError}
 use Rattle.rl_lexer.specs.declared.sources.SourceToken.{SourceToken}
 use Rattle.rl_lexer.proofs.CutLemmas.{byte_len-append}
 use Rattle.rl_lexer.proofs.ErrorKinds.{char_len}
-use Rattle.rl_style.specs.Calls.{CallState, Outside, calls_after, is_in_call}
+use Rattle.rl_style.specs.Calls.{CallState, Outside, advance_calls, is_in_call}
 use Rattle.rl_style.specs.Recut.{begins_with_code}
 use Rattle.rl_style.specs.Restylable.{GivesLiteral, GivesNone, Here, Behind, Passes, Stops, IsLiteralOfSource, RestylableState, is_field, last_after, passed}
 use Rattle.rl_style.specs.Restyled.{IsEdited}
@@ -124,7 +124,7 @@ seen_passed s token tokens w is =
     let seen : SourceKind → ℕ → ℕ → List ℕ → Seen = λ k lo hi b. record {
       last = last_after s.last s.end k lo;
       end = hi;
-      calls = calls_after s.calls k b;
+      calls = advance_calls s.calls k b;
     } in
     let view : SourceKind = source_view token.form in
     ap (λ k. seen k w.at (source_end w) (cut_bytes w)) is.kind_is

@@ -8,7 +8,7 @@ use Rattle.rl_lexer.specs.Skipping.{Skipped}
 use Rattle.rl_lexer.specs.Sources.{BadQuoteToken, BeginsNoSource, CutSource, DocBlockToken, DocLineToken, IsLiteralText, LifetimeToken, PlainToken, RawIdentifierToken, RawLifetimeToken, SourceKind, SourceLexeme, StrayToken, source_end, source_text, told}
 use Rattle.rl_lexer.proofs.Pieces.{one_rest}
 use Rattle.rl_lexer.proofs.SourceLaws.{one_lexing}
-use Rattle.rl_style.specs.Calls.{calls_after, is_in_call}
+use Rattle.rl_style.specs.Calls.{advance_calls, is_in_call}
 use Rattle.rl_style.specs.Restylable.{is_field, last_after}
 use Rattle.rl_style.specs.Restyled.{IsEdited, edited_text}
 use Rattle.rl_style.specs.declared.style.Style.{Style}
@@ -51,7 +51,7 @@ seen_same seen v w e =
     let after : Token → Seen = λ p. record {
       last = last_after seen.last seen.end p.0 p.2;
       end = end_of p;
-      calls = calls_after seen.calls p.0 (encode_utf8_all p.1);
+      calls = advance_calls seen.calls p.0 (encode_utf8_all p.1);
     } in
     ap after e
 

@@ -6,7 +6,7 @@ use Rattle.std.specs.Str.{chars}
 use Rattle.rl_syntax.specs.Texts.{byte_len}
 use Rattle.rl_lexer.specs.Skipping.{Skipped}
 use Rattle.rl_lexer.specs.Sources.{CutSource, IsCutUpTo, IsLiteralText, SourceError, source_end, source_kind, source_text}
-use Rattle.rl_style.specs.Calls.{CallState, Outside, calls_after, is_in_call}
+use Rattle.rl_style.specs.Calls.{CallState, Outside, advance_calls, is_in_call}
 use Rattle.rl_style.specs.Recut.{IsSound, begins_with_code}
 use Rattle.rl_style.specs.Restylable.{is_field, last_after}
 use Rattle.rl_style.specs.Restyled.{IsEdited, IsEditedSource}
@@ -41,7 +41,7 @@ abbrev pub seen_after : Seen → CutSource → Seen
 seen_after seen w = record {
   last = last_after seen.last seen.end (source_kind w.token) w.at;
   end = source_end w;
-  calls = calls_after seen.calls (source_kind w.token) (cut_bytes w);
+  calls = advance_calls seen.calls (source_kind w.token) (cut_bytes w);
 }
 
 -- Whether a literal is rewritten. The first flag is `true` if the literal may be a field of a tuple, and the second if

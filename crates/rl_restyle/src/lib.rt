@@ -16,5 +16,5 @@ mod whole;
 pub use crate::edit::{Edit, Macros, RestyleError, Restyled};
 pub use crate::slices::between;
 pub use crate::style_error::{Expected, StyleError, StyleErrorKind};
-pub use crate::styles::{default_style, style_of};
+pub use crate::styles::{default_style, parse_style};
 pub use crate::whole::rewrite_source;

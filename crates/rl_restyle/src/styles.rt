@@ -11,7 +11,7 @@ use crate::value::value_of;
 use crate::values::Values;
 use rl_lenient::NextLiteral;
 use rl_lexer::Tokens;
-use rl_settings::{DottedName, EntryRejection, EntryStep, NextEntry, entry_step};
+use rl_settings::{DottedName, EntryRejection, EntryStep, NextEntry, next_config_entry};
 use rl_style::{Case, Style};
 
 /// Creates an error of the kind `kind` whose range is the entry's name.
@@ -106,7 +106,7 @@ fn rejection_error<'t>(values: &Values, rejection: EntryRejection<'t>) -> StyleE
 /// Parses the configuration of a style.
 ///
 /// A configuration is a list of entries `name = literal`, each on its own line or with a comma after it, as
-/// [`rl_settings::entry_step`] parses them. Each name is that of a rule, and occurs at most once. A rule without an entry
+/// [`rl_settings::next_config_entry`] parses them. Each name is that of a rule, and occurs at most once. A rule without an entry
 /// changes nothing.
 ///
 /// These are the names and values. A string's body must be exactly the given text, without escapes.
@@ -124,14 +124,14 @@ fn rejection_error<'t>(values: &Values, rejection: EntryRejection<'t>) -> StyleE
 ///
 /// Returns the first error, from left to right: text that isn't an entry, a name that isn't a rule's, a repeated name, or a
 /// value that the rule can't have.
-pub fn style_of(text: &str) -> Result<Style, StyleError<'_>>
+pub fn parse_style(text: &str) -> Result<Style, StyleError<'_>>
     ensures says { IfOk result (SaysStyle text.now) }
     ensures rejects { IfErr result (RejectsStyle text.now) }
 {
     let mut tokens = Tokens::new(text);
     let mut values = Values::new();
     loop {
-        match entry_step(&mut tokens, text) {
+        match next_config_entry(&mut tokens, text) {
             EntryStep::End => return Ok(values.style()),
             EntryStep::Entry(entry) => match set_entry(&mut values, &entry) {
                 Ok(()) => {}

@@ -51,21 +51,21 @@ impl<B: Allocator> Failing<B> {
     }
 
     /// Restarts the count of allocations at 1. The allocations with the numbers from `first` to `last` fail.
-    pub fn fail(&self, first: u64, last: u64) {
+    pub fn fail_from_to(&self, first: u64, last: u64) {
         self.plan.first.set(first);
         self.plan.last.set(last);
         self.plan.asked.set(0);
     }
 
     /// Ends the failures, and returns the number of allocations that were requested.
-    pub fn succeed(&self) -> u64 {
+    pub fn stop_failing(&self) -> u64 {
         let asked = self.plan.asked.get();
-        self.fail(1, 0);
+        self.fail_from_to(1, 0);
         asked
     }
 
     /// Returns the number of blocks in use.
-    pub fn held(&self) -> u64 {
+    pub fn blocks_in_use(&self) -> u64 {
         self.plan.held.get()
     }
 }

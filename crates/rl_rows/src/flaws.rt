@@ -8,10 +8,10 @@ use rl_grammar::Flaw;
 pub(crate) fn put_flaw(flaw: Option<Flaw>, out: &mut Page) {
     match flaw {
         Some(flaw) => {
-            out.debug(&flaw.kind, " ");
-            out.show(&flaw.from, " ");
-            out.show(&flaw.lo, "..");
-            out.show(&flaw.hi, "\n")
+            out.put_debug(&flaw.kind, " ");
+            out.put_display(&flaw.from, " ");
+            out.put_display(&flaw.lo, "..");
+            out.put_display(&flaw.hi, "\n")
         }
         None => out.put("None\n"),
     }

@@ -16,8 +16,8 @@ const MOST: usize = 4;
 /// Prints a line for a text: its length, and the results of `skip`, `lex`, `is_token`, `read_all` and `Lit::new`.
 fn put_text(text: &str, out: &mut Page) {
     out.put("  ");
-    out.show(&text.len(), ": skip ");
-    out.show(&whitespace::skip(text).len(), "; lex ");
+    out.put_display(&text.len(), ": skip ");
+    out.put_display(&whitespace::skip(text).len(), "; lex ");
     put_lexed(text, out);
     if strict::is_token(text) {
         out.put("; token");
@@ -32,10 +32,10 @@ fn put_text(text: &str, out: &mut Page) {
 /// Prints the result of `lex`: the number of token trees, or an error and its position.
 fn put_lexed(text: &str, out: &mut Page) {
     match lex(out.alloc, text, 0) {
-        Ok(stream) => out.show(&stream.trees().len(), ""),
+        Ok(stream) => out.put_display(&stream.trees().len(), ""),
         Err(error) => {
-            out.show(&error.kind, " ");
-            out.show(&error.at, "")
+            out.put_display(&error.kind, " ");
+            out.put_display(&error.at, "")
         }
     }
 }
@@ -45,7 +45,7 @@ fn put_read(text: &str, out: &mut Page) {
     match read_all(out.alloc, text, 0) {
         Ok(literals) => put_first(literals.as_slice(), out),
         Err(error) => {
-            out.show(&error, "");
+            out.put_display(&error, "");
             put_places(" ", error.span, out);
             drop(error)
         }
@@ -54,7 +54,7 @@ fn put_read(text: &str, out: &mut Page) {
 
 /// Prints the number of literals, and the first of them with their ranges.
 fn put_first(literals: &[Lit], out: &mut Page) {
-    out.show(&literals.len(), "");
+    out.put_display(&literals.len(), "");
     for literal in literals.get(..MOST).unwrap_or(literals) {
         out.put(", ");
         put_brief(literal, out);
@@ -67,7 +67,7 @@ pub(crate) fn cuts(text: &str, out: &mut Page) {
     let mut front = Page::new(out.alloc);
     for c in text.chars() {
         put_text(front.text.as_str(), out);
-        front.show(&c, "")
+        front.put_display(&c, "")
     }
     put_text(text, out)
 }
@@ -116,16 +116,16 @@ pub(crate) fn names(row: &str, out: &mut Page) {
 /// Appends an attribute with the value 1. Its name is `front` and the number.
 fn put_setting(front: &str, number: usize, text: &mut Page) {
     text.put(front);
-    text.show(&number, "=1,")
+    text.put_display(&number, "=1,")
 }
 
 /// Parses attributes, and prints a line with their number, or with the error.
 fn put_attributes(text: &str, out: &mut Page) {
     out.put("  ");
     match read(out.alloc, text, 0) {
-        Ok(attrs) => out.show(&attrs.entries().len(), "\n"),
+        Ok(attrs) => out.put_display(&attrs.entries().len(), "\n"),
         Err(error) => {
-            out.show(&Rejection(&error), "\n");
+            out.put_display(&Rejection(&error), "\n");
             drop(error)
         }
     }

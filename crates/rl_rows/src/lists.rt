@@ -14,7 +14,7 @@ pub(crate) fn put_lines(command: Command, text: &str, out: &mut Page) {
     let mut input = text.as_bytes();
     match run(out.alloc, command, &mut input, &mut lines) {
         Ok(()) => put_bytes(lines.as_slice(), out),
-        Err(error) => out.show(&error, "\n"),
+        Err(error) => out.put_display(&error, "\n"),
     }
     out.put(".\n")
 }
@@ -25,7 +25,7 @@ pub(crate) fn put_spans(text: &str, out: &mut Page) {
     match read_all(out.alloc, text, 0) {
         Ok(literals) => put_each_span(literals.as_slice(), out),
         Err(error) => {
-            out.show(&Rejection(&error), "\n.\n");
+            out.put_display(&Rejection(&error), "\n.\n");
             drop(error)
         }
     }
@@ -42,16 +42,16 @@ fn put_each_span(literals: &[Lit], out: &mut Page) {
 /// Prints a literal's kind, its range, and its text.
 fn put_span(literal: &Lit, out: &mut Page) {
     let span = literal.span();
-    out.say(label_of(literal.kind()), " ");
-    out.show(&span.lo, "..");
-    out.show(&span.hi, " ");
+    out.put_with_ending(label_of(literal.kind()), " ");
+    out.put_display(&span.lo, "..");
+    out.put_display(&span.hi, " ");
     put_token(Literal::string(out.alloc, literal.text()), out)
 }
 
 /// Prints the text of a token, and a line end.
 pub(crate) fn put_token(made: Result<Literal, Error>, out: &mut Page) {
     match made {
-        Ok(token) => out.say(token.text(), "\n"),
+        Ok(token) => out.put_with_ending(token.text(), "\n"),
         Err(_) => out.is_short = true,
     }
 }

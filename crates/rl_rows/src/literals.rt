@@ -3,7 +3,7 @@
 use crate::Page;
 use crate::borrowed::put_borrowed;
 use crate::noted::{HERE, literal_of, noted, parts_of};
-use rl_commands::line_of;
+use rl_commands::output_line;
 use rust_literals::Lit;
 
 /// The maximum length of an output line that is printed by `brief`. A longer line is printed as its length.
@@ -28,21 +28,21 @@ pub(crate) fn call(literal: &Lit, word: &str, out: &mut Page) {
 
 /// Prints the output line of a literal.
 fn put_line(literal: &Lit, out: &mut Page) {
-    if let Some(line) = noted(line_of(out.alloc, literal), out) {
+    if let Some(line) = noted(output_line(out.alloc, literal), out) {
         out.put(line.as_str())
     }
 }
 
 /// Prints the output line of a literal without its line end. For a long line it prints the kind and the number of bytes.
 pub(crate) fn put_brief(literal: &Lit, out: &mut Page) {
-    if let Some(line) = noted(line_of(out.alloc, literal), out) {
+    if let Some(line) = noted(output_line(out.alloc, literal), out) {
         let (line, _) = parts_of(line.as_str(), '\n');
         if line.len() <= LONGEST {
             out.put(line)
         } else {
             let (kind, _) = parts_of(line, ' ');
-            out.say(kind, " in a line of ");
-            out.show(&line.len(), "")
+            out.put_with_ending(kind, " in a line of ");
+            out.put_display(&line.len(), "")
         }
     }
 }

@@ -32,20 +32,20 @@ impl Page {
     }
 
     /// Appends two texts, one after the other.
-    pub fn say(&mut self, text: &str, ending: &str) {
+    pub fn put_with_ending(&mut self, text: &str, ending: &str) {
         self.put(text);
         self.put(ending);
     }
 
     /// Appends the `Debug` output of a value, and a text.
-    pub fn debug<T: Debug>(&mut self, value: &T, ending: &str) {
+    pub fn put_debug<T: Debug>(&mut self, value: &T, ending: &str) {
         if write!(self.text, "{value:?}{ending}").is_err() {
             self.is_short = true;
         }
     }
 
     /// Appends the `Display` output of a value, and a text.
-    pub fn show<T: Display>(&mut self, value: &T, ending: &str) {
+    pub fn put_display<T: Display>(&mut self, value: &T, ending: &str) {
         if write!(self.text, "{value}{ending}").is_err() {
             self.is_short = true;
         }

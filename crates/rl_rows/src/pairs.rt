@@ -15,7 +15,7 @@ pub(crate) fn pairs(row: &str, out: &mut Page) {
     for first in fronts.split('\u{1f}') {
         agreed = agreeing(first, gap, backs, agreed, out);
     }
-    out.show(&agreed, " agree\n")
+    out.put_display(&agreed, " agree\n")
 }
 
 /// Compares `first` with each second text, as `agrees`, and prints the pairs that differ. Returns `number` plus the number of
@@ -26,8 +26,8 @@ fn agreeing(first: &str, gap: &str, backs: &str, number: usize, out: &mut Page) 
         if agrees(first, gap, second, out) {
             agreed = agreed.wrapping_add(1);
         } else {
-            out.say(first, " and ");
-            out.say(second, " don't\n")
+            out.put_with_ending(first, " and ");
+            out.put_with_ending(second, " don't\n")
         }
     }
     agreed
@@ -37,7 +37,7 @@ fn agreeing(first: &str, gap: &str, backs: &str, number: usize, out: &mut Page) 
 /// one.
 fn agrees(first: &str, gap: &str, second: &str, out: &Page) -> bool {
     let mut whole = Page::new(out.alloc);
-    whole.say(first, gap);
+    whole.put_with_ending(first, gap);
     whole.put(second);
     let mut alone = Page::new(out.alloc);
     put_read(first, &mut alone);
@@ -51,7 +51,7 @@ fn agrees(first: &str, gap: &str, second: &str, out: &Page) -> bool {
 fn put_read(text: &str, out: &mut Page) {
     if let Some(literals) = noted(read_all(out.alloc, text, 0), out) {
         for literal in literals.as_slice() {
-            out.debug(literal, "\n")
+            out.put_debug(literal, "\n")
         }
     }
 }

@@ -18,7 +18,7 @@ use crate::noted::parts_of;
 
 /// Prints the row of a test, and its result.
 pub(crate) fn told(row: &str, out: &mut Page) {
-    out.say(row, "\n");
+    out.put_with_ending(row, "\n");
     let mut text = Page::new(out.alloc);
     put_unpictured(row, &mut text);
     append(text.text.as_str(), out)
@@ -48,6 +48,6 @@ fn put_unpictured(text: &str, out: &mut Page) {
             '␀' => '\0',
             c => c,
         };
-        out.show(&c, "")
+        out.put_display(&c, "")
     }
 }

@@ -3,7 +3,7 @@
 
 use crate::noted::parts_of;
 use crate::{Page, answer, plain, streams};
-use rl_program::decoded;
+use rl_program::decode_hex;
 use std::alloc::{AllocError, Global};
 
 /// Returns the result of the test in a line of input. The line has all bytes up to an LF, also a CR.
@@ -25,7 +25,7 @@ fn append_row(row: &str, out: &mut Page) {
     if name == "plain" {
         return plain::told(rest, out);
     }
-    match decoded(out.alloc, rest.as_bytes()) {
+    match decode_hex(out.alloc, rest.as_bytes()) {
         Ok(Some(bytes)) => append_bytes(name, bytes.as_slice(), out),
         Ok(None) => out.put("error: input is not hexadecimal\n"),
         Err(_) => out.is_short = true,

@@ -26,8 +26,8 @@ fn put_end(answer: Result<bool, ScanError>, out: &mut Page) {
         Ok(_) => {}
         Err(ScanError::Source(place, kind)) => {
             out.put("error at ");
-            out.show(&place, ": ");
-            out.show(&kind, "\n")
+            out.put_display(&place, ": ");
+            out.put_display(&kind, "\n")
         }
         Err(ScanError::Program(_)) => out.is_short = true,
     }

@@ -85,8 +85,8 @@ fn put_ended<E: RunError + Drop>(answer: Result<(), E>, out: &mut Page) {
     match answer {
         Ok(()) => out.put("0\n"),
         Err(error) => {
-            out.show(&error.status(), " ");
-            out.show(&error, "\n")
+            out.put_display(&error.status(), " ");
+            out.put_display(&error, "\n")
         }
     }
 }

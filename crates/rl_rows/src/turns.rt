@@ -15,18 +15,18 @@ pub(crate) fn turns(text: &str, out: &mut Page) {
                 put_turn(&mut input, out)
             }
         }
-        out.show(&input.is_empty(), "\n")
+        out.put_display(&input.is_empty(), "\n")
     }
 }
 
 /// Prints the next literal, and then the result of `punct`: the punctuation character, or `none` without one.
 fn put_turn(input: &mut ParseBuffer<'_>, out: &mut Page) {
     if let Some(literal) = noted(input.parse::<Lit>(out.alloc), out) {
-        out.show(&literal, " ");
+        out.put_display(&literal, " ");
         drop(literal)
     }
     match input.punct() {
-        Some(mark) => out.show(&mark.as_char(), " "),
+        Some(mark) => out.put_display(&mark.as_char(), " "),
         None => out.put("none "),
     }
 }

@@ -5,7 +5,7 @@ use Rattle.std.specs.List.{flat_map, list_any}
 use Rattle.std.specs.Str.{bytes_eq}
 use Rattle.rl_files.specs.Visible.{visible}
 use Rattle.rl_output.specs.Contexts.{has_end}
-use Rattle.rl_output.specs.Paths.{without_dot}
+use Rattle.rl_output.specs.Paths.{strip_dot_slash}
 
 -- The lines with the character `c` added at the start of the first line.
 abbrev pub with_first : ℕ → List (List ℕ) → List (List ℕ)
@@ -75,7 +75,7 @@ diff_path path = visible path ++ cond (has_space path) (codes "\t\n") (codes "\n
 
 -- The head of a diff: the path without `./` at its start, as that of the old text, and as that of the new text.
 abbrev pub diff_head : List ℕ → List ℕ
-diff_head path = codes "--- " ++ (diff_path (without_dot path) ++ (codes "+++ " ++ diff_path (without_dot path)))
+diff_head path = codes "--- " ++ (diff_path (strip_dot_slash path) ++ (codes "+++ " ++ diff_path (strip_dot_slash path)))
 
 -- The unified diff of two texts of a file, without lines of context. Equal texts have an empty diff. The texts are compared line by
 -- line. Each sequence of lines that differ is a hunk, with the lines at the end that only one of the texts has.

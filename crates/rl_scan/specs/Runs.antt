@@ -111,8 +111,8 @@ run_status shown tally = cond (has_errors tally) 2 (cond (is_alarm shown && has_
 
 -- The exit status of a run that searches for a text. It is 2 if a file or a path has an error. Else it is 0 if the text was found,
 -- and 1 if not.
-abbrev pub find_status : Tally → ℕ
-find_status tally = cond (has_errors tally) 2 (cond (has_findings tally) 0 1)
+abbrev pub search_status : Tally → ℕ
+search_status tally = cond (has_errors tally) 2 (cond (has_findings tally) 0 1)
 
 -- The exit status of a run that rewrites literals. It is 2 if a file or a path has an error. Else it is 1 if `--check` or `--diff`
 -- found a literal to rewrite. Else it is 0.
@@ -124,7 +124,7 @@ restyle_status Diff tally = cond (has_errors tally) 2 (cond (has_findings tally)
 -- The exit status of a run that reads files.
 abbrev pub read_status : Option Restyling → Command → Tally → ℕ
 read_status (Some restyling) command tally = restyle_status restyling tally
-read_status None command tally = cond command.searches (find_status tally) (run_status command.shown tally)
+read_status None command tally = cond command.searches (search_status tally) (run_status command.shown tally)
 
 -- The exit status of a run that lists or reads files.
 abbrev pub asked_status : Command → Tally → ℕ

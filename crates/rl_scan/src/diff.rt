@@ -8,8 +8,8 @@ ghost use Rattle.rl_output.specs.Contexts.{has_end as with_end};
 ghost use Rattle.rl_scan.specs.Diffs.{IsFirstLine, diff, diff_head, first_of, full_hunk, has_space as with_space, hunk, hunks, is_same as are_same, lines_of, diff_path, range, signed_line};
 
 use rl_files::push_visible;
-use rl_output::{push_ascii, without_dot};
-use rl_syntax::lines::after_line_feed;
+use rl_output::{push_ascii, strip_dot_slash};
+use rl_syntax::lines::after_first_line_feed;
 use rl_syntax::text::{before, split_char};
 use std::alloc::{AllocError, Allocator};
 
@@ -28,7 +28,7 @@ fn split_line(text: &str) -> Option<(&str, &str)>
     if text.is_empty() {
         return None;
     }
-    match after_line_feed(text) {
+    match after_first_line_feed(text) {
         Some(rest) => Some((before(text, rest), rest)),
         None => Some((text, "")),
     }
@@ -81,7 +81,7 @@ fn count_lines(text: &str) -> usize
 fn has_end(text: &str) -> bool
     ensures { result ≡ with_end (chars text.now) }
 {
-    after_line_feed(text).is_some()
+    after_first_line_feed(text).is_some()
 }
 
 /// Whether two texts are equal.
@@ -244,7 +244,7 @@ fn push_head<A: Allocator>(out: &mut String<A>, path: &str) -> Result<(), AllocE
     ensures { OnOk result (chars (string_bytes out.new)
         ≡ chars (string_bytes out.old) ++ diff_head (chars path.now)) }
 {
-    let path = without_dot(path);
+    let path = strip_dot_slash(path);
     push_ascii(out, "--- ")?;
     push_path(out, path)?;
     push_ascii(out, "+++ ")?;

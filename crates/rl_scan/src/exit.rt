@@ -8,10 +8,10 @@ ghost use Rattle.rl_scan.specs.Runs.{asked_status};
 ghost use Rattle.rl_options.specs.Wishes.{reads_current_directory as is_read_here, style_of, wishes_in};
 
 use crate::runs::{RunStop, Tally, run};
-use rl_files::{PathError, Replace, Selection, Tree, Walk, WalkError, escaped_path};
+use rl_files::{PathError, Replace, Selection, Tree, Walk, WalkError, escaped_non_utf8_path};
 use rl_options::{
     Action, ArgumentError, Command, Console, HELP, LineError, ParsedArguments, Restyling,
-    RulesError, VERSION, lists_files, parse_arguments, push_all_listed, read_rules_file,
+    RulesError, VERSION, lists_files, parse_arguments, push_listed_paths, read_rules_file,
     visible_text,
 };
 use rl_program::{Ending, RunError, WriteError, write_bytes};
@@ -142,7 +142,7 @@ fn status_of(command: Command<'_>, tally: Tally) -> u8
     }
     match command.restyle {
         Some(restyling) => tally.restyle_status(restyling),
-        None if command.searches => tally.find_status(),
+        None if command.searches => tally.search_status(),
         None => tally.status(command.shown),
     }
 }
@@ -270,7 +270,7 @@ fn scan_listed<A: Allocator + Copy, T: Tree, W: Write, E: Write, F: Replace>(
       handed_new = F.handed files.new;
     }) result }
 {
-    match push_all_listed(alloc, tree, lists, paths) {
+    match push_listed_paths(alloc, tree, lists, paths) {
         Ok(()) => scan_paths(alloc, command, tree, paths, out, err, files),
         Err(unread) => list_error(alloc, unread.file, unread.why),
     }
@@ -482,7 +482,7 @@ fn answer<A: Allocator + Copy, T: Tree, W: Write, E: Write, F: Replace>(
 }
 
 /// Returns the result of a call whose arguments can't be read, since an allocation failed.
-pub fn out_of_memory<A: Allocator>() -> Ending<CallError<A>>
+pub fn out_of_memory_ending<A: Allocator>() -> Ending<CallError<A>>
     ensures { EndsWithoutMemory result }
 {
     let error = CallError::Walk(WalkError::OutOfMemory);
@@ -496,7 +496,7 @@ fn count_marked<A: Allocator>(texts: &[String<A>]) -> usize
     let mut count = 0;
     let mut rest = texts;
     while let [text, after @ ..] = rest {
-        if escaped_path(text.as_str()).is_some() {
+        if escaped_non_utf8_path(text.as_str()).is_some() {
             count += 1;
         }
         rest = after;
@@ -516,7 +516,7 @@ fn only_paths<A: Allocator>(words: &[String<A>], paths: &[String<A>]) -> bool
 /// argument that isn't UTF-8 is represented as `path_text` of `rl_files` represents it.
 ///
 /// Files are read from `tree` and replaced by `files`. `out` is standard output, and `err` standard error.
-pub fn call<A: Allocator + Copy, T: Tree, W: Write, E: Write, F: Replace>(
+pub fn run_with_arguments<A: Allocator + Copy, T: Tree, W: Write, E: Write, F: Replace>(
     alloc: A,
     args: &[String<A>],
     console: Console,

@@ -3,7 +3,7 @@
 ghost use Rattle.rl_scan.specs.Patches.{DiffsMake, LinesAreText};
 
 /// Proves that the lines of a text, one after another, are the text.
-pub fn lines_are_the_text()
+pub fn joined_lines_are_the_text()
     ensures { LinesAreText }
 {}
 

@@ -18,7 +18,7 @@ mod visit_report;
 pub use crate::change::push_change;
 pub use crate::changes::push_changes;
 pub use crate::diff::push_diff;
-pub use crate::exit::{CallError, call, out_of_memory};
+pub use crate::exit::{CallError, out_of_memory_ending, run_with_arguments};
 use crate::host::host_arguments;
 pub use crate::outcome::{Outcome, rewrite_outcome, source_check_options};
 pub use crate::report::Report;
@@ -62,9 +62,9 @@ fn console(rt: &HostRuntime) -> Console {
 
 fn main(rt: HostRuntime) -> ExitCode {
     let Ok(args) = host_arguments(&rt) else {
-        return finish(&rt, out_of_memory::<Global>());
+        return finish(&rt, out_of_memory_ending::<Global>());
     };
-    let ending = call(
+    let ending = run_with_arguments(
         rt.alloc(),
         args.as_slice(),
         console(&rt),

@@ -4,7 +4,7 @@ ghost use Rattle.std.specs.Prelude.{◌≡◌, IfOk, OnErr, IfSome};
 ghost use Rattle.rl_files.specs.Walks.{visited};
 ghost use Rattle.rl_scan.specs.Reports.{in_report};
 ghost use Rattle.rl_scan.specs.Visits.{is_counted as counted, nothing, one_where_true as one_where, totals_of};
-ghost use Rattle.rl_scan.specs.Runs.{both_tallies as both, has_errors, has_findings, shown_errors, WritesReport, WritesSome, WritesReports, WritesFirst, WritesWalk, WritesFront, find_status, restyle_status, run_status};
+ghost use Rattle.rl_scan.specs.Runs.{both_tallies as both, has_errors, has_findings, shown_errors, WritesReport, WritesSome, WritesReports, WritesFirst, WritesWalk, WritesFront, search_status, restyle_status, run_status};
 ghost use Rattle.rl_scan.specs.Stats.{tally_of};
 
 use crate::report::{Report, is_alarm};
@@ -114,8 +114,8 @@ impl Tally {
     /// Returns the exit status of a run that searches for a text.
     ///
     /// It is 2 if a file or a path has an error. Else it is 0 if the text was found, and 1 if not.
-    pub fn find_status(self) -> u8
-        ensures { result ≡ find_status self }
+    pub fn search_status(self) -> u8
+        ensures { result ≡ search_status self }
     {
         match (self.has_errors(), self.has_findings()) {
             (true, _) => 2,

@@ -1,4 +1,4 @@
--- The text of a name with dots: its identifiers and dots are in the input text, each directly after the one before it.
+-- A name with dots is a slice of the input text: each of its identifiers and dots directly follows the one before it.
 use Rattle.rl_syntax.proofs.Common.{◌≡◌, ℕ, ◌+◌, ◌-◌, ◌≤◌, true, List, [], ◌∷◌, ◌++◌, length, length-append, append_assoc, take, slice_range, refl, sym, ◌∙◌, ap, subst, arith, encode_utf8_all, encode_ascii, encodes-append, encodes-chars, and_parts, Option, Some, None, IfSome, IfNone, take-append_seam, IsUtf8, IsCharBoundary}
 use Rattle.std.proofs.lemmas.Str.{scalars-chars, IsCharBoundary-at_seam}
 use lib.Utf8.{scalars}
@@ -13,7 +13,7 @@ use Rattle.rl_settings.specs.SettingSteps.{TakesName, TakesMark}
 use Rattle.rl_settings.specs.EntrySteps.{TakesDot, JoinsName, AreNameParts, dotted, BeginsDottedName, TakesDottedName}
 use Rattle.rl_settings.specs.declared.entries.DottedName.{DottedName}
 
--- ---- a token, and the text directly after it
+-- ---- the text of a token, and the text directly after it
 
 pub record TokenFront (old : CursorState) (l : Lexeme) : Type 0 where
   pub tail : List ℕ
@@ -98,7 +98,8 @@ dotted_more first [] part = refl
 dotted_more first (l ∷ ls) part = ap (λ x. first.text.now ++ (code "." ∷ x)) (dotted_more l ls part)
     ∙ sym (append_assoc first.text.now (code "." ∷ dotted l ls) (code "." ∷ part.text.now))
 
--- The beginning of a name, and the text directly after it.
+-- The cursor has read the beginning of a dotted name, from the state `start` on. The text `tail` directly follows this
+-- beginning.
 pub record NameUpTo (start : CursorState) (first : Lexeme) (t : CursorState) (hi : ℕ) : Type 0 where
   pub parts : List Lexeme
   pub begins : BeginsDottedName start first parts t hi
@@ -171,7 +172,7 @@ name_goes_on start t new first part hi name joins =
           (tail_step t.rest at.rest new.rest takes_dot.following takes_part.following);
     }
 
--- ---- the name is a slice of the input text
+-- ---- a dotted name is a slice of the input text
 
 pub name_len : (start t : CursorState) (first : Lexeme) (hi : ℕ) (name : NameUpTo start first t hi)
     → length (dotted first name.parts) ≡ hi - first.lo
@@ -198,11 +199,11 @@ name_text start t first hi name = ap (λ n. take n start.rest) (sym (name_len st
 pub slice_front : (r s : List ℕ) (n : ℕ) → r ≡ s → slice_range r 0 n ≡ take n s
 slice_front r s n e = ap (λ m. take m r) (let q : n - 0 ≡ n = omega arith in q) ∙ ap (λ x. take n x) e
 
--- The position of the next punctuation character is in the input text.
+-- If the next token is a punctuation character, the rest of the text isn't longer than the whole text.
 pub mark_fits : (c : ℕ) (old new : CursorState) → TakesMark c old new → length old.rest ≤ length old.text
 mark_fits c old new (l, takes, is) = omega (arith, takes.place)
 
--- ---- each step leaves the input text unchanged
+-- ---- each step of reading a name leaves the input text unchanged
 
 parts_same : (end hi : ℕ) (t new : CursorState) (parts : List Lexeme) → AreNameParts end t parts new hi → new.text ≡ t.text
 parts_same end hi t new [] are = ap (λ (s : CursorState). s.text) are.0
@@ -214,7 +215,7 @@ name_same old new name takes =
     let begins = takes.begins in
     parts_same takes.first.hi name.hi begins.following new takes.parts begins.are_parts ∙ begins.named.0.same
 
--- A property of an optional result: it holds for the result if there is one.
+-- If an optional result is `Some x`, and a property holds for its value, the property holds for `x`.
 pub holds_of_some : {A : Type 0} (P : A → Type 0) (o : Option A) (x : A) → o ≡ Some x → IfSome o P → P x
 holds_of_some {A = A} P o x e p = subst (λ (z : Option A). IfSome z P) e p
 

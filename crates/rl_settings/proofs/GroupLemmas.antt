@@ -20,9 +20,9 @@ use Rattle.rl_settings.specs.declared.groups.Opened.{Opened}
 use Rattle.rl_settings.specs.Groups.{open_view, ClosesOther, OpensPast, StopsForm, EndsOpen}
 use Rattle.rl_settings.specs.WholeCuts.{IsCutWhole}
 
--- ---- the array
+-- ---- the array of open groups
 
--- An index at the array's end means that no group is open.
+-- If an index is at or after the end of the array, no group is open from this index on.
 pub none_from : (xs : List Opened) (start : ℕ) → length xs ≤ start → map open_view (drop start xs) ≡ []
 none_from xs start h = ap (map open_view) (drop_of_length-le xs {i = start} h)
 
@@ -33,14 +33,14 @@ one_from xs start d h = ap (map open_view) (drop_more xs start d h)
 
 -- ---- the loop over a text's tokens
 
--- The text before the rest is lexed, and the groups in the list are open there.
+-- The text before `rest` is lexed, and after it the groups in the list `groups` are open.
 pub record HasPassed (text rest : List ℕ) (groups : List OpenGroup) : Type 0 where
   pub cuts : List LexedToken
   pub are_cuts : LexesUpTo 0 (chars text) cuts (chars rest)
   pub are_open : open_groups [] cuts ≡ Some groups
   pub following : IsTail text rest
 
--- The loop's invariant holds before the first iteration.
+-- The invariant of the loop over a text's tokens holds before the first iteration.
 pub passed_none : (text rest : List ℕ) (groups : List OpenGroup) → Skipped (chars text) (chars rest) → IsTail text rest
     → groups ≡ [] → HasPassed text rest groups
 passed_none text rest groups skips following none = record {
@@ -50,7 +50,7 @@ passed_none text rest groups skips following none = record {
   following = following;
 }
 
--- The loop's invariant holds after one more iteration.
+-- If the loop over a text's tokens reads one more token, its invariant still holds.
 pub passed_more : (text : List ℕ) (from to : CursorState) (old new : List OpenGroup) (l : Borrowed) → from.text ≡ text
     → HasPassed text from.rest old → TakesNext from l to → after_form old (form_view l.form) l.lo ≡ Some new
     → HasPassed text to.rest new
@@ -70,7 +70,7 @@ passed_more text from to old new l same has next passes =
       following = tail_step text from.rest to.rest has.following next.following;
     }
 
--- ---- the end of the loop
+-- ---- the end of the loop over a text's tokens
 
 error_found : (text rest : List ℕ) (groups : List OpenGroup) (kind : LexKind) (at place : ℕ) → IsUtf8 text
     → HasPassed text rest groups → place + length rest ≡ length text → ErrorAt kind groups (chars rest) → at
@@ -87,7 +87,7 @@ error_found text rest groups kind at place is has here error at_is = record {
   at_is = at_is;
 }
 
--- At the end of the loop the whole text is lexed.
+-- If the loop over a text's tokens has passed the whole text and no group is open, the whole text is lexed.
 pub all_passed : (text rest : List ℕ) (groups : List OpenGroup) → HasPassed text rest groups → rest ≡ [] → groups ≡ []
     → IsCutWhole (chars text)
 all_passed text rest groups has ends none = record {
@@ -144,7 +144,7 @@ rejected_token text from to groups l kind is same has next h =
     (omega (arith, next.place, ap length same)) next.begins next.is_lexeme
     (subst (λ (f : LexemeForm). StopsForm groups f kind) (sym next.is_cut.form_is) h)
 
--- If the rest of the text begins with no token, the cursor doesn't advance and returns the error.
+-- If the rest of a text begins with no token, the error that the cursor returns is the first error of the whole text.
 pub error_told : (text : List ℕ) (old new : CursorState) (groups : List OpenGroup) (e : LexError) → old.text ≡ text
     → new ≡ old → HasPassed text old.rest groups → IsFirstError new e.kind e.at → HasFirstError (chars text) e.kind e.at
 error_told text old new groups e same stays has first =

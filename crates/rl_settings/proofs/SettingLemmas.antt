@@ -1,4 +1,4 @@
--- The tokens at a position where a part of a setting was expected, and the end of a token tree.
+-- The token or the end where a part of a setting was expected, and the end of a token tree.
 use Rattle.rl_syntax.proofs.Common.{◌≡◌, ◌≢◌, ℕ, ◌+◌, ◌-◌, ◌≤◌, inl, inr, Bool, true, false, List, [], ◌∷◌, length, refl, ◌∙◌, ◌==◌, ap, subst, arith, chars, if◌then◌else◌}
 use Rattle.rl_lexer.specs.declared.cursor.Lexeme.{Lexeme}
 use Rattle.rl_lexer.specs.declared.lex_error.LexKind.{LexKind}
@@ -10,18 +10,18 @@ use Rattle.rl_lexer.specs.Lexemes.{LexemeForm, LiteralForm, IdentifierForm, Deli
 use Rattle.rl_lexer.specs.Cuts.{BeginsNoLexeme, OpenGroup, ErrorAt, is_opener}
 use Rattle.rl_settings.specs.SettingSteps.{depth_after, EndsInside}
 
--- If a form in the code isn't that of an identifier, neither is the form in the definitions.
+-- If the code's form of a token isn't that of an identifier, the token's form in the definitions isn't that of an identifier.
 pub other_name : (f : FoundForm) → (f ≡ found.Identifier → ⊥) → form_view f ≡ IdentifierForm → ⊥
 other_name found.Literal h e = absurd (cc)
 other_name found.Identifier h e = h refl
 other_name (found.Delimiter c) h e = absurd (cc)
 other_name (found.Mark c) h e = absurd (cc)
 
--- An error of a text isn't an allocation failure.
+-- An error that a text causes isn't an allocation failure.
 pub no_memory : (kind : LexKind) (r : List ℕ) → ((groups : List OpenGroup) → ErrorAt kind groups r) → kind ≡ Memory → ⊥
 no_memory kind r h e = subst (λ (k : LexKind). ErrorAt k [] r) e (h [])
 
--- If the test of a rest for the length 0 is `false`, the rest isn't empty.
+-- If the code's test for an empty rest returns `false`, the rest isn't empty.
 pub some_rest : (rest now : List ℕ) (empty : Bool) → now ≡ rest → empty ≡ (length now == 0) → empty ≡ false → rest ≡ []
     → ⊥
 some_rest rest now empty same is none e =
@@ -41,24 +41,25 @@ one_deeper (MarkForm c) depth = omega arith
 
 -- ---- the loop over the tokens of a token tree
 
--- The loop's invariant: if the rest of the token tree after `t` ends at an offset, the whole token tree after `first` ends there.
+-- The loop's invariant: if the rest of the token tree after `t` ends at an offset, the whole token tree after `first` ends at
+-- this offset.
 abbrev pub Leads : ℕ → ℕ → CursorState → ℕ → ℕ → CursorState → Type 0
 Leads depth end t first_depth first_end first =
     (hi : ℕ) → EndsInside depth end t hi → EndsInside first_depth first_end first hi
 
--- The loop's invariant holds after one more token.
+-- If the loop over the tokens of a token tree reads one more token, its invariant still holds.
 pub leads_more : (depth end first_depth first_end : ℕ) (t new first : CursorState) (l : Lexeme) → depth ≢ 0
     → TakesNext t l new → Leads depth end t first_depth first_end first
     → Leads (depth_after (form_view l.form) depth) l.hi new first_depth first_end first
 leads_more depth end first_depth first_end t new first l some takes leads hi (inside, are) =
     leads hi (l ∷ inside, (some, (new, takes, are)))
 
--- If no group is open, the token tree ends at the end of the last token.
+-- If no group is open after a token, the token tree ends at the end of this token.
 pub ends_closed : (depth end first_depth first_end : ℕ) (t first : CursorState) → depth ≡ 0
     → Leads depth end t first_depth first_end first → EndsInside first_depth first_end first end
 ends_closed depth end first_depth first_end t first none leads = leads end ([], (inl none, refl))
 
--- If no token begins the rest, the token tree ends at the end of the last token.
+-- If no token begins the rest of a text, the token tree ends at the end of the last token.
 pub ends_stuck : (depth end first_depth first_end : ℕ) (t first : CursorState) → BeginsNoLexeme (chars t.rest)
     → Leads depth end t first_depth first_end first → EndsInside first_depth first_end first end
 ends_stuck depth end first_depth first_end t first none leads = leads end ([], (inr none, refl))

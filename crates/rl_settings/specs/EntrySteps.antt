@@ -19,11 +19,11 @@ use Rattle.rl_settings.specs.SettingSteps.{TakesName, TakesMark, Misses, HasNo, 
 
 -- ---- names of entries
 
--- The form of the punctuation character dot.
+-- The form of a token is that of a dot.
 abbrev pub IsDotForm : LexemeForm → Type 0
 IsDotForm form = form ≡ MarkForm (code ".")
 
--- The form of the punctuation character comma.
+-- The form of a token is that of a comma.
 abbrev pub IsCommaForm : LexemeForm → Type 0
 IsCommaForm form = form ≡ MarkForm (code ",")
 
@@ -43,7 +43,8 @@ pub record JoinsName (end : ℕ) (old : CursorState) (part : Lexeme) (new : Curs
   pub touches : dot.lo ≡ end
   pub touched : part.lo ≡ dot.hi
 
--- The identifiers in the list continue a name that ends at the byte offset `end`. The longer name ends at the byte offset `hi`.
+-- The identifiers in the list, each after a dot, continue a name that ends at the byte offset `end`. The longer name ends at
+-- the byte offset `hi`.
 abbrev pub AreNameParts : ℕ → CursorState → List Lexeme → CursorState → ℕ → Type 0
 AreNameParts end t [] new hi = (new ≡ t) × (hi ≡ end)
 AreNameParts end t (l ∷ ls) new hi =
@@ -82,16 +83,18 @@ bytes_between lo t = drop lo (take (length t.text - length t.rest) t.text)
 abbrev pub has_line_end : ℕ → CursorState → Bool
 has_line_end lo t = list_any (λ c. c == code "\n") (bytes_between lo t)
 
--- No comma is needed after a value that ends at the byte offset `hi`, since the text or the value's line ends after it.
+-- No comma is needed after a value that ends at the byte offset `hi`, since the text or the line of the value ends after the
+-- value.
 abbrev pub MayLackComma : ℕ → CursorState → Type 0
 MayLackComma hi t = (t.rest ≡ []) ⊎ IsTrue (has_line_end hi t)
 
--- The separator after a value that ends at the byte offset `hi`: a comma, or no comma if the text or the line ends there.
+-- The separator after a value that ends at the byte offset `hi`: a comma, or no comma if the text or the line ends after the
+-- value.
 abbrev pub TakesSeparator : ℕ → CursorState → CursorState → Type 0
 TakesSeparator hi old new =
     TakesMark (code ",") old new ⊎ (MayLackComma hi old × HasNo IsCommaForm old × (new ≡ old))
 
--- The part of an entry after its name: `=`, the literal, and a comma unless the line or the text ends.
+-- The part of an entry after its name: `=`, the literal, and a comma. The comma is optional if the line or the text ends.
 pub record SetsEntry (old : CursorState) (value : NextLiteral) (new : CursorState) : Type 0 where
   pub at_literal : CursorState
   pub following : CursorState
@@ -99,7 +102,7 @@ pub record SetsEntry (old : CursorState) (value : NextLiteral) (new : CursorStat
   pub literal : TakesNextLiteral at_literal value following
   pub separator : TakesSeparator value.token.hi following new
 
--- The next tokens are an entry: a name, `=` and a literal, with the separator after it.
+-- The next tokens are an entry: a name, `=`, a literal, and the separator after the literal.
 pub record TakesEntry (old : CursorState) (entry : NextEntry) (new : CursorState) : Type 0 where
   pub following : CursorState
   pub named : TakesDottedName old entry.name following
@@ -107,14 +110,14 @@ pub record TakesEntry (old : CursorState) (entry : NextEntry) (new : CursorState
 
 -- ---- errors where a part of an entry is missing
 
--- The next token is a dot, and white space or a comment is between it and the name that ends at `end`.
+-- The next token is a dot. White space or a comment is between the dot and the name that ends at `end`.
 pub record LooseBefore (end : ℕ) (t : CursorState) : Type 0 where
   pub dot : Lexeme
   pub at_part : CursorState
   pub takes_dot : TakesDot t dot at_part
   pub loose : dot.lo ≢ end
 
--- The next token is a dot, and white space or a comment is between it and the identifier after it.
+-- The next token is a dot. White space or a comment is between the dot and the identifier after it.
 pub record LooseAfter (t : CursorState) : Type 0 where
   pub dot : Lexeme
   pub at_part : CursorState
@@ -124,12 +127,12 @@ pub record LooseAfter (t : CursorState) : Type 0 where
   pub named : TakesName at_part part following
   pub loose : part.lo ≢ dot.hi
 
--- White space or a comment is next to a dot of a name. The error is at the dot: a name is missing.
+-- White space or a comment is next to a dot of a name. The error is at the dot, and says that a name is missing.
 pub record LacksJoin (end : ℕ) (t : CursorState) (e : SyntaxError) : Type 0 where
   pub loose : LooseBefore end t ⊎ LooseAfter t
   pub missed : Misses t Name e
 
--- The next token is a dot directly after the name, which ends at `end`, and no identifier follows the dot.
+-- The next token is a dot, directly after the name that ends at `end`. No identifier follows the dot.
 pub record LacksPart (end : ℕ) (t : CursorState) (e : SyntaxError) : Type 0 where
   pub dot : Lexeme
   pub at_part : CursorState
@@ -137,7 +140,7 @@ pub record LacksPart (end : ℕ) (t : CursorState) (e : SyntaxError) : Type 0 wh
   pub touches : dot.lo ≡ end
   pub missed : LacksName at_part e
 
--- The next tokens begin a name, but after its last dot the name doesn't continue correctly.
+-- The next tokens begin a name, but the name doesn't continue correctly after one of its identifiers.
 pub record LacksNextPart (t : CursorState) (e : SyntaxError) : Type 0 where
   pub first : Lexeme
   pub parts : List Lexeme
@@ -150,7 +153,7 @@ pub record LacksNextPart (t : CursorState) (e : SyntaxError) : Type 0 where
 abbrev pub LacksDottedName : CursorState → SyntaxError → Type 0
 LacksDottedName t e = LacksName t e ⊎ LacksNextPart t e
 
--- After a value that ends at the byte offset `hi`, another token than a comma follows in the same line.
+-- After a value that ends at the byte offset `hi`, the value's line continues with a token that isn't a comma.
 pub record LacksSeparator (hi : ℕ) (t : CursorState) (e : SyntaxError) : Type 0 where
   pub some : t.rest ≢ []
   pub same_line : IsFalse (has_line_end hi t)
@@ -165,12 +168,12 @@ pub record LacksSeparatorAfter (t : CursorState) (e : SyntaxError) : Type 0 wher
   pub literal : TakesNextLiteral at_literal value following
   pub missed : LacksSeparator value.token.hi following e
 
--- After a name, the first missing part of these: `=`, a literal, and a comma or a line end.
+-- A part is missing after a name. The error is at the first missing part: `=`, a literal, or a comma or line end.
 abbrev pub LacksEntryValue : CursorState → SyntaxError → Type 0
 LacksEntryValue t e =
     LacksMark (code "=") Equals t e ⊎ LacksLiteralAfter t e ⊎ LacksSeparatorAfter t e
 
--- The next tokens are a name, but `=`, the literal or the separator after it is missing.
+-- The next tokens are a name. Then `=`, the literal or the separator is missing.
 pub record RejectsAfterDottedName (t : CursorState) (r : EntryRejection) : Type 0 where
   pub name : DottedName
   pub following : CursorState

@@ -33,7 +33,7 @@ TakesMark c old new = (l : Lexeme) × TakesNext old l new × (form_view l.form �
 abbrev pub TakesComma : CursorState → CursorState → Type 0
 TakesComma old new = TakesMark (code ",") old new ⊎ ((old.rest ≡ []) × (new ≡ old))
 
--- The part of a setting after its name: `=`, the literal, and a comma unless the text ends.
+-- The part of a setting after its name: `=`, the literal, and a comma. The comma is optional if the text ends.
 pub record SetsValue (old : CursorState) (value : NextLiteral) (new : CursorState) : Type 0 where
   pub at_literal : CursorState
   pub following : CursorState
@@ -41,7 +41,7 @@ pub record SetsValue (old : CursorState) (value : NextLiteral) (new : CursorStat
   pub literal : TakesNextLiteral at_literal value following
   pub comma : TakesComma following new
 
--- The next tokens are a setting: a name, `=` and a literal, with the comma after it.
+-- The next tokens are a setting: a name, `=`, a literal, and the comma after the literal.
 pub record TakesSetting (old : CursorState) (setting : NextSetting) (new : CursorState)
     : Type 0 where
   pub following : CursorState
@@ -50,37 +50,38 @@ pub record TakesSetting (old : CursorState) (setting : NextSetting) (new : Curso
 
 -- ---- errors where a part of a setting was expected
 
--- The number of open groups after a token of this form, where `depth` groups were open before it.
+-- The number of open groups after a token of the given form. `depth` groups were open before the token.
 abbrev pub depth_after : LexemeForm → ℕ → ℕ
 depth_after (DelimiterForm c) depth = if is_opener c then depth + 1 else depth - 1
 depth_after _ depth = depth
 
--- The tokens of the list are the next ones, up to the one that closes the last open group, or up to an error of the lexer. The
--- last token ends at the byte offset `hi`, and the token before the list at `end`.
+-- The list has the next tokens, up to the one that closes the last open group, or up to an error of the lexer. Its last token
+-- ends at the byte offset `hi`, and the token before the list ends at `end`.
 abbrev pub AreRestOfTree : ℕ → ℕ → CursorState → List Lexeme → ℕ → Type 0
 AreRestOfTree depth end t [] hi = ((depth ≡ 0) ⊎ BeginsNoLexeme (chars t.rest)) × (hi ≡ end)
 AreRestOfTree depth end t (l ∷ ls) hi =
     (depth ≢ 0) × ((new : CursorState) × TakesNext t l new
     × AreRestOfTree (depth_after (form_view l.form) depth) l.hi new ls hi)
 
--- A token tree, of which `depth` groups are open, ends at the byte offset `hi`.
+-- A token tree of which `depth` groups are open ends at the byte offset `hi`.
 abbrev pub EndsInside : ℕ → ℕ → CursorState → ℕ → Type 0
 EndsInside depth end t hi = (inside : List Lexeme) × AreRestOfTree depth end t inside hi
 
--- The error for a missing part at the text's end.
+-- If a part of a setting is missing at the end of the text, the error's range is empty, and its kind names the part.
 pub record MissesAtEnd (t : CursorState) (part : Part) (e : SyntaxError) : Type 0 where
   pub ends : t.rest ≡ []
   pub kind : e.kind ≡ EndOfInput part
   pub hi : e.hi ≡ e.lo
 
--- The error for a missing part where the lexer fails. It is the lexer's error.
+-- If the lexer fails at the position of a missing part, the error is that of the lexer.
 pub record MissesToken (t : CursorState) (e : SyntaxError) : Type 0 where
   pub why : LexKind
   pub stands : (groups : List OpenGroup) → ErrorAt why groups (chars t.rest)
   pub kind : e.kind ≡ of_lexer why
   pub hi : e.hi ≡ e.lo
 
--- The error for a missing part where another token tree is: a token, or a group with both its delimiters.
+-- If another token tree is at the position of a missing part, the error's range is that of the token tree: one token, or a
+-- group with both its delimiters.
 pub record MissesAtTree (t : CursorState) (part : Part) (e : SyntaxError) : Type 0 where
   pub first : Lexeme
   pub following : CursorState
@@ -88,7 +89,7 @@ pub record MissesAtTree (t : CursorState) (part : Part) (e : SyntaxError) : Type
   pub kind : e.kind ≡ Expected part
   pub ends : EndsInside (depth_after (form_view first.form) 0) first.hi following e.hi
 
--- The error for a missing part of a setting. It begins where the unread rest of the text begins.
+-- The error for a missing part of a setting. It begins where the unread text begins.
 pub record Misses (t : CursorState) (part : Part) (e : SyntaxError) : Type 0 where
   pub place : e.lo + length t.rest ≡ length t.text
   pub why : MissesAtEnd t part e ⊎ MissesToken t e ⊎ MissesAtTree t part e
@@ -104,7 +105,7 @@ pub record LacksName (t : CursorState) (e : SyntaxError) : Type 0 where
   pub none : HasNo (λ form. form ≡ IdentifierForm) t
   pub missed : Misses t Name e
 
--- The next token isn't the punctuation character `c`, and the error is that it is missing.
+-- The next token isn't the punctuation character `c`, and the error is that this character is missing.
 pub record LacksMark (c : ℕ) (part : Part) (t : CursorState) (e : SyntaxError) : Type 0 where
   pub none : HasNo (λ form. form ≡ MarkForm c) t
   pub missed : Misses t part e
@@ -119,7 +120,7 @@ pub record LacksComma (t : CursorState) (e : SyntaxError) : Type 0 where
   pub some : t.rest ≢ []
   pub none : LacksMark (code ",") Comma t e
 
--- After a name, `=` follows, but after the `=` a literal is missing.
+-- After a name, `=` follows, but a literal is missing after the `=`.
 pub record LacksLiteralAfter (t : CursorState) (e : SyntaxError) : Type 0 where
   pub at_literal : CursorState
   pub equals : TakesMark (code "=") t at_literal
@@ -134,12 +135,12 @@ pub record LacksCommaAfter (t : CursorState) (e : SyntaxError) : Type 0 where
   pub literal : TakesNextLiteral at_literal value following
   pub missed : LacksComma following e
 
--- After a name, the first missing part of these: `=`, a literal, and a comma or the text's end.
+-- A part is missing after a name. The error is at the first missing part: `=`, a literal, or a comma or the text's end.
 abbrev pub LacksValue : CursorState → SyntaxError → Type 0
 LacksValue t e =
     LacksMark (code "=") Equals t e ⊎ LacksLiteralAfter t e ⊎ LacksCommaAfter t e
 
--- The next token is a name, but `=`, the literal or the comma after it is missing.
+-- The next token is a name. Then `=`, the literal or the comma is missing.
 pub record RejectsAfterName (t : CursorState) (r : SettingRejection) : Type 0 where
   pub name : Lexeme
   pub following : CursorState

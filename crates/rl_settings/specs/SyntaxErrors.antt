@@ -55,8 +55,8 @@ of_lexer lex.UnclosedGroup = UnclosedGroup
 of_lexer lex.TooDeep = TooDeep
 of_lexer lex.Memory = StrayCharacter
 
--- The error of a list where a literal was expected. The argument is the list's text from there on, in bytes. If it begins with
--- a minus, a number was expected.
+-- The error of a list where a literal was expected. The argument is the text of the list from the error's position on, in
+-- bytes. If this text begins with a minus, a number was expected.
 abbrev pub literal_expected : List ℕ → SyntaxErrorKind
 literal_expected [] = NotALiteral
 literal_expected (c ∷ cs) = if c == code "-" then NoNumber else NotALiteral

@@ -1,4 +1,4 @@
--- A text without errors of the lexer, in which each group is closed.
+-- Texts that the lexer reads without an error, and in which each group is closed.
 use Rattle.std.specs.Prelude.{◌≡◌, ℕ, List, [], Some}
 use Rattle.rl_lexer.specs.Cuts.{LexedToken, LexesUpTo, open_groups}
 

@@ -224,7 +224,7 @@ fn take_entry<'t>(tokens: &mut Tokens<'t>, text: &str) -> Result<NextEntry<'t>, 
 ///
 /// If [`first_error`](crate::first_error) returns `None` for the text, each group is closed. A caller removes a byte order mark
 /// at the text's start with [`rl_lexer::without_byte_order_mark`].
-pub fn entry_step<'t>(tokens: &mut Tokens<'t>, text: &str) -> EntryStep<'t>
+pub fn next_config_entry<'t>(tokens: &mut Tokens<'t>, text: &str) -> EntryStep<'t>
     requires { text.now ≡ tokens.old.text }
     ensures { StepsEntries tokens.old result tokens.new }
 {

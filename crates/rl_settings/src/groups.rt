@@ -78,7 +78,7 @@ impl Groups {
         true
     }
 
-    /// Closes the innermost open group if `closer` is its closing delimiter, and returns whether it is.
+    /// Closes the innermost open group if `closer` is its closing delimiter. Returns whether the group was closed.
     fn close_group(&mut self, closer: char) -> bool
         ensures closes { result ≡ closes (open_in self.old) closer }
         ensures popped { MatchBool result (open_in self.new ≡ popped (open_in self.old)) (self.new ≡ self.old) }
@@ -94,7 +94,7 @@ impl Groups {
     }
 
     /// Updates the open groups for a token of the form `form` at the byte offset `at`. Returns the kind of error if the token
-    /// is a delimiter that isn't allowed there.
+    /// is a delimiter that the open groups don't allow.
     fn pass(&mut self, form: Form, at: usize) -> Option<LexKind>
         ensures passed { IfNone result
             (after_form (open_in self.old) (form_view form) at ≡ Some (open_in self.new)) }
@@ -129,9 +129,9 @@ impl Groups {
 
 /// Returns the first error of a text's tokens and groups, or `None` if the text has none.
 ///
-/// The errors are those of the lexer, a group with a wrong closing delimiter, and a group inside 128 others. If all of these
-/// are absent and groups are open at the text's end, the error is the innermost of these groups. `lex` of `rl_tokens` returns
-/// the same error. Nothing is allocated.
+/// The errors are those of the lexer, a group with a wrong closing delimiter, and a group inside 128 others. If the text has
+/// none of these errors, and groups are open at its end, the error is the innermost open group. `lex` of `rl_tokens` returns
+/// this error too. Nothing is allocated.
 pub fn first_error(text: &str) -> Option<LexError>
     ensures error { IfSome result (λ e. HasFirstError (chars text.now) e.kind e.at) }
     ensures whole { IfNone result (IsCutWhole (chars text.now)) }

@@ -14,7 +14,7 @@
 //!
 //! use rl_settings::first_error;
 //!
-//! pub fn is_lexed(text: &str) -> bool
+//! pub fn can_be_lexed(text: &str) -> bool
 //!     ensures whole { IsTrue result → IsCutWhole (chars text.now) }
 //!     ensures error { IsFalse result → (kind : LexKind) × (at : ℕ) × HasFirstError (chars text.now) kind at }
 //! {
@@ -23,7 +23,7 @@
 //!         Some(_) => false,
 //!     }
 //! }
-//! // is_lexed("(1]") == false
+//! // can_be_lexed("(1]") == false
 //! ```
 #![tactic(auto)]
 
@@ -32,7 +32,7 @@ mod groups;
 mod settings;
 mod syntax_error;
 
-pub use crate::entries::{DottedName, EntryRejection, EntryStep, NextEntry, entry_step};
+pub use crate::entries::{DottedName, EntryRejection, EntryStep, NextEntry, next_config_entry};
 pub use crate::groups::first_error;
-pub use crate::settings::{NextSetting, SettingRejection, SettingStep, settings_step};
+pub use crate::settings::{NextSetting, SettingRejection, SettingStep, next_setting};
 pub use crate::syntax_error::{Part, SyntaxError, SyntaxErrorKind, lexer_error, list_error};

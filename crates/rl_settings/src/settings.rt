@@ -254,7 +254,7 @@ fn take_setting<'t>(
 /// repeated names.
 ///
 /// If [`first_error`](crate::first_error) returns `None` for the text, each group is closed.
-pub fn settings_step<'t>(tokens: &mut Tokens<'t>, end: usize) -> SettingStep<'t>
+pub fn next_setting<'t>(tokens: &mut Tokens<'t>, end: usize) -> SettingStep<'t>
     requires { end ≡ length tokens.old.text }
     ensures { StepsSettings tokens.old result tokens.new }
 {

@@ -12,7 +12,7 @@ use Rattle.rl_output.specs.declared.choice.Shown.TheVariants.{All, Only, Bad, Hi
 use Rattle.rl_output.specs.declared.place.Place.{Place}
 use Rattle.rl_output.specs.declared.place.Place.TheVariants.{Bytes, Line, Whole}
 use Rattle.rl_files.specs.Globs.{borrowed_texts}
-use Rattle.rl_style.specs.Calls.{CallState, calls_after, is_in_call}
+use Rattle.rl_style.specs.Calls.{CallState, advance_calls, is_in_call}
 use Rattle.rl_sources.specs.declared.options.Options.{Options}
 use Rattle.rl_sources.specs.Called.{calls_past, calls_past_all, with_calls}
 use Rattle.rl_sources.specs.Options.{finds_strays, may_have_any_suffix, options_at}
@@ -34,9 +34,9 @@ with_append calls (u ∷ us) ws = ap (λ z. (calls, u) ∷ z) (with_append (call
 
 -- The position after a token in the definitions is that after the token of the code.
 pub past_token : (calls : CallState) (l : SourceToken) (w : CutSource) → IsBorrowedSource l w
-    → calls_past calls w ≡ calls_after calls (source_view l.form) l.text.now
-past_token calls l w is = ap (λ k. calls_after calls k (encode_utf8_all (source_text w.token))) is.kind_is
-    ∙ ap (λ b. calls_after calls (source_view l.form) b) is.bytes_are
+    → calls_past calls w ≡ advance_calls calls (source_view l.form) l.text.now
+past_token calls l w is = ap (λ k. advance_calls calls k (encode_utf8_all (source_text w.token))) is.kind_is
+    ∙ ap (λ b. advance_calls calls (source_view l.form) b) is.bytes_are
 
 -- ---- options that allow any suffix
 

@@ -7,7 +7,7 @@ use Rattle.rl_program.specs.Lines.{Appends}
 use Rattle.rl_sources.specs.declared.options.Options.{Options}
 use Rattle.rl_output.specs.declared.place.Place.{Place}
 use Rattle.rl_sources.specs.Hidden.{AreHiddenLines, IsHiddenLine, IsShownCharacter, hidden_end, hides}
-use Rattle.rl_output.specs.Selectors.{is_selector}
+use Rattle.rl_output.specs.Selectors.{is_variation_selector}
 use Rattle.rl_files.specs.Visible.{needs_escape}
 use Rattle.rl_sources.specs.Places.{IsContextIn, IsPlaceIn}
 use Rattle.rl_output.specs.Fronts.{line_front}
@@ -17,7 +17,7 @@ use Rattle.rl_output.proofs.Pieces.{three_pieces}
 plain_shown : (c : ℕ) → 32 ≤ c → c ≤ 126 → needs_escape c ≡ false
 plain_shown c low high = grind (arith, nat_tests)
 
-plain_character : (c : ℕ) → c ≤ 126 → is_selector c ≡ false
+plain_character : (c : ℕ) → c ≤ 126 → is_variation_selector c ≡ false
 plain_character c high = grind (arith, nat_tests)
 
 pub plain_hides : (previous c : ℕ) (after : List ℕ) → 32 ≤ c → c ≤ 126 → hides previous c after ≡ false

@@ -23,7 +23,7 @@ use Rattle.rl_sources.specs.declared.options.Options.{Options}
 use Rattle.rl_sources.specs.declared.step.Step.{Step}
 use Rattle.rl_sources.specs.declared.step.Step.TheVariants.{More, End, Error}
 use Rattle.rl_lexer.specs.declared.lex_error.LexKind.TheVariants.{StrayCharacter}
-use Rattle.rl_style.specs.Calls.{CallState, Outside, calls_after}
+use Rattle.rl_style.specs.Calls.{CallState, Outside, advance_calls}
 use Rattle.rl_sources.proofs.CallLemmas.{calls_append, past_token, with_append}
 use Rattle.rl_sources.specs.Called.{calls_past, calls_past_all, with_calls}
 use Rattle.rl_sources.specs.Options.{ends_at_strays, finds_strays, options_at}
@@ -71,7 +71,7 @@ joins_token options whole calls cuts l w shown last lines is known is_last =
 -- The position relative to macro calls after one more token.
 calls_token : (options : Options) (seen now : CallState) (cuts : List CutSource) (l : SourceToken) (w : CutSource)
     → IsBorrowedSource l w → (FollowsCalls options → calls_past_all Outside cuts ≡ seen)
-    → (FollowsCalls options → now ≡ calls_after seen (source_view l.form) l.text.now) → FollowsCalls options
+    → (FollowsCalls options → now ≡ advance_calls seen (source_view l.form) l.text.now) → FollowsCalls options
     → calls_past_all Outside (cuts ++ w ∷ []) ≡ now
 calls_token options seen now cuts l w is known passed follows = calls_append Outside cuts (w ∷ [])
     ∙ ap (λ z. calls_past z w) (known follows) ∙ past_token seen l w is ∙ sym (passed follows)
@@ -80,7 +80,7 @@ calls_token options seen now cuts l w is known passed follows = calls_append Out
 adds_one : (options : Options) (start : Spot) (old : CursorState) (seen : CallState) (new : CursorState)
     (now : CallState) (l : SourceToken) (piece longer : List ℕ) → Adds options (chars old.text) start (spot old seen) piece
     → TakesSource old l new → (IsTrue (ends_at_strays options) → source_view l.form ≢ StrayKind)
-    → (FollowsCalls options → now ≡ calls_after seen (source_view l.form) l.text.now)
+    → (FollowsCalls options → now ≡ advance_calls seen (source_view l.form) l.text.now)
     → Appends (IsShownAt options seen (chars old.text) (source_view l.form) (chars l.text.now) l.lo l.hi) piece longer
     → Adds options (chars old.text) start (spot new now) longer
 adds_one options start old seen new now l piece longer adds takes accepted passed (last, is_last, longer_is) =
@@ -114,7 +114,7 @@ adds_token : (options : Options) (text : List ℕ) (start : Spot) (old : CursorS
     (new : CursorState) (now : CallState) (places : List ℕ) (l : SourceToken) (piece longer : List ℕ) → old.text ≡ text
     → places ≡ old.text → Adds options (chars text) start (spot old seen) piece → TakesSource old l new
     → (IsTrue (ends_at_strays options) → source_view l.form ≢ StrayKind)
-    → (FollowsCalls options → now ≡ calls_after seen (source_view l.form) l.text.now)
+    → (FollowsCalls options → now ≡ advance_calls seen (source_view l.form) l.text.now)
     → Appends (IsShownAt options seen (chars places) (source_view l.form) (chars l.text.now) l.lo l.hi) piece longer
     → Adds options (chars text) start (spot new now) longer
 adds_token options text start old seen new now places l piece longer same seen_text adds takes accepted passed shown =
@@ -296,7 +296,7 @@ unshown_none options tokens calls cursor = record {
 pub unshown_more : (options : Options) (a : CursorState) (seen : CallState) (b : CursorState) (there : CallState)
     (d : CursorState) (now : CallState) (l : SourceToken) → IsUnshown options a seen b there → TakesSource b l d
     → (IsTrue (ends_at_strays options) → source_view l.form ≢ StrayKind)
-    → (FollowsCalls options → now ≡ calls_after there (source_view l.form) l.text.now)
+    → (FollowsCalls options → now ≡ advance_calls there (source_view l.form) l.text.now)
     → (MayShow options (source_view l.form) (chars l.text.now) → ⊥) → IsUnshown options a seen d now
 unshown_more options a seen b there d now l u takes accepted passed other = record {
   adds = adds_token options a.text (spot a seen) b there d now b.text l [] [] u.same refl u.adds takes accepted passed (
@@ -371,7 +371,7 @@ pub adds_shown : (options : Options) (text : List ℕ) (start : Spot) (old : Cur
     (new : CursorState) (there now : CallState) (places : List ℕ) (l : SourceToken) (piece longer : List ℕ)
     → old.text ≡ text → places ≡ old.text → Adds options (chars text) start (spot old seen) piece
     → (t : TakesShown options old seen l there new)
-    → (FollowsCalls options → now ≡ calls_after there (source_view l.form) l.text.now)
+    → (FollowsCalls options → now ≡ advance_calls there (source_view l.form) l.text.now)
     → Appends (IsShownAt options there (chars places) (source_view l.form) (chars l.text.now) l.lo l.hi) piece longer
     → Adds options (chars text) start (spot new now) longer
 adds_shown options text start old seen new there now places l piece longer same seen_text adds t passed shown =

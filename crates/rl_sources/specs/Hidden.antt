@@ -13,7 +13,7 @@ use Rattle.rl_output.specs.declared.place.Place.{Place}
 use Rattle.rl_output.specs.Fronts.{line_front}
 use Rattle.rl_output.specs.Github.{annotation_end}
 use Rattle.rl_output.specs.Members.{string_member}
-use Rattle.rl_output.specs.Selectors.{is_selector, takes}
+use Rattle.rl_output.specs.Selectors.{is_variation_selector, takes}
 use Rattle.rl_sources.specs.Places.{IsContextIn, IsPlaceIn}
 
 -- `c` is a control character of the layout: a tab, an LF, a form feed, or a CR before an LF. `after` is the text after `c`.
@@ -24,7 +24,7 @@ is_layout c after = (c == 9) || (c == 10) || (c == 12) || ((c == 13) && begins_c
 -- that doesn't take it. `previous` is the character before `c`, or NUL at the start. `after` is the text after `c`.
 abbrev pub hides : ℕ → ℕ → List ℕ → Bool
 hides previous c after =
-    cond (is_selector c) (not (takes previous c)) (needs_escape c && not (is_layout c after))
+    cond (is_variation_selector c) (not (takes previous c)) (needs_escape c && not (is_layout c after))
 
 -- A space and Unicode's name of a character that changes the direction of text. It is empty for other characters.
 abbrev pub direction_name : ℕ → List ℕ
@@ -61,7 +61,7 @@ abbrev pub hidden_id : ℕ → List ℕ
 hidden_id c =
     cond (is_direction c) (codes "bidirectional-character")
     (cond (nat_le 0x200C c && nat_le c 0x200D) (codes "joiner")
-    (cond (is_selector c) (codes "variation-selector")
+    (cond (is_variation_selector c) (codes "variation-selector")
     (cond (is_control c) (codes "control-character") (codes "invisible-character"))))
 
 -- The output for an invisible or bidirectional character after its position: a message, JSON members, or an annotation's text.

@@ -104,7 +104,10 @@ fn matched_range(text: &str, found: &Found, first: usize, last: usize) -> (usize
     ensures ends { IsByteEnd found.now.kind (chars text.now) last result.1 }
 {
     let lo = found.body.segments_in(found.kind, text).text_offset(first);
-    let hi = found.body.segments_in(found.kind, text).end_of(last);
+    let hi = found
+        .body
+        .segments_in(found.kind, text)
+        .text_end_offset(last);
     (lo, hi)
 }
 

@@ -15,8 +15,8 @@ use crate::place::{displayed_place, push_context_of};
 use rl_files::needs_escape;
 use rl_lexer::without_byte_order_mark;
 use rl_output::{
-    Form, Level, Places, is_selector, push_annotation_end, push_ascii, push_line_start,
-    push_member, takes_selector,
+    Form, Level, Places, is_variation_selector, push_annotation_end, push_ascii, push_line_start,
+    push_member, takes_variation_selector,
 };
 use rl_tokens::text::{begins_with_char, split_char};
 use std::alloc::{AllocError, Allocator};
@@ -39,8 +39,8 @@ fn hides(previous: char, c: char, after: &str) -> bool
     if c >= ' ' && c <= '~' {
         return false;
     }
-    if is_selector(c) {
-        return !takes_selector(previous, c);
+    if is_variation_selector(c) {
+        return !takes_variation_selector(previous, c);
     }
     needs_escape(c) && !is_layout(c, after)
 }
@@ -75,7 +75,7 @@ fn id_of_hidden(c: char) -> &'static str
         '\u{61c}' | '\u{200e}'..='\u{200f}' | '\u{202a}'..='\u{202e}' | '\u{2066}'..='\u{2069}' =>
             "bidirectional-character",
         '\u{200c}'..='\u{200d}' => "joiner",
-        _ if is_selector(c) => "variation-selector",
+        _ if is_variation_selector(c) => "variation-selector",
         _ if c.is_control() => "control-character",
         _ => "invisible-character",
     }
@@ -169,8 +169,8 @@ fn push_hidden_line<'t, A: Allocator>(
         (chars (string_bytes out.old)) (chars (string_bytes out.new))) }
     ensures same { places.new ≡ places.old }
 {
-    let lo = places.byte_of(rest);
-    let hi = places.byte_of(after);
+    let lo = places.offset_of(rest);
+    let hi = places.offset_of(after);
     let place = displayed_place(options, places, rest, lo, hi);
     push_line_start(out, Level::Error, options.form, options.path, &place)?;
     push_hidden_end(alloc, out, options.form, c)?;

@@ -25,5 +25,5 @@ pub use crate::scan_error::ScanError;
 pub use crate::scanner::scan;
 pub use rl_flaws::Edition;
 pub use rl_output::{
-    Context, Form, Matching, Paint, Place, Shown, Spelling, is_json, names, push_painted,
+    Context, Form, Matching, Paint, Place, Shown, Spelling, is_json, list_contains, push_painted,
 };

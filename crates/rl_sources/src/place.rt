@@ -33,7 +33,7 @@ pub fn displayed_place<'t>(
         return Place::Whole(places.extent(rest, lo, hi));
     }
     if options.by_line {
-        let Position { line, column, .. } = places.at(rest);
+        let Position { line, column, .. } = places.position_of(rest);
         return Place::Line(LineColumn { line, column });
     }
     Place::Bytes(lo, hi)

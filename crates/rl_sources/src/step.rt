@@ -14,7 +14,7 @@ ghost use Rattle.rl_output.specs.declared.form.Form.TheVariants.{Github};
 ghost use Rattle.rl_output.specs.declared.choice.Spelling.TheVariants.{Value};
 ghost use Rattle.rl_sources.specs.Steps.{BeginsRest, EndsUnshown, IsAcceptedToken, IsCursorOver, FollowsCalls, IsLiteralOf, IsShownAt, IsStepOf, IsStopAt, MayShow, StopsUnshown, TakesShown};
 ghost use Rattle.rl_sources.specs.Findings.{IsFoundIn};
-ghost use Rattle.rl_style.specs.Calls.{calls_after, calls_seen, is_in_call};
+ghost use Rattle.rl_style.specs.Calls.{advance_calls, calls_seen, is_in_call};
 ghost use Rattle.rl_sources.specs.Options.{options_at as options_in};
 
 use crate::check::{find_wrong, looks_for_flaws, reason_of};
@@ -26,12 +26,12 @@ use crate::options::{Options, ends_at_strays, finds_strays, options_at};
 use crate::place::{displayed_place, place_inside, push_context_inside, push_context_of};
 use crate::reason::push_error_line;
 use rl_files::{make_visible, push_visible};
-use rl_lenient::{Found, find};
+use rl_lenient::{Found, parse_literal};
 use rl_output::{
     Form, Level, Place, Places, Spelling, first_line, push_annotation_end, push_line_start,
 };
-use rl_program::{label_of, push_found, push_unescaped_line, unescaped_value};
-use rl_style::{Calls, calls_after, is_in_call};
+use rl_program::{label_of, push_found_line, push_unescaped_line, unescaped_value};
+use rl_style::{Calls, advance_calls, is_in_call};
 use rl_tokens::{LexError, LexKind, SourceForm, SourceToken, Sources};
 use std::alloc::{AllocError, Allocator};
 
@@ -53,7 +53,7 @@ fn push_made_line<A: Allocator + Copy>(
         (chars (string_bytes out.old)) (chars (string_bytes out.new))) }
 {
     let from = out.as_str().len();
-    push_found(alloc, out, text, found)?;
+    push_found_line(alloc, out, text, found)?;
     make_visible(alloc, out, from)
 }
 
@@ -300,7 +300,7 @@ fn push_literal_token<'t, A: Allocator + Copy>(
         (chars (string_bytes out.old)) (chars (string_bytes out.new))) }
     ensures same { places.new ≡ places.old }
 {
-    let found = find(token.text);
+    let found = parse_literal(token.text);
     let before = places.before(token.lo);
     let wrong = find_wrong(options, before, token.text, &found);
     let label = label_of(kind_of(&found));
@@ -361,10 +361,10 @@ fn follows_calls(options: &Options<'_>) -> bool
 #[inline(always)]
 fn pass_token<'t>(follows: bool, calls: &mut Calls<'t>, token: SourceToken<'t>)
     ensures { IsTrue follows → calls_seen calls.new
-        ≡ calls_after (calls_seen calls.old) (source_view token.entry.form) token.entry.text.now }
+        ≡ advance_calls (calls_seen calls.old) (source_view token.entry.form) token.entry.text.now }
 {
     if follows {
-        *calls = calls_after(*calls, token)
+        *calls = advance_calls(*calls, token)
     }
 }
 

@@ -1,6 +1,6 @@
 -- The parsers of one character or escape: their results for each first character, and texts that complete an incomplete
 -- escape.
-use Rattle.rl_strict.proofs.Names.{◌≡◌, ℕ, suc, ◌+◌, ◌*◌, ◌^◌, ◌<◌, ◌≤◌, ◌||◌, ◌&&◌, Bool, true, false, not, cond, eqb, ltb, List, [], ◌∷◌, ◌++◌, Option, Some, None, refl, sym, ap, subst, ◌∙◌, ◌⊎◌, inl, inr, arith, option_and_then, digit_value, scalar, and_from, and_parts, both_ways, cases_Bool, eqb-true, ltb-true, ltb-false, lt-ltb, eq-eqb, ne_eqb, or_right, IsScalar, pow-suc, and_right, le-ltb, Kind, CStr, content_of, is_hex_digit, holds_characters, is_string, is_single, is_line_end, allows_code, may_be_hex, allows_unicode_escapes, leb, pow-le-pow_right, le-leb, leb-false, IsCompletable, found, number_if, digit_at, hex_at, unicode_at, after_blanks, named_in, named_at, escape_at, unit_at, is_code, holds_more, unicode_sound, below_six, digit_apart, unicode_digits_at, unicode_is}
+use Rattle.rl_strict.proofs.Names.{◌≡◌, ℕ, suc, ◌+◌, ◌*◌, ◌^◌, ◌<◌, ◌≤◌, ◌||◌, ◌&&◌, Bool, true, false, not, cond, eqb, ltb, List, [], ◌∷◌, ◌++◌, Option, Some, None, refl, sym, ap, subst, ◌∙◌, ◌⊎◌, inl, inr, arith, option_and_then, digit_value, scalar, and_from, and_parts, both_ways, cases_Bool, eqb-true, ltb-true, ltb-false, lt-ltb, eq-eqb, ne_eqb, or_right, IsScalar, pow-suc, and_right, le-ltb, Kind, CStr, content_of, is_hex_digit, decodes_to_chars, is_string, is_single, is_line_end, allows_code, may_be_hex, allows_unicode_escapes, leb, pow-le-pow_right, le-leb, leb-false, IsCompletable, found, number_if, digit_at, hex_at, unicode_at, after_blanks, named_in, named_at, escape_at, unit_at, is_code, holds_more, unicode_sound, below_six, digit_apart, unicode_digits_at, unicode_is}
 
 -- ---- parsers of the beginning of a text
 
@@ -62,8 +62,8 @@ hex_read kind c d r a b = rw (a, b) refl
 
 pub hex_one : (kind : Kind) → Completes (hex_at kind)
 hex_one kind =
-    let allowed : may_be_hex kind 65 ≡ true = and_from (allows_code kind 65) (not (holds_characters kind) || true)
-    (holds_more kind 65 refl) (or_right (not (holds_characters kind)) true refl) in
+    let allowed : may_be_hex kind 65 ≡ true = and_from (allows_code kind 65) (not (decodes_to_chars kind) || true)
+    (holds_more kind 65 refl) (or_right (not (decodes_to_chars kind)) true refl) in
     ends_by_two (hex_at kind) 65 52 49 refl refl (λ r. hex_read kind 52 49 r refl refl
     ∙ ap (λ b. number_if b 65 r) allowed)
 
@@ -75,13 +75,13 @@ low_allowed : (b : Bool) (v : ℕ) → (b && ltb 7 v) ≡ false → v < 16 → (
 low_allowed false v h small = refl
 low_allowed true v h small = lt-ltb (v * 16 + 1) 128 (let few : v ≤ 7 = ltb-false 7 v h in omega arith)
 
-pub hex_second : (kind : Kind) (c : ℕ) → is_hex_digit c ≡ true → (holds_characters kind && ltb 7 (digit_value c))
+pub hex_second : (kind : Kind) (c : ℕ) → is_hex_digit c ≡ true → (decodes_to_chars kind && ltb 7 (digit_value c))
     ≡ false → Completes (second kind c)
 hex_second kind c h low =
     let v = digit_value c in
     let allowed : may_be_hex kind (v * 16 + 1) ≡ true = and_from (allows_code kind (v * 16 + 1))
-    (not (holds_characters kind) || ltb (v * 16 + 1) 128) (holds_more kind (v * 16 + 1) (not_zero (v * 16)))
-    (low_allowed (holds_characters kind) v low (ltb-true v 16 h)) in
+    (not (decodes_to_chars kind) || ltb (v * 16 + 1) 128) (holds_more kind (v * 16 + 1) (not_zero (v * 16)))
+    (low_allowed (decodes_to_chars kind) v low (ltb-true v 16 h)) in
     ends_by (second kind c) (v * 16 + 1) 49 refl (λ r. hex_read kind c 49 r h refl
     ∙ ap (λ b. number_if b (v * 16 + 1) r) allowed)
 
@@ -101,17 +101,17 @@ unfolding hex_at
 no_high kind c e h = rw h refl
 
 pub past_hex : (kind : Kind) (c : ℕ) (e : List ℕ) → is_hex_digit c ≡ true
-    → (holds_characters kind && ltb 7 (digit_value c)) ≡ true → hex_at kind (c ∷ e) ≡ None
+    → (decodes_to_chars kind && ltb 7 (digit_value c)) ≡ true → hex_at kind (c ∷ e) ≡ None
 unfolding hex_at
 past_hex kind c [] h high = rw h refl
 past_hex kind c (d ∷ ds) h high =
-    let parts = and_parts (holds_characters kind) (ltb 7 (digit_value c)) high in
+    let parts = and_parts (decodes_to_chars kind) (ltb 7 (digit_value c)) high in
     let n = digit_value c * 16 + digit_value d in
     let big : ltb n 128 ≡ false = le-ltb n 128 (let more : 7 < digit_value c = ltb-true 7 (digit_value c) parts.1 in
     omega arith) in
-    let no_test : (not (holds_characters kind) || ltb n 128) ≡ false = ap (λ b. not b || ltb n 128) parts.0 ∙ big in
+    let no_test : (not (decodes_to_chars kind) || ltb n 128) ≡ false = ap (λ b. not b || ltb n 128) parts.0 ∙ big in
     let never_allowed : may_be_hex kind n ≡ false = and_right (allows_code kind n)
-    (not (holds_characters kind) || ltb n 128) no_test in
+    (not (decodes_to_chars kind) || ltb n 128) no_test in
     go (is_hex_digit d) refl never_allowed
   where
     go : (b : Bool) → is_hex_digit d ≡ b → may_be_hex kind (digit_value c * 16 + digit_value d) ≡ false

@@ -1,5 +1,5 @@
 -- Escapes of a literal in a file: the code has equal results for the text as written and for the text with CR LF read as LF.
-use Rattle.rl_strict.proofs.Names.{◌≡◌, ℕ, ◌+◌, ◌*◌, Bool, true, false, not, ◌==◌, ◌&&◌, cond, List, [], ◌∷◌, Option, Some, None, refl, sym, ap, subst, ◌∙◌, digit_value, nat_lt, option_and_then, option_map, scalar, ByteStr, CStr, Kind, Str, after_run, allows_code, content_of, allows_unicode_escapes, holds_characters, is_dropped_blank, is_line_end, is_strict_unit, is_string, Itself, may_be_hex, CodeDigits, brace_at, close_at, closed_at, code_digits, code_digits_at, digit_at, after_blanks, escape_at, first_code_digits_at, found, hex_at, named_at, named_in, number_if, unicode_at, escape_rest, unit_rest, CarriageReturn, EmptyBraces, NoBrace, NoHexDigit, NoUnicode, Nul, HexEscapeOutOfRange, TooManyDigits, UnknownEscape, is_dropped, lf_text, strict_escape_flaw_at, strict_unit_flaw_at, FoundFlaw, character_flaw_of, code_flaw_at, code_flaw_of, escape_flaw_at, first_digit_flaw_at, found_flaw, hex_flaw_at, is_code, low_digit_flaw_at, unclosed_flaw_at, unicode_flaw_at}
+use Rattle.rl_strict.proofs.Names.{◌≡◌, ℕ, ◌+◌, ◌*◌, Bool, true, false, not, ◌==◌, ◌&&◌, cond, List, [], ◌∷◌, Option, Some, None, refl, sym, ap, subst, ◌∙◌, digit_value, nat_lt, option_and_then, option_map, scalar, ByteStr, CStr, Kind, Str, after_run, allows_code, content_of, allows_unicode_escapes, decodes_to_chars, is_dropped_blank, is_line_end, is_strict_unit, is_string, Itself, may_be_hex, CodeDigits, brace_at, close_at, closed_at, code_digits, code_digits_at, digit_at, after_blanks, escape_at, first_code_digits_at, found, hex_at, named_at, named_in, number_if, unicode_at, escape_rest, unit_rest, CarriageReturn, EmptyBraces, NoBrace, NoHexDigit, NoUnicode, Nul, HexEscapeOutOfRange, TooManyDigits, UnknownEscape, is_dropped, lf_text, strict_escape_flaw_at, strict_unit_flaw_at, FoundFlaw, character_flaw_of, code_flaw_at, code_flaw_of, escape_flaw_at, first_digit_flaw_at, found_flaw, hex_flaw_at, is_code, low_digit_flaw_at, unclosed_flaw_at, unicode_flaw_at}
 use Rattle.rl_strict.proofs.FileTextLemmas.{by_first, line_of, when_kept}
 use Rattle.rl_strict.proofs.FileSuffixes.{both, lf_flaw}
 
@@ -139,7 +139,7 @@ low_read t = by_first (λ z r. low_digit_flaw_at r ≡ lf_flaw (low_digit_flaw_a
 hex_flaw_read : (k : Kind) (t : List ℕ) → hex_flaw_at k (lf_text t) ≡ lf_flaw (hex_flaw_at k t)
 unfolding hex_flaw_at
 hex_flaw_read k t = by_first (λ z r. hex_flaw_at k r ≡ lf_flaw (hex_flaw_at k z)) refl (λ cs. refl) (λ c cs e. both
-    lf_flaw (nat_lt (digit_value c) 16) _ _ _ _ (both lf_flaw (holds_characters k && nat_lt 7 (digit_value c)) _ _ _ _
+    lf_flaw (nat_lt (digit_value c) 16) _ _ _ _ (both lf_flaw (decodes_to_chars k && nat_lt 7 (digit_value c)) _ _ _ _
     (ap (found_flaw HexEscapeOutOfRange) (sym e)) (low_read cs)) (ap (found_flaw NoHexDigit) (sym e))) t
 
 unclosed_read : (v : ℕ) (t : List ℕ) → unclosed_flaw_at v (lf_text t) ≡ lf_flaw (unclosed_flaw_at v t)

@@ -6,7 +6,7 @@ pub use Rattle.rl_lenient.proofs.FloatLemmas.{letter_no_dot, run_first}
 pub use Rattle.rl_lenient.proofs.FormLemmas.{cooked_found, front_complete, front_sound, no_front, not_both, single_found}
 pub use Rattle.rl_lenient.proofs.FoundLemmas.{OfUnit, body_text, form_at, quoted_found}
 pub use Rattle.rl_lenient.proofs.IntegerLemmas.{based, begins_is, chosen_some, hex_stops, not_based, within_reads}
-pub use Rattle.rl_lenient.proofs.Names.{Apostrophe, AsciiEscape, Backslash, Base, Binary, BoolKind, Byte, ByteEscape, ByteStr, CStr, Char, Contents, Continuation, CrLf, Decimal, Digits, Float, HasContents, HasNoReading, HasNoTruth, HasReading, Hex, Hexadecimal, Int, IntReads, IsAfterPrefix, IsPast, IsScalar, IsStrictSuffix, IsTail, IsUnit, Itself, Kind, Letter, LineBreak, LowerN, LowerR, LowerT, Marks, Named, NoSign, Octal, Plain, PlainEscape, Quote, QuoteEscape, QuotedUnit, Reads, Sign, Str, StrictUnit, Unicode, UnicodeEscape, after_run, allows_code, and_right, append_cancel_left, byte_len, cond_both, content_of, drop-append_seam, false_from_ne_true, first_passes, flat_map-append, fraction_text, allows_unicode_escapes, hex_value, holds_characters, is_ascii_other, is_dropped_blank, is_exponent_letter, is_hash, is_hex_digit, is_line_end, is_other, is_plain, is_raw, is_run_part, is_single, is_strict_unit, is_string, is_underscore, le-ltb, letter_text, letter_value, limit, may_be_hex, opener, place_value, pow-suc, prefix, quoted_contents, radix, raw_opener, sign_text, strict_content_of, strict_contents, strict_text, texts, truth_text, unit_text, values, without_underscores, ◌↔◌}
+pub use Rattle.rl_lenient.proofs.Names.{Apostrophe, AsciiEscape, Backslash, Base, Binary, BoolKind, Byte, ByteEscape, ByteStr, CStr, Char, Contents, Continuation, CrLf, Decimal, Digits, Float, HasContents, HasNoReading, HasNoTruth, HasReading, Hex, Hexadecimal, Int, IntReads, IsAfterPrefix, IsPast, IsScalar, IsStrictSuffix, IsTail, IsUnit, Itself, Kind, Letter, LineBreak, LowerN, LowerR, LowerT, Marks, Named, NoSign, Octal, Plain, PlainEscape, Quote, QuoteEscape, QuotedUnit, Reads, Sign, Str, StrictUnit, Unicode, UnicodeEscape, after_run, allows_code, and_right, append_cancel_left, byte_len, cond_both, content_of, drop-append_seam, false_from_ne_true, first_passes, flat_map-append, fraction_text, allows_unicode_escapes, hex_value, decodes_to_chars, is_ascii_other, is_dropped_blank, is_exponent_letter, is_hash, is_hex_digit, is_line_end, is_other, is_plain, is_raw, is_run_part, is_single, is_strict_unit, is_string, is_underscore, le-ltb, letter_text, letter_value, limit, may_be_hex, opener, place_value, pow-suc, prefix, quoted_contents, radix, raw_opener, sign_text, strict_content_of, strict_contents, strict_text, texts, truth_text, unit_text, values, without_underscores, ◌↔◌}
 pub use Rattle.rl_lenient.proofs.OpenerLemmas.{only_quoted, word_has_none}
 pub use Rattle.rl_lenient.proofs.PlaceLemmas.{opened, placed}
 pub use Rattle.rl_lenient.proofs.ReadingLemmas.{front_not_quoted, no_front_number, no_reading, only_number}

@@ -1,6 +1,6 @@
 -- If a text begins with no valid character or escape of a quoted literal in `syn`'s grammar, it has the flaw that the code
 -- returns: the kind and the position are right.
-use Rattle.rl_strict.proofs.Names.{◌≡◌, ◌≢◌, ℕ, suc, ◌+◌, ◌*◌, ◌<◌, ◌≤◌, ◌||◌, ◌&&◌, Bool, true, false, not, cond, eqb, ltb, List, [], ◌∷◌, ◌++◌, length, Option, Some, None, refl, sym, ap, subst, ◌∙◌, inl, inr, arith, append_assoc, option_and_then, list_all, digit_value, scalar, and_from, and_parts, both_ways, cases_Bool, eqb-true, ltb-true, ltb-false, lt-ltb, not-true, not_from_false, list_all-append, pow-suc, cond_both, Kind, Str, ByteStr, CStr, Byte, first_passes, is_underscore, Letter, Named, LowerN, LowerR, LowerT, Backslash, Apostrophe, Quote, letter_text, letter_value, hex_value, content_of, place_value, without_underscores, is_hex_digit, holds_characters, is_string, is_plain, is_line_end, allows_code, may_be_hex, allows_unicode_escapes, apart, FlawKind, Unclosed, UnknownEscape, NoUnicode, NoHexDigit, NoBrace, EmptyBraces, TooManyDigits, HexEscapeOutOfRange, UnicodeEscapeOutOfRange, Surrogate, Nul, NotAscii, MustEscape, NoCharacter, IsBraced, digit_count, number_of, FirstDigit, SecondDigit, AfterBrace, AfterDigits, IsNoCode, HasNoCode, AtBrace, AtSixth, AsItIs, ByLetter, ByDigits, ByNumber, UnitFlaw, found, number_if, hex_at, unicode_at, after_blanks, named_at, escape_at, FoundFlaw, found_flaw, low_digit_flaw_at, hex_flaw_at, is_code, code_flaw_of, first_digit_flaw_at, unicode_flaw_at, escape_flaw_at, character_flaw_of, holds_more, two_digits, unit_complete, digit_apart, passes_more}
+use Rattle.rl_strict.proofs.Names.{◌≡◌, ◌≢◌, ℕ, suc, ◌+◌, ◌*◌, ◌<◌, ◌≤◌, ◌||◌, ◌&&◌, Bool, true, false, not, cond, eqb, ltb, List, [], ◌∷◌, ◌++◌, length, Option, Some, None, refl, sym, ap, subst, ◌∙◌, inl, inr, arith, append_assoc, option_and_then, list_all, digit_value, scalar, and_from, and_parts, both_ways, cases_Bool, eqb-true, ltb-true, ltb-false, lt-ltb, not-true, not_from_false, list_all-append, pow-suc, cond_both, Kind, Str, ByteStr, CStr, Byte, first_passes, is_underscore, Letter, Named, LowerN, LowerR, LowerT, Backslash, Apostrophe, Quote, letter_text, letter_value, hex_value, content_of, place_value, without_underscores, is_hex_digit, decodes_to_chars, is_string, is_plain, is_line_end, allows_code, may_be_hex, allows_unicode_escapes, apart, FlawKind, Unclosed, UnknownEscape, NoUnicode, NoHexDigit, NoBrace, EmptyBraces, TooManyDigits, HexEscapeOutOfRange, UnicodeEscapeOutOfRange, Surrogate, Nul, NotAscii, MustEscape, NoCharacter, IsBraced, digit_count, number_of, FirstDigit, SecondDigit, AfterBrace, AfterDigits, IsNoCode, HasNoCode, AtBrace, AtSixth, AsItIs, ByLetter, ByDigits, ByNumber, UnitFlaw, found, number_if, hex_at, unicode_at, after_blanks, named_at, escape_at, FoundFlaw, found_flaw, low_digit_flaw_at, hex_flaw_at, is_code, code_flaw_of, first_digit_flaw_at, unicode_flaw_at, escape_flaw_at, character_flaw_of, holds_more, two_digits, unit_complete, digit_apart, passes_more}
 use Rattle.rl_lenient.proofs.Names.{Zero}
 use Rattle.std.proofs.Common.{length-append}
 use Rattle.rl_strict.proofs.EscapeLemmas.{Closes, Completes, Fails, Reader, given, inner_none, only_zero, hex_read, hex_one, second, hex_second, never, no_low, no_high, past_hex, allowed, coded, closed_code, closed_bad, digit_on, digit_past, underscore_on, other_none, full_none, not_low, not_high, Spelled, room, closing, spelled_on, braced, braced_first, braced_none, first_spelled, braced_one, unicode_on, no_unicode_brace, unicode_one, unicode_never, escape_n, by_hex, by_unicode, same_escape, by_escape}
@@ -87,7 +87,7 @@ small_enough : (b : Bool) (v d : ℕ) → (b && ltb 7 v) ≡ false → d < 16 �
 small_enough false v d h digit = refl
 small_enough true v d h digit = lt-ltb (v * 16 + d) 128 (let few : v ≤ 7 = ltb-false 7 v h in omega arith)
 
-low_spoils : (kind : Kind) (c : ℕ) (t : List ℕ) → is_hex_digit c ≡ true → (holds_characters kind && ltb 7 (digit_value
+low_spoils : (kind : Kind) (c : ℕ) (t : List ℕ) → is_hex_digit c ≡ true → (decodes_to_chars kind && ltb 7 (digit_value
     c)) ≡ false → second kind c t ≡ None → HasUnitFlaw kind (second kind c) (92 ∷ 120 ∷ c ∷ []) t (low_digit_flaw_at t)
 low_spoils kind c [] h low none = at_end (hex_second kind c h low)
 low_spoils kind c (d ∷ ds) h low none = cond_both (is_hex_digit d) _ _
@@ -101,10 +101,10 @@ low_spoils kind c (d ∷ ds) h low none = cond_both (is_hex_digit d) _ _
     both e =
         let stuck : number_if (may_be_hex kind n) n ds ≡ None = sym (hex_read kind c d ds h e) ∙ none in
         let bad : may_be_hex kind n ≡ false = rejected (may_be_hex kind n) n ds stuck in
-        let fits : (not (holds_characters kind) || ltb n 128) ≡ true = small_enough (holds_characters kind)
+        let fits : (not (decodes_to_chars kind) || ltb n 128) ≡ true = small_enough (decodes_to_chars kind)
         (digit_value c) (digit_value d) low (ltb-true (digit_value d) 16 e) in
         let rejects : allows_code kind n ≡ false = left_false (allows_code kind n)
-        (not (holds_characters kind) || ltb n 128) fits bad in
+        (not (decodes_to_chars kind) || ltb n 128) fits bad in
         let value : hex_value c d ≡ 0 = sym (two_digits (digit_value c) (digit_value d)) ∙ only_zero kind n rejects in
         here d ds Nul (hex_second kind c h low) (λ r. hex_read kind c d r h e ∙ never (may_be_hex kind n) n ds r stuck)
         (c_string kind n rejects, ByDigits c d ds refl refl h e value)
@@ -120,11 +120,11 @@ unfolding hex_flaw_at
 hex_spoils kind [] none = at_end (hex_one kind)
 hex_spoils kind (c ∷ cs) none =
     let P : FoundFlaw → Type 0 = HasUnitFlaw kind (hex_at kind) (92 ∷ 120 ∷ []) (c ∷ cs) in
-    let high = holds_characters kind && ltb 7 (digit_value c) in
+    let high = decodes_to_chars kind && ltb 7 (digit_value c) in
     cond_both (is_hex_digit c) _ _ P
     (λ e. cond_both high _ _ P
     (λ h.
-    let parts = and_parts (holds_characters kind) (ltb 7 (digit_value c)) h in
+    let parts = and_parts (decodes_to_chars kind) (ltb 7 (digit_value c)) h in
     here c cs HexEscapeOutOfRange (hex_one kind) (λ r. past_hex kind c r e h)
     (parts.0, refl, and_from (is_hex_digit c) (ltb 7 (digit_value c)) e parts.1))
     (λ h. next_same (second kind c) (hex_at kind) c c refl (λ u. refl) none (low_spoils kind c cs e h)))

@@ -7,7 +7,7 @@ use Prim.Native.Char.{code}
 use Rattle.rl_syntax.specs.declared.kind.Kind.{Kind}
 use Rattle.rl_syntax.specs.declared.kind.Kind.TheVariants.{CStr}
 use Rattle.rl_syntax.specs.Texts.{first_passes, is_among, is_underscore}
-use Rattle.rl_syntax.specs.Quoted.{Letter, letter_text, hex_value, is_hex_digit, is_line_end, is_single, is_string, allows_unicode_escapes, holds_characters}
+use Rattle.rl_syntax.specs.Quoted.{Letter, letter_text, hex_value, is_hex_digit, is_line_end, is_single, is_string, allows_unicode_escapes, decodes_to_chars}
 use Rattle.rl_syntax.specs.Spelling.{place_value, without_underscores}
 use Rattle.rl_syntax.specs.Classes.{is_hash}
 use Rattle.rl_lexer.specs.Sources.{is_apostrophe}
@@ -100,7 +100,7 @@ UnitFlaw kind TooManyDigits text rest =
     (digits : List ℕ) × IsBraced digits text rest × (digit_count digits ≡ 6)
     × Begins is_hex_digit rest
 UnitFlaw kind HexEscapeOutOfRange text rest =
-    IsTrue (holds_characters kind) × (text ≡ codes "\\x" ++ rest)
+    IsTrue (decodes_to_chars kind) × (text ≡ codes "\\x" ++ rest)
     × Begins (λ c. is_hex_digit c && nat_lt 7 (digit_value c)) rest
 UnitFlaw kind UnicodeEscapeOutOfRange text rest = HasNoCode kind UnicodeEscapeOutOfRange text rest
 UnitFlaw kind Surrogate text rest = HasNoCode kind Surrogate text rest

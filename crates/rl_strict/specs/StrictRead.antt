@@ -15,7 +15,7 @@ use Rattle.rl_strict.specs.StrictFlaws.{IsStrictFlawOf}
 use Rattle.rl_strict.specs.StrictNumbersRead.{IsFloatRead, IsIntegerRead}
 use Rattle.rl_strict.specs.StrictShapes.{IsToken}
 
--- The parse result of a literal token. For a quoted literal it is the result of `find`, which parses by `syn`'s grammar. For
+-- The parse result of a literal token. For a quoted literal it is the result of `parse_literal`, which parses by `syn`'s grammar. For
 -- a number it is the magnitude, and the byte offset of the suffix. For `true` and `false` it is the `bool`.
 abbrev pub IsStrictReading : List ℕ → Reading → Type 0
 IsStrictReading text (Text kind body) =

@@ -296,7 +296,7 @@ fn place_in(span: Span, at: usize) -> usize
 }
 
 /// Returns a flaw at the beginning of `text`: of the kind `at_end` if `text` is empty, of the kind `before` otherwise.
-pub fn end_flaw(at_end: FlawKind, before: FlawKind, text: &str) -> FlawAt<'_>
+pub fn flaw_at_end_or_before(at_end: FlawKind, before: FlawKind, text: &str) -> FlawAt<'_>
     ensures { found_flaw result.kind (chars result.rest.now)
         ≡ end_flaw_at at_end before (chars text.now) }
 {
@@ -326,18 +326,22 @@ fn skip_letters<'t>(word: &str, text: &'t str) -> &'t str
 
 /// Returns the flaw of a text that begins neither as a number nor as a quoted literal.
 #[tactic(auto, unfolding(crate::specs::Mirrors::WordFlawAt::word_flaw_at))]
-pub fn first_flaw(text: &str) -> FlawAt<'_>
+pub fn non_literal_flaw(text: &str) -> FlawAt<'_>
     ensures { found_flaw result.kind (chars result.rest.now) ≡ word_flaw_at (chars text.now) }
 {
     match split_char(text) {
         None => make_flaw(FlawKind::Empty, text),
-        Some(('b' | 'c', rest)) => end_flaw(FlawKind::UnexpectedEnd, FlawKind::NotALiteral, rest),
-        Some(('t', _)) => end_flaw(
+        Some(('b' | 'c', rest)) => flaw_at_end_or_before(
+            FlawKind::UnexpectedEnd,
+            FlawKind::NotALiteral,
+            rest,
+        ),
+        Some(('t', _)) => flaw_at_end_or_before(
             FlawKind::UnexpectedEnd,
             FlawKind::NotALiteral,
             skip_letters("true", text),
         ),
-        Some(('f', _)) => end_flaw(
+        Some(('f', _)) => flaw_at_end_or_before(
             FlawKind::UnexpectedEnd,
             FlawKind::NotALiteral,
             skip_letters("false", text),

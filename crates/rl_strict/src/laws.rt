@@ -32,14 +32,14 @@ pub fn a_text_has_one_value_flaw()
 /// A literal token, with a minus before it if it is a number, parses by `syn`'s grammar or is an integer above 128 bits. So if
 /// a text doesn't parse, [`explain_value`](crate::explain_value) returns a reason, unless the text is a float only by its
 /// suffix ([`is_float_by_suffix`](crate::is_float_by_suffix)).
-pub fn a_token_reads_or_is_past()
+pub fn a_strict_literal_is_a_syn_literal_or_above_128_bits()
     ensures either { ATokenReadsOrIsPastTheLimit }
     ensures unread { AnUnreadTokenIsPastTheLimit }
 {}
 
 /// In a source, single quotes around no character or several characters aren't a literal token, and don't parse by `syn`'s
 /// grammar. Examples are `''`, `'ab'`, `b'hello'`, and `'1a`.
-pub fn a_bad_quote_has_no_reading()
+pub fn a_bad_quote_is_not_a_literal()
     ensures reading { ABadQuoteHasNoReading }
     ensures token { ABadQuoteIsNoToken }
 {}

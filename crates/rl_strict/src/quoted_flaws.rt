@@ -6,7 +6,7 @@ ghost use Rattle.rl_strict.specs.Mirrors.UnitFlawAt.{character_flaw_of, code_fla
 ghost use Rattle.rl_lenient.specs.Mirrors.UnitAt.{code_digits};
 
 use crate::flaws::{FlawAt, FlawKind, make_flaw};
-use rl_lenient::units::{CodeDigits, allows_code, allows_unicode_escapes, code_digits};
+use rl_lenient::units::{CodeDigits, allows_code, allows_unicode_escapes, parse_code_digits};
 use rl_syntax::Kind;
 use rl_syntax::text::split_char;
 
@@ -31,7 +31,7 @@ fn hex_flaw(kind: Kind, text: &str) -> FlawAt<'_>
         return make_flaw(FlawKind::Unclosed, text);
     };
     match first.to_digit(16) {
-        Some(high) if kind.holds_characters() && high > 7 => make_flaw(
+        Some(high) if kind.decodes_to_chars() && high > 7 => make_flaw(
             FlawKind::HexEscapeOutOfRange,
             text,
         ),
@@ -86,7 +86,7 @@ fn first_digit_flaw(kind: Kind, text: &str) -> FlawAt<'_>
     ensures { found_flaw result.kind (chars result.rest.now)
         ≡ first_digit_flaw_at kind (chars text.now) }
 {
-    if let Some(digits) = code_digits(text, 0) {
+    if let Some(digits) = parse_code_digits(text, 0) {
         return digits_flaw(kind, text, digits);
     }
     match split_char(text) {

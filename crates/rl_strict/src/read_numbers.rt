@@ -17,7 +17,7 @@ ghost use Rattle.rl_strict.specs.Mirrors.NumberRead.{based_read_at, digits_end_a
 use crate::flaws::FlawKind;
 use rl_lenient::digit_runs::{DigitRun, begins_digit, read_digit_run, skip_digits};
 use rl_lenient::number_forms::split_radix;
-use rl_syntax::characters::is_start;
+use rl_syntax::characters::is_id_start;
 use rl_syntax::classes::{CharClass, skip_class};
 use rl_syntax::text::{split_ascii, split_char};
 
@@ -44,7 +44,7 @@ pub(crate) fn skip_suffix(text: &str) -> &str
     ensures rest { chars result.now ≡ suffix_rest (chars text.now) }
 {
     match split_char(text) {
-        Some((first, rest)) if is_start(first) => skip_class(CharClass::Continue, rest),
+        Some((first, rest)) if is_id_start(first) => skip_class(CharClass::Continue, rest),
         _ => text,
     }
 }
@@ -213,7 +213,7 @@ fn read_based(radix: u32, text: &str) -> Result<Number<'_>, Stop<'_>>
 /// Parses all of `text`, which begins with a digit, as a number.
 #[inline(always)]
 #[tactic(auto, using(rl_syntax::proofs::TailLemmas::ok_tail, rl_syntax::proofs::TailLemmas::tail_step), unfolding(crate::specs::Mirrors::NumberRead::number_read_at))]
-pub fn number_of(text: &str) -> Result<Number<'_>, Stop<'_>>
+pub fn parse_number(text: &str) -> Result<Number<'_>, Stop<'_>>
     ensures value { number_outcome result ≡ number_read_at (chars text.now) }
     ensures following { IfOk result (λ n. IsTail text.now (suffix_of n)) }
 {
@@ -236,5 +236,5 @@ pub fn read_number(text: &str) -> Result<Number<'_>, Stop<'_>>
     ensures following { IfOk result (λ n. IsTail text.now (suffix_of n)) }
     ensures stop { IfErr result (λ s. IsStop (chars text.now) s.kind (chars s.rest.now)) }
 {
-    number_of(text)
+    parse_number(text)
 }

@@ -20,10 +20,10 @@ use crate::line_ends::LineEnds;
 use crate::read_numbers::skip_suffix;
 use crate::strict_quoted_flaws::{begins_hash, quote_of};
 use crate::strict_reading::Reading;
-use crate::walk::{open_raw, parse_cooked_content, parse_raw_content, parse_single_unit};
+use crate::walk::{parse_cooked_content, parse_raw_content, parse_single_unit, split_raw_opening};
 use rl_lenient::Body;
-use rl_lenient::quoted_forms::{QuotedForm, places};
-use rl_lenient::units::{Piece, is_allowed_in_single_quotes, piece_code, unit};
+use rl_lenient::quoted_forms::{QuotedForm, part_offsets};
+use rl_lenient::units::{Piece, is_allowed_in_single_quotes, parse_char_or_escape, piece_code};
 use rl_syntax::Kind;
 use rl_syntax::text::split_char;
 
@@ -108,7 +108,7 @@ pub(crate) fn text_at<'t>(
 {
     let stretch = parse_cooked_content(ends, kind, inside);
     match stretch.end {
-        Ok(suffix) => Ok(places(
+        Ok(suffix) => Ok(part_offsets(
             text,
             inside,
             stretch.closing,
@@ -129,17 +129,17 @@ pub struct Single {
 /// Returns the character or escape at the beginning of the text after the opening quote of a character or byte literal, and the
 /// text after it.
 #[inline(always)]
-pub fn split_unit(kind: Kind, text: &str) -> Option<(Piece, &str)>
+pub fn parse_strict_char_or_escape(kind: Kind, text: &str) -> Option<(Piece, &str)>
     requires { IsTrue (is_single kind) }
     ensures rest { option_map (λ p. chars p.1.now) result ≡ unit_rest kind (chars text.now) }
     ensures value { IfSome result (λ p. unit_found kind (chars text.now) ≡ Some (piece_value kind p.0, chars p.1.now)) }
 {
     match split_char(text) {
         None => None,
-        Some(('\\', _)) => unit(kind, text),
+        Some(('\\', _)) => parse_char_or_escape(kind, text),
         Some((first, _)) => {
             if is_allowed_in_single_quotes(first) {
-                unit(kind, text)
+                parse_char_or_escape(kind, text)
             } else {
                 None
             }
@@ -164,7 +164,7 @@ pub(crate) fn unit_at<'t>(
     let stretch = parse_single_unit(ends, kind, inside);
     match stretch.end {
         Ok((piece, suffix)) => Ok(Single {
-            body: places(text, inside, stretch.closing, suffix, false),
+            body: part_offsets(text, inside, stretch.closing, suffix, false),
             unit: piece_code(kind, piece),
         }),
         Err(flaw) => Err(flaw),
@@ -190,7 +190,7 @@ fn opened_at<'t>(
 {
     let stretch = parse_raw_content(ends, kind, hashes, opened);
     match stretch.end {
-        Ok(suffix) => Ok(places(
+        Ok(suffix) => Ok(part_offsets(
             text,
             opened,
             stretch.closing,
@@ -215,7 +215,7 @@ fn raw_at<'t>(
     ensures token { IfOk result (λ b. IsToken (read_of ends (chars text.now))) }
     ensures flaw { IfErr result (λ f. IsFlawOf ends false (chars text.now) f.kind (chars f.piece.now) (chars f.rest.now)) }
 {
-    match open_raw(kind, inside) {
+    match split_raw_opening(kind, inside) {
         Ok((hashes, opened)) => opened_at(ends, kind, text, inside, hashes, opened),
         Err(flaw) => Err(flaw),
     }

@@ -8,7 +8,7 @@ ghost use Rattle.rl_strict.specs.StrictFlaws.{ExplainsStrictly};
 ghost use Rattle.rl_strict.specs.StrictShapes.{IsToken};
 
 use crate::flaws::Flaw;
-use crate::limits::limit_of;
+use crate::limits::limit_flaw_of_reading;
 use crate::line_ends::LineEnds;
 use crate::strict_reading::read;
 
@@ -22,12 +22,12 @@ use crate::strict_reading::read;
 /// ```
 /// use rl_grammar::explain;
 ///
-/// pub fn reason(text: &str) -> Option<&'static str> {
+/// pub fn why_invalid(text: &str) -> Option<&'static str> {
 ///     Some(explain(text)?.kind.message())
 /// }
-/// // reason("\"a\\q\"") == Some("unknown escape")
-/// // reason("0b102") == Some("invalid digit for this base")
-/// // reason("0b101") == None
+/// // why_invalid("\"a\\q\"") == Some("unknown escape")
+/// // why_invalid("0b102") == Some("invalid digit for this base")
+/// // why_invalid("0b101") == None
 /// ```
 pub fn explain(text: &str) -> Option<Flaw>
     ensures none { IfNone result (IsToken (chars text.now)) }
@@ -62,7 +62,7 @@ pub fn explain_value(text: &str, ends: LineEnds, signed: bool) -> Option<Flaw>
     ensures some { IfSome result (ExplainsValueOf ends signed (chars text.now)) }
 {
     match read(text, ends, signed) {
-        Ok(reading) => limit_of(text, reading),
+        Ok(reading) => limit_flaw_of_reading(text, reading),
         Err(flaw) => Some(flaw),
     }
 }

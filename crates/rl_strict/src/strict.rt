@@ -6,9 +6,9 @@ ghost use Rattle.std.specs.List.{list_all};
 ghost use Rattle.rl_strict.specs.Mirrors.StrictAt.{is_inside, is_raw_character};
 ghost use Rattle.rl_syntax.specs.Texts.{begins, code};
 
-use rl_lenient::units::split_ascii_run;
+use rl_lenient::units::split_before_mark_or_non_ascii;
 use rl_syntax::Kind;
-use rl_syntax::scan::{Marks, split_before};
+use rl_syntax::scan::{Marks, split_before_mark};
 use rl_syntax::text::after_prefix;
 
 /// The characters at which the search in a raw C string stops: `"`, which may close it, and CR and NUL, which it can't contain.
@@ -54,9 +54,9 @@ pub fn skip_raw_characters(kind: Kind, text: &str) -> &str
     ensures shorter { length result.now ≤ length text.now }
 {
     match kind {
-        Kind::Str => split_before(Marks::two(b'"', b'\r'), text).1,
-        Kind::ByteStr => split_ascii_run(Marks::two(b'"', b'\r'), text).1,
-        Kind::CStr => split_before(INSIDE_C_STRING, text).1,
+        Kind::Str => split_before_mark(Marks::from_two_bytes(b'"', b'\r'), text).1,
+        Kind::ByteStr => split_before_mark_or_non_ascii(Marks::from_two_bytes(b'"', b'\r'), text).1,
+        Kind::CStr => split_before_mark(INSIDE_C_STRING, text).1,
         _ => text,
     }
 }

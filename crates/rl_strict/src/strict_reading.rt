@@ -18,11 +18,11 @@ ghost use Rattle.rl_strict.specs.LineEnds.{IsRestOf, read_of};
 ghost use Rattle.rl_strict.specs.Readings.{ExplainsOf, IsFlawOf, IsPlaceAfter, IsReadingOf, IsRestPlace, IsTokenIf};
 ghost use Rattle.rl_strict.specs.StrictRead.{IsStrictReading, IsSignedRead, placed_in};
 
-use crate::flaws::{Flaw, FlawAt, FlawKind, end_flaw, first_flaw, make_flaw};
+use crate::flaws::{Flaw, FlawAt, FlawKind, flaw_at_end_or_before, make_flaw, non_literal_flaw};
 use crate::line_ends::LineEnds;
-use crate::read_numbers::{Number, number_of};
+use crate::read_numbers::{Number, parse_number};
 use crate::read_quoted::{Single, quoted_at, text_at, unit_at};
-use crate::walk_units::split;
+use crate::walk_units::split_first_char;
 use rl_lenient::digit_runs::begins_digit;
 use rl_lenient::quoted_forms::split_opener;
 use rl_lenient::units::is_allowed_in_single_quotes;
@@ -82,7 +82,7 @@ fn bare_of(text: &str) -> Option<u8>
 
 /// Returns how the text begins.
 #[inline(always)]
-pub fn front_of(text: &str) -> Front<'_>
+pub fn classify_start(text: &str) -> Front<'_>
     ensures { BeginsAs text.now result }
 {
     match ascii_at(text, 0) {
@@ -98,7 +98,7 @@ pub fn front_of(text: &str) -> Front<'_>
 
 /// Converts a parsed number, whose suffix is the end of `text`, to a `Reading` with the suffix's byte offset in `text`.
 #[inline(always)]
-pub fn placed(text: &str, number: Number<'_>) -> Reading
+pub fn reading_of_number(text: &str, number: Number<'_>) -> Reading
     requires { IsTail text.now (suffix_of number) }
     ensures { result ≡ placed_in text.now number.entry }
 {
@@ -119,8 +119,8 @@ fn number_at(text: &str) -> Result<Reading, FlawAt<'_>>
     ensures flaw { IfErr result (λ f. (ends : LineEnds)
         → IsFlawOf ends false (chars text.now) f.kind (chars f.piece.now) (chars f.rest.now)) }
 {
-    match number_of(text) {
-        Ok(number) => Ok(placed(text, number)),
+    match parse_number(text) {
+        Ok(number) => Ok(reading_of_number(text, number)),
         Err(stop) => Err(FlawAt {
             kind: stop.kind,
             piece: text,
@@ -140,8 +140,8 @@ fn negative_at<'t>(text: &'t str, number: &'t str) -> Result<Reading, FlawAt<'t>
         → IsFlawOf ends true (chars text.now) f.kind (chars f.piece.now) (chars f.rest.now)) }
 {
     if begins_digit(number) {
-        match number_of(number) {
-            Ok(read) => Ok(placed(text, read)),
+        match parse_number(number) {
+            Ok(read) => Ok(reading_of_number(text, read)),
             Err(stop) => Err(FlawAt {
                 kind: stop.kind,
                 piece: text,
@@ -149,7 +149,7 @@ fn negative_at<'t>(text: &'t str, number: &'t str) -> Result<Reading, FlawAt<'t>
             }),
         }
     } else {
-        let flaw = end_flaw(FlawKind::UnexpectedEnd, FlawKind::NoNumber, number);
+        let flaw = flaw_at_end_or_before(FlawKind::UnexpectedEnd, FlawKind::NoNumber, number);
         Err(FlawAt {
             kind: flaw.kind,
             piece: text,
@@ -169,7 +169,7 @@ fn word_flaw(text: &str) -> FlawAt<'_>
     if begins_with_char(text, '-') {
         make_flaw(FlawKind::Minus, text)
     } else {
-        first_flaw(text).with_piece(text)
+        non_literal_flaw(text).with_piece(text)
     }
 }
 
@@ -213,7 +213,7 @@ fn read_at(ends: LineEnds, text: &str) -> Result<Reading, FlawAt<'_>>
     ensures token { IfOk result (λ r. IsToken (read_of ends (chars text.now))) }
     ensures flaw { IfErr result (λ f. IsFlawOf ends false (chars text.now) f.kind (chars f.piece.now) (chars f.rest.now)) }
 {
-    match front_of(text) {
+    match classify_start(text) {
         Front::Quote(inside) => match text_at(ends, Kind::Str, text, inside) {
             Ok(body) => Ok(Reading::Text(Kind::Str, body)),
             Err(flaw) => Err(flaw),
@@ -272,13 +272,13 @@ fn signed_at(text: &str, ends: LineEnds, signed: bool) -> Result<Reading, FlawAt
 
 /// Returns the text after its first character, or an empty text. In a file a CR LF is one character.
 #[tactic(auto, using(rl_syntax::proofs::TailLemmas::tail_step, rl_syntax::proofs::TailLemmas::tail_self))]
-pub fn after_first(ends: LineEnds, text: &str) -> &str
+pub fn skip_first_char(ends: LineEnds, text: &str) -> &str
     ensures rest { IsRestOf ends (chars text.now) (chars result.now) }
     ensures read { read_of ends (chars result.now) ≡ drop 1 (read_of ends (chars text.now)) }
     ensures following { IsTail text.now result.now }
     ensures shorter { length result.now ≤ length text.now }
 {
-    match split(ends, text) {
+    match split_first_char(ends, text) {
         Some((_, rest)) => rest,
         None => text,
     }
@@ -294,7 +294,7 @@ pub fn flaw_with_offsets(ends: LineEnds, found: FlawAt<'_>, text: &str) -> Flaw
     ensures hi { IsPlaceAfter ends (chars text.now) (chars found.entry.rest.now) result.hi }
     ensures ordered { result.lo ≤ result.hi }
 {
-    let after = after_first(ends, found.rest);
+    let after = skip_first_char(ends, found.rest);
     Flaw {
         kind: found.kind,
         from: text.len() - found.piece.len(),
@@ -404,14 +404,14 @@ pub fn read_non_digit_start(text: &str) -> Result<Reading, Flaw>
 /// use rl_grammar::LineEnds;
 /// use rl_grammar::strict::{Reading, read};
 ///
-/// pub fn integer_of(text: &str) -> Option<u128> {
+/// pub fn integer_value(text: &str) -> Option<u128> {
 ///     match read(text, LineEnds::Text, false) {
 ///         Ok(Reading::Integer(magnitude, _)) => magnitude,
 ///         _ => None,
 ///     }
 /// }
-/// // integer_of("0x1F_u8") == Some(31)
-/// // integer_of("1.5") == None
+/// // integer_value("0x1F_u8") == Some(31)
+/// // integer_value("1.5") == None
 /// ```
 #[inline(always)]
 pub fn read(text: &str, ends: LineEnds, signed: bool) -> Result<Reading, Flaw>

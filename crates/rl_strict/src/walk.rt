@@ -13,15 +13,15 @@ ghost use Rattle.rl_strict.specs.StrictShapes.{ClosesForm};
 ghost use Rattle.rl_strict.specs.LineEnds.{IsGoodUnit, IsOfStretch, IsRestOf, StopsAsRead, read_of};
 ghost use Rattle.rl_strict.specs.Mirrors.StrictFlawAt.{raw_stop};
 
-use crate::flaws::{FlawAt, FlawKind, end_flaw, make_flaw};
+use crate::flaws::{FlawAt, FlawKind, flaw_at_end_or_before, make_flaw};
 use crate::line_ends::LineEnds;
-use crate::read_quoted::{split_unit, suffix_flaw};
+use crate::read_quoted::{parse_strict_char_or_escape, suffix_flaw};
 use crate::strict::{after_closer, skip_raw_characters};
 use crate::strict_quoted_flaws::{
     ends_raw_content, raw_character_flaw, skip_allowed_hashes, unit_flaw,
 };
-use crate::walk_units::{skip_units, split};
-use rl_lenient::quoted_forms::{QuotedForm, after_quote};
+use crate::walk_units::{skip_units, split_first_char};
+use rl_lenient::quoted_forms::{QuotedForm, strip_quote};
 use rl_lenient::units::{Piece, split_plain};
 use rl_syntax::Kind;
 use rl_syntax::text::{before, split_char};
@@ -35,7 +35,7 @@ fn skip_raw<'t>(ends: LineEnds, kind: Kind, hashes: &str, text: &'t str) -> &'t 
     ensures rest { IsRestOf ends (chars text.now) (chars result.now) }
 {
     let mut rest = skip_raw_characters(kind, text);
-    while let Some((c, after)) = split(ends, rest) {
+    while let Some((c, after)) = split_first_char(ends, rest) {
         if ends_raw_content(kind, hashes, c, after) {
             return rest;
         }
@@ -73,7 +73,7 @@ pub fn parse_cooked_content(ends: LineEnds, kind: Kind, text: &str) -> QuotedCon
         (chars text.now) (chars f.piece.now) (chars f.rest.now)) }
 {
     let (_, following) = split_plain(kind, text);
-    if let Some(suffix) = after_quote(Kind::Str, following) {
+    if let Some(suffix) = strip_quote(Kind::Str, following) {
         return match suffix_flaw(QuotedForm::Cooked, following, suffix) {
             None => QuotedContent {
                 closing: following,
@@ -88,7 +88,7 @@ pub fn parse_cooked_content(ends: LineEnds, kind: Kind, text: &str) -> QuotedCon
         };
     }
     let closing = skip_units(ends, kind, following);
-    match after_quote(Kind::Str, closing) {
+    match strip_quote(Kind::Str, closing) {
         Some(suffix) => match suffix_flaw(QuotedForm::Cooked, closing, suffix) {
             None => QuotedContent {
                 closing,
@@ -133,13 +133,13 @@ pub fn parse_single_unit(ends: LineEnds, kind: Kind, text: &str) -> UnitStretch<
     ensures stops { IfErr result.end (λ f. StopsAsRead ends QuotedForm.Single kind f.kind (read_of ends (chars text.now))
         (chars text.now) (chars f.piece.now) (chars f.rest.now)) }
 {
-    let Some((unit, closing)) = split_unit(kind, text) else {
+    let Some((unit, closing)) = parse_strict_char_or_escape(kind, text) else {
         return UnitStretch {
             closing: text,
             end: Err(unit_flaw(kind, text).with_piece(text)),
         };
     };
-    match after_quote(Kind::Char, closing) {
+    match strip_quote(Kind::Char, closing) {
         Some(suffix) => match suffix_flaw(QuotedForm::Single, closing, suffix) {
             None => UnitStretch {
                 closing,
@@ -152,9 +152,11 @@ pub fn parse_single_unit(ends: LineEnds, kind: Kind, text: &str) -> UnitStretch<
         },
         None => UnitStretch {
             closing: text,
-            end: Err(end_flaw(FlawKind::Unclosed, FlawKind::TwoCharacters, closing).with_piece(
-                text,
-            )),
+            end: Err(flaw_at_end_or_before(
+                FlawKind::Unclosed,
+                FlawKind::TwoCharacters,
+                closing,
+            ).with_piece(text)),
         },
     }
 }
@@ -184,7 +186,7 @@ pub fn parse_raw_content<'t>(
         (chars f.rest.now)) }
 {
     let closing = skip_raw(ends, kind, hashes, text);
-    let Some((c, after)) = split(ends, closing) else {
+    let Some((c, after)) = split_first_char(ends, closing) else {
         return QuotedContent {
             closing,
             plain: true,
@@ -215,7 +217,7 @@ pub fn parse_raw_content<'t>(
 /// Returns a raw string's hashes and the text after its opening quote, or its flaw. `inside` is the text that begins with the
 /// hashes.
 #[inline(always)]
-pub fn open_raw(kind: Kind, inside: &str) -> Result<(&str, &str), FlawAt<'_>>
+pub fn split_raw_opening(kind: Kind, inside: &str) -> Result<(&str, &str), FlawAt<'_>>
     requires { IsTrue (is_string kind) }
     ensures hashes { IfOk result (λ p. (n : ℕ) × (n ≤ 255) × (chars p.0.now ≡ replicate n (code "#"))) }
     ensures opened { IfOk result (λ p. chars inside.now ≡ chars p.0.now ++ (code "\"" ∷ chars p.1.now)) }

@@ -12,7 +12,7 @@ ghost use Rattle.rl_strict.specs.declared.line_ends.LineEnds.TheVariants.{File, 
 ghost use Rattle.rl_strict.specs.LineEnds.{IsRestOf, drops, is_dropped, read_of};
 
 use crate::line_ends::LineEnds;
-use rl_lenient::units::{escape, split_plain};
+use rl_lenient::units::{parse_escape, split_plain};
 use rl_syntax::Kind;
 use rl_syntax::classes::{CharClass, skip_class};
 use rl_syntax::text::{ascii_at, split_char, strip_byte};
@@ -52,7 +52,7 @@ fn after_line_end(ends: LineEnds, text: &str) -> Option<&str>
 /// Returns the first character of the text and the text after it, or `None` at the end. In a file the first character of a CR
 /// LF is LF.
 #[inline(always)]
-pub fn split(ends: LineEnds, text: &str) -> Option<(char, &str)>
+pub fn split_first_char(ends: LineEnds, text: &str) -> Option<(char, &str)>
     ensures chars { MatchOption result (chars text.now ≡ [])
         (λ p. read_of ends (chars text.now) ≡ p.0 ∷ read_of ends (chars p.1.now)) }
     ensures rest { IfSome result (λ p. IsRestOf ends (chars text.now) (chars p.1.now)) }
@@ -100,7 +100,7 @@ fn skip_escape(ends: LineEnds, kind: Kind, text: &str, at: usize) -> Option<&str
         let blanks = after_line_end(ends, &text[at..])?;
         return Some(skip_blanks(ends, blanks));
     }
-    let (_, rest) = escape(kind, text, at)?;
+    let (_, rest) = parse_escape(kind, text, at)?;
     Some(rest)
 }
 

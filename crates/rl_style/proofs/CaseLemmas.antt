@@ -1,4 +1,4 @@
--- Letters in lower or upper case.
+-- Properties of digits and letters that a change of case keeps.
 use Rattle.rl_syntax.proofs.Common.{◌≡◌, ℕ, ◌+◌, ◌-◌, ◌<◌, ◌≤◌, ◌&&◌, ◌||◌, Bool, true, false, not, ◌==◌, cond, nat_le, nat_lt, List, [], ◌∷◌, ◌++◌, Some, None, length, map, refl, sym, ap, ◌∙◌, inl, inr, arith, eqb-true, cases_lt, agree_below_at, digit_value, list_all, list_any, and_from, and_parts, scalar, encode_utf8, encode_utf8_all, encodes-append, append-nil, append_assoc, map-append}
 use Rattle.std.specs.Prelude.{Option}
 use Rattle.std.proofs.Math.Utf8.{scalars}
@@ -9,7 +9,7 @@ use Rattle.rl_style.specs.declared.style.Case.{Case}
 use Rattle.rl_style.specs.declared.style.Case.TheVariants.{Lower, Upper}
 use Rattle.rl_style.specs.Cases.{cased, lower_case, upper_case}
 
--- ---- non-ASCII characters don't change
+-- ---- a change of case doesn't change non-ASCII characters
 
 pub none_right : (b : Bool) → (b && false) ≡ false
 none_right true = refl
@@ -23,7 +23,7 @@ cased_past None c h = refl
 cased_past (Some Upper) c h = ap (λ b. cond b (c - 32) c) (outside 97 102 c (omega arith))
 cased_past (Some Lower) c h = ap (λ b. cond b (c + 32) c) (outside 65 70 c (omega arith))
 
--- ---- a letter has an equal value in each case
+-- ---- a hexadecimal digit has one value in lower and upper case
 
 pub cased_value : (case : Option Case) (c : ℕ) → digit_value (cased case c) ≡ digit_value c
 cased_value case c =
@@ -50,7 +50,7 @@ cased_underscore case c =
     low (Some Upper) c a = agree_below_at (λ c. upper_case c == 95) (λ c. c == 95) 128 c refl a
     low (Some Lower) c a = agree_below_at (λ c. lower_case c == 95) (λ c. c == 95) 128 c refl a
 
--- ---- sequences of digits
+-- ---- after a change of case, a sequence of digits is still a sequence of digits
 
 part_same : (case : Option Case) (base c : ℕ) → is_run_part (λ c. nat_lt (digit_value c) base) (cased case c)
     ≡ is_run_part (λ c. nat_lt (digit_value c) base) c
@@ -74,7 +74,7 @@ some_cased case base (c ∷ cs) =
     ap (λ v. nat_lt v base || list_any (λ c. nat_lt (digit_value c) base) (map (cased case) cs)) (cased_value case c)
     ∙ ap (λ b. nat_lt (digit_value c) base || b) (some_cased case base cs)
 
--- ---- numbers
+-- ---- after a change of case, digits represent the old number
 
 bare_cased : (case : Option Case) (cs : List ℕ) → without_underscores (map (cased case) cs)
     ≡ map (cased case) (without_underscores cs)
@@ -104,7 +104,7 @@ pub number_cased : (case : Option Case) (base : ℕ) (run : List ℕ) → place_
 number_cased case base run = ap (place_value base) (bare_cased case run)
     ∙ spelled_cased case base (without_underscores run)
 
--- ---- changing the case again changes nothing
+-- ---- a second change to one case changes nothing
 
 pub twice_cased : (case : Option Case) (c : ℕ) → cased case (cased case c) ≡ cased case c
 twice_cased case c =
@@ -123,7 +123,7 @@ twice_row case [] = refl
 twice_row case (c ∷ cs) = ap (λ z. z ∷ map (cased case) (map (cased case) cs)) (twice_cased case c)
     ∙ ap (λ z. cased case c ∷ z) (twice_row case cs)
 
--- ---- the written text
+-- ---- the text that the code writes in lower or upper case
 
 pub cased_scalar : (case : Option Case) (c : ℕ) → scalar c ≡ true → scalar (cased case c) ≡ true
 cased_scalar case c h =
@@ -144,7 +144,8 @@ scalars_cased case (c ∷ cs) h =
     and_from (scalar (cased case c)) (scalars (map (cased case) cs)) (cased_scalar case c p.0)
     (scalars_cased case cs p.1)
 
--- One more character is written in the given case.
+-- If the code appends one more character in the given case, the written text is the longer sequence of characters in this
+-- case.
 pub cased_more : (case : Option Case) (p a b xs : List ℕ) (c : ℕ) → a ≡ p ++ encode_utf8_all (map (cased case) xs) → b
     ≡ a ++ encode_utf8 (cased case c) → b ≡ p ++ encode_utf8_all (map (cased case) (xs ++ (c ∷ [])))
 cased_more case p a b xs c e h =

@@ -1,4 +1,4 @@
--- The test whether a style changes the text of a literal, by the bytes of the new text.
+-- The code compares the bytes of the old and the new text, and so tests whether a style changes a literal.
 use Rattle.rl_syntax.proofs.Common.{◌≡◌, ℕ, List, Bool, true, false, not, IsTrue, IsUtf8, refl, sym, ◌∙◌, ap, chars, encode_utf8_all, encodes-chars}
 use Rattle.std.specs.Prelude.{◌↔◌}
 use Rattle.rl_style.specs.Rewriting.{Rewrites}
@@ -10,7 +10,7 @@ use Rattle.rl_style.proofs.OneAnswer.{one_answer}
 same_bytes : (x y : List ℕ) → IsUtf8 x → IsUtf8 y → chars x ≡ chars y → x ≡ y
 same_bytes x y u v e = sym (encodes-chars x u) ∙ ap encode_utf8_all e ∙ encodes-chars y v
 
--- A style changes a literal if and only if the new text has other bytes.
+-- A style changes a literal if and only if the new text has other bytes than the old text.
 pub changed : (style : Style) (front written text : List ℕ) (same : Bool)
     → Rewrites style front (chars text) (chars written) → IsUtf8 written → IsUtf8 text
     → (IsTrue same ↔ (written ≡ text)) → IsTrue (not same) ↔ Changes style front (chars text)

@@ -1,4 +1,4 @@
--- The digits of `\u{..}` without underscores and leading zeros represent the old number.
+-- If the digits of a `\u{..}` escape lose their underscores and leading zeros, they still represent the old number.
 use Rattle.rl_syntax.proofs.Common.{◌≡◌, ℕ, zero, suc, ◌<◌, ◌≤◌, ◌+◌, ◌*◌, ◌^◌, ◌||◌, ◌&&◌, Bool, true, false, not, ◌==◌, cond, nat_le, List, [], ◌∷◌, ◌++◌, length, map, replicate, refl, sym, ap, ◌∙◌, inl, inr, arith, append_assoc, append-nil, encode_utf8, encode_utf8_all, and_from, and_parts, or_from, eqb-true, cases_lt, agree_below_at, is_ascii_hexdigit, all_scalars, list_all, flat_map, Some, None}
 use Rattle.std.specs.Prelude.{Option}
 use Rattle.std.proofs.lemmas.Bool.{le-leb, leb-true}
@@ -18,7 +18,7 @@ use Rattle.rl_style.proofs.CaseLemmas.{cased_more, cased_past, twice_cased}
 abbrev pub hex_of : ℕ × ℕ → Bool
 hex_of d = is_ascii_hexdigit d.0
 
--- ---- the number that the digits represent
+-- ---- the number that the digits of an escape represent
 
 firsts_bare : (ds : List (ℕ × ℕ)) → map (λ d. d.0) (map bare_digit ds) ≡ map (λ d. d.0) ds
 firsts_bare [] = refl
@@ -41,7 +41,7 @@ fewest_value (d ∷ e ∷ ds) = go (d.0 == 48) refl (fewest_value (e ∷ ds))
         ∙ ap (λ c. place_value 16 (c ∷ run)) (sym (eqb-true d.0 48 z))
     go false z more = ap (place_value 16) (firsts_bare (d ∷ e ∷ ds))
 
--- ---- the number of digits, and the digits
+-- ---- the digits of an escape that remain, and their number
 
 length_bare : (ds : List (ℕ × ℕ)) → length (map bare_digit ds) ≡ length ds
 length_bare [] = refl
@@ -100,7 +100,7 @@ fewest_unicode ds h =
     (and_from (nat_le 1 (length new)) (nat_le (length new) 6) (le-leb 1 (length new) some) (le-leb (length new) 6 few))
     (fewest_hex ds q.1)) (ap (λ n. all_scalars (n ∷ [])) (fewest_value ds) ∙ p.1)
 
--- ---- rewriting the digits again changes nothing
+-- ---- if the digits of an escape are rewritten again, nothing changes
 
 pub twice_digits : (case : Option Case) (ds : List (ℕ × ℕ)) → map (cased_digit case) (map (cased_digit case) ds)
     ≡ map (cased_digit case) ds
@@ -175,7 +175,7 @@ code_twice style ds = go style.code_digits
         ∙ twice_digits style.escape_digits (fewest_digits (fewest_digits ds)) ∙ ap to (fewest_twice ds)
     go false = twice_digits style.escape_digits ds
 
--- ---- the text of the digits
+-- ---- the text of an escape's digits
 
 under_gone : (n : ℕ) (t : List ℕ) → after_run is_padding (replicate n 95 ++ t) ≡ after_run is_padding t
 under_gone zero t = refl
@@ -185,7 +185,7 @@ under_bare : (n : ℕ) (t : List ℕ) → without_underscores (replicate n 95 ++
 under_bare zero t = refl
 under_bare (suc n) t = under_bare n t
 
--- The text of digits, with the closing brace after them.
+-- The text of the digits of a `\u{..}` escape, and the closing brace after them.
 abbrev closed : List (ℕ × ℕ) → List ℕ
 closed ds = flat_map spaced_digit ds ++ (125 ∷ [])
 
@@ -205,7 +205,7 @@ bare_text (d ∷ ds) h =
     ∙ ap (λ b. cond (not b) (d.0 ∷ without_underscores rest) (without_underscores rest)) (not_code d.0 95 p.0 refl)
     ∙ ap (λ z. d.0 ∷ z) (under_bare d.1 (closed ds) ∙ bare_text ds p.1)
 
--- Digits whose first one isn't zero are written as they are.
+-- If the first digit of an escape isn't a zero, dropping its leading zeros and underscores only drops the underscores.
 other_text : (d : ℕ × ℕ) (ds : List (ℕ × ℕ)) → (d.0 == 48) ≡ false → list_all hex_of (d ∷ ds) ≡ true
     → fewest_digits (d ∷ ds) ≡ map bare_digit (d ∷ ds)
 other_text d [] z h = refl
@@ -217,7 +217,8 @@ is_other c z h = or_from (c == 48) (c == 95) z (not_code c 95 h refl)
 is_pad : (c : ℕ) → (c == 48) ≡ true → is_padding c ≡ true
 is_pad c z = ap (λ b. b || c == 95) z
 
--- If the first digit is a zero, dropping the leading zeros and all underscores gives the text of the fewest digits.
+-- If the first digit is a zero, the text after it without leading zeros and underscores is the text of the fewest digits. If
+-- no digit remains, a zero is written.
 zero_text : (d : ℕ × ℕ) (ds : List (ℕ × ℕ)) → (d.0 == 48) ≡ true → list_all hex_of ds ≡ true
     → without_underscores (zero_closed (after_run is_padding (closed ds))) ≡ closed (fewest_digits (d ∷ ds))
 zero_text d [] z h = ap (λ c. c ∷ 125 ∷ []) (sym (eqb-true d.0 48 z))
@@ -267,9 +268,10 @@ fewest_is (d ∷ ds) h = go (d.0 == 48) refl
         ∙ ap without_underscores (sym (closed_more d ds)) ∙ bare_text (d ∷ ds) h
         ∙ ap closed (sym (other_text d ds z h))
 
--- ---- the loop of the code
+-- ---- the loop that writes the digits
 
--- One more character is written, unless it is an underscore.
+-- If the code appends one more character that isn't an underscore, in the given case, the written text is the longer sequence
+-- of characters, without underscores and in this case.
 pub bare_more : (case : Option Case) (p a b xs : List ℕ) (c : ℕ) → a
     ≡ p ++ encode_utf8_all (map (cased case) (without_underscores xs)) → (c == 95) ≡ false
     → b ≡ a ++ encode_utf8 (cased case c)

@@ -1,4 +1,5 @@
--- A decimal number with the parts of the old number is a token where the old number is one.
+-- A new decimal number has the first digit and the suffix of the old one, and a fraction and an exponent if the old one has
+-- them. Each text that may follow the old number may also follow the new one.
 use Rattle.rl_syntax.proofs.Common.{◌≡◌, ℕ, ◌<◌, inl, inr, Bool, true, false, not, ◌&&◌, ◌||◌, ◌==◌, List, [], ◌∷◌, ◌++◌, replicate, refl, sym, ◌∙◌, ap, subst, arith, nat_tests, lit<, append_assoc, and_parts, list_all, is_ascii_alphabetic, is_ascii_digit}
 use Rattle.rl_syntax.proofs.Basics.{false_unless}
 use Rattle.rl_syntax.specs.Texts.{is_white, first_passes, is_run_part, is_start}
@@ -32,7 +33,7 @@ no_start_no_base [] h = refl
 no_start_no_base (c ∷ t) h = false_unless (is_base_letter c) (λ is. let q : true ≡ false = sym (base_start c is) ∙ h in
     absurd (cc))
 
--- The text after the number's last sequence of digits doesn't continue it.
+-- The text after the last sequence of digits of a number begins with neither a digit nor an underscore.
 tail_ends : (f : LexedFraction) (e : LexedExponent) (more u : List ℕ)
     → IsRun is_part more (lexed_fraction_text f ++ (lexed_exponent_text e ++ u))
     → IsLexedFraction f (lexed_exponent_text e ++ u) → IsLexedExponent e u → first_passes is_part u ≡ false
@@ -40,7 +41,7 @@ tail_ends NoLexedFraction NoLexedExponent more u run fraction power = run.ends
 tail_ends (LexedDot ds) NoLexedExponent more u run (begins, digits) power = digits.ends
 tail_ends f (LexedPower letter s n d ds) more u run fraction (il, id, digits) = digits.ends
 
--- A test that fails for `e` and `E`, and for the text after an exponent, fails for the text that begins with the exponent.
+-- If a test fails for `e`, for `E` and for the text after an exponent, it fails for the text that begins with the exponent.
 power_first : (test : ℕ → Bool) (e p : LexedExponent) (u : List ℕ) → SamePower e p → test 101 ≡ false → test 69 ≡ false
     → first_passes test u ≡ false → first_passes test (lexed_exponent_text p ++ u) ≡ false
 power_first test NoLexedExponent NoLexedExponent u same a b h = h

@@ -1,4 +1,4 @@
--- A source with any literals rewritten in a style is lexed as before.
+-- If any literals of a source are rewritten in a style, all other tokens are lexed as before.
 use Rattle.rl_syntax.proofs.Common.{◌≡◌, ℕ, ◌+◌, inl, List, [], ◌∷◌, ◌++◌, Option, Some, None, refl, sym, ◌∙◌, ap, subst, arith, append_assoc, AllByRecursion}
 use Rattle.rl_syntax.specs.Texts.{byte_len}
 use Rattle.rl_syntax.proofs.OneQuoted.{same_tail}
@@ -16,9 +16,10 @@ use Rattle.rl_style.proofs.Recut.{Alike, alike_more, alike_stays, offset_of_rest
 use Rattle.rl_style.proofs.RestyledCuts.{NewToken, new_token}
 use Rattle.rl_style.proofs.WholeSource.{Preamble, preamble}
 
--- ---- rewriting one token after another
+-- ---- one token after another is rewritten
 
--- The new tokens of a text. No token before can distinguish the old and the new text, which both follow the text `lead`.
+-- The tokens of the new text, after the edits of the old text. Both texts follow the text `lead`. Each token of `lead` that is
+-- lexed before the old text is also lexed before the new one.
 record Made (lead : List ℕ) (at : ℕ) (old new : List ℕ) (cuts : List CutSource) (edits : List (Option (List ℕ)))
     (r : List ℕ) : Type 0 where
   tokens : List CutSource
@@ -26,7 +27,8 @@ record Made (lead : List ℕ) (at : ℕ) (old new : List ℕ) (cuts : List CutSo
   are_cuts : SourcesUpTo at new tokens r
   alike : Alike lead old new
 
--- The new token in place of the old one.
+-- The token after an edit, in place of an old token. It is a token before the new text `new_after`. The old token follows the
+-- text `lead`.
 record Put (lead : List ℕ) (e : Option (List ℕ)) (token : SourceLexeme) (after new_after : List ℕ) : Type 0 where
   new : SourceLexeme
   is_token : IsTokenOf e token new
@@ -34,7 +36,8 @@ record Put (lead : List ℕ) (e : Option (List ℕ)) (token : SourceLexeme) (aft
   proper : IsProper new new_after
   alike : Alike lead (source_text token ++ after) (source_text new ++ new_after)
 
--- The new text of a token that follows this text.
+-- If an edit gives a token a new text, the token is a literal, and the new text is this literal in the style. The text `lead`
+-- precedes the token.
 abbrev IsWritten : Style → List ℕ → SourceLexeme → Option (List ℕ) → Type 0
 IsWritten style lead token None = Unit {0}
 IsWritten style lead token (Some written) =
@@ -93,7 +96,8 @@ one_more lead e es at w ws front old new after new_after inner r old_is new_is p
           (alike_more lead front (source_text w.token ++ after) (s ++ new_after) p.alike));
     }
 
--- The new text of a token at its offset in the whole text is that at its position in the rest of the text.
+-- Two definitions state that the new text of a token is in the style: one by the token's offset in the whole text, and one by
+-- the text before the token. If the new text satisfies the first definition, it satisfies the second one.
 is_written : (style : Style) (from : ℕ) (whole front rest : List ℕ) (w : CutSource) (e : Option (List ℕ))
     → whole ≡ front ++ (source_text w.token ++ rest) → w.at ≡ from + byte_len front → IsInStyle style from whole w e
     → IsWritten style front w.token e
@@ -152,7 +156,7 @@ keeps_the_tokens_of_edits style at old cuts edits new r cut sound edited styled 
     sound edited styled in
     record { tokens = m.tokens; are_tokens = m.are_tokens; are_cuts = m.are_cuts }
 
--- ---- a whole source
+-- ---- the tokens of a whole source
 
 source_more : (style : Style) (old : List ℕ) (w : CutSource) (ws : List CutSource) (e : Option (List ℕ))
     (es : List (Option (List ℕ))) (new r : List ℕ) → (cut : IsCutUpTo old (w ∷ ws) r)

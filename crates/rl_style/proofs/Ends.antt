@@ -1,5 +1,5 @@
--- A new literal with the form, the prefix and the suffix of the old one is a literal where the old one is, and begins as the
--- old one does.
+-- If a new literal is well formed, and has the kind, the prefix and the suffix of the old one, as `SameEnds` states, each text
+-- that may follow the old literal may also follow the new one. Both literals begin alike.
 use Rattle.rl_syntax.proofs.Common.{◌≡◌, ◌≢◌, ℕ, inl, inr, Bool, true, false, ◌||◌, ◌==◌, List, [], ◌∷◌, ◌++◌, refl, sym, ◌∙◌, ap, subst, replicate, codes, list_all, is_ascii_digit}
 use Rattle.rl_syntax.specs.Texts.{is_among, is_continue}
 use Rattle.rl_lexer.specs.Lexemes.{BeginsHashedQuote, BodyPart, body_text, CharacterBody, character_body_text, LiteralPrefix, NoPrefix, BytePrefix, CPrefix, Lexeme, QuotedLexeme, RawLexeme, CharacterLexeme, BasedLexeme, DecimalLexeme, LexedFraction, lexed_fraction_text, LexedExponent, lexed_exponent_text, lexeme_text, IsLexeme}
@@ -8,7 +8,8 @@ use Rattle.rl_lexer.proofs.LexemeRows.{not_among}
 use Rattle.rl_style.proofs.Decimals.{decimal_is}
 use Rattle.rl_style.specs.Around.{is_head, SameFront, KeepsItsEnds}
 
--- Two texts begin with this text, and continue with a literal's first character.
+-- Two texts begin alike if both begin with the text `front` and the character `h`, a literal may begin with `h`, and `h` isn't
+-- `r`.
 pub alike : (front : List ℕ) (h : ℕ) (x y : List ℕ) → is_head h ≡ true → (h ≡ 114 → ⊥)
     → SameFront (front ++ (h ∷ x)) (front ++ (h ∷ y))
 alike front h x y is other = record { front = front; head = h; new_head = h; same_head = inl refl; old_rest = x; new_rest = y; is_head = is; raw = λ e. absurd (other e); old_is = refl; new_is = refl }
@@ -37,7 +38,7 @@ character_front false a b x y z = alike [] 39 (character_body_text a ++ 39 ∷ x
 character_front true a b x y z = alike (98 ∷ []) 39 (character_body_text a ++ 39 ∷ x ++ y)
     (character_body_text b ++ 39 ∷ x ++ z) refl (not_r 39 refl)
 
--- The text after the first quote of a string.
+-- The text of a string after its opening quote: its body, the closing quote, its suffix, and the text after the string.
 abbrev pub quoted_rest : List BodyPart → List ℕ → List ℕ → List ℕ
 quoted_rest parts x after = body_text parts ++ 34 ∷ x ++ after
 
@@ -81,7 +82,7 @@ unraw_front BytePrefix some n body parts x y z = alike [] 98 (114 ∷ raw_rest n
 unraw_front CPrefix some n body parts x y z = alike [] 99 (114 ∷ raw_rest n body x y)
     (34 ∷ (body_text parts ++ 34 ∷ x ++ z)) refl (not_r 99 refl)
 
--- The properties of a new literal: it is a token where the old one is, and begins as the old one does.
+-- The new literal `m` is a literal before the text `after`, and begins as the old literal `l` does.
 abbrev Keeps : Lexeme → List ℕ → Lexeme → Type 0
 Keeps l after m = IsLexeme m after × SameFront (lexeme_text l ++ after) (lexeme_text m ++ after)
 
@@ -89,7 +90,8 @@ based_row : (letter : ℕ) (digits new after : List ℕ) → list_all is_continu
     → IsLexeme (BasedLexeme letter digits) after → IsLexeme (BasedLexeme letter new) after
 based_row letter digits new after is (l, run) = (l, record { each = is; ends = run.ends })
 
--- The properties `Keeps` of two literals follow from those of equal literals.
+-- Two literals `a` and `b` are equal to `l` and `m`. If `b` is a literal before the text `after` and begins as `a` does, then
+-- `m` is a literal before this text and begins as `l` does.
 named : (l m a b : Lexeme) (after : List ℕ) → l ≡ a → m ≡ b → Keeps a after b → Keeps l after m
 named l m a b after e f is = subst (λ (z : Lexeme). Keeps z after m) (sym e)
     (subst (λ (z : Lexeme). Keeps a after z) (sym f) is)

@@ -1,4 +1,4 @@
--- The forms of floats, with rewritten characters and with their digits in groups.
+-- The forms of floats after their characters are rewritten, and after their digits are divided into groups.
 use Rattle.rl_syntax.proofs.Common.{◌≡◌, ℕ, ◌⊎◌, ◌||◌, Bool, true, false, ◌==◌, cond, List, [], ◌∷◌, ◌++◌, refl, sym, ap, subst, ◌∙◌, inl, inr, append_assoc, append-nil, and_parts, list_all, or_from, or_cases, eqb-true, is_ascii_digit, flat_map, Some, None}
 use Rattle.std.specs.Prelude.{Option}
 use Rattle.rl_syntax.specs.Texts.{first_passes, is_run_part}
@@ -14,16 +14,16 @@ use Rattle.rl_style.proofs.Decimals.{letter_out}
 use Rattle.rl_style.proofs.Regrouped.{grouped_digits}
 use Rattle.rl_style.proofs.NumberCharacters.{becomes, digits_each, digits_some, digits_stay, row_stays, stays}
 
--- ---- sequences of digits
+-- ---- rewritten sequences of digits
 
 digits_are : (drops plus : Bool) (digits letter : Option Case) (d : List ℕ) → IsDigits d
     → IsDigits (flat_map (becomes drops false plus digits letter) d)
 digits_are drops plus digits letter d h = digits_stay (becomes drops false plus digits letter) d
     (row_stays (is_run_part is_ascii_digit) drops plus digits letter d refl refl refl h.1) h
 
--- ---- exponents
+-- ---- a rewritten exponent is an exponent
 
--- A rewritten letter of an exponent is the letter of an exponent.
+-- The letter `c` of an exponent is rewritten as one character, which is again `e` or `E`.
 pub record Letter (drops plus : Bool) (digits letter : Option Case) (c : ℕ) : Type 0 where
   pub new : ℕ
   pub is : becomes drops false plus digits letter c ≡ new ∷ []
@@ -140,7 +140,7 @@ letter_follows z x d ds e h =
     ∙ or_from (d == 120 || d == 111) (d == 98) (or_from (d == 120) (d == 111) (apart test d 120 h refl)
     (apart test d 111 h refl)) (apart test d 98 h refl)
 
--- ---- the forms of floats
+-- ---- the three forms of floats
 
 abbrev pub FloatForm : List ℕ → List ℕ → Type 0
 FloatForm numeral x = IsDotAlone numeral x ⊎ (IsPointed numeral x ⊎ IsScientific numeral x)
@@ -156,12 +156,13 @@ shape_of numeral x (inl a) = DotShape
 shape_of numeral x (inr (inl a)) = PointShape
 shape_of numeral x (inr (inr a)) = PowerShape
 
--- ---- digits in groups
+-- ---- floats with their digits in groups
 
 abbrev pub Groups : ℕ → ℕ → Bool → List ℕ → List ℕ
 Groups size least from_first run = regrouped from_first size least run
 
--- If a text is digits and underscores, and then a text that begins with neither, these are the digits at its start.
+-- A text consists of digits and underscores, and of a rest that begins with neither. Then the digits at its start are all of
+-- these digits and underscores, and the text after them is the rest.
 digits_past : (run x : List ℕ) → list_all (is_run_part is_ascii_digit) run ≡ true
     → first_passes (is_run_part is_ascii_digit) x ≡ false
     → (digit_run (run ++ x) ≡ run) × (after_run (is_run_part is_ascii_digit) (run ++ x) ≡ x)
@@ -177,7 +178,8 @@ digits_past (d ∷ run) x h n =
       ap (λ b. cond b (after_run (is_run_part is_ascii_digit) (run ++ x)) (d ∷ (run ++ x))) p.0 ∙ more.1,
     )
 
--- The digits of a float in groups are the whole part in groups, and then the rewritten text after it.
+-- If the digits of a float are divided into groups, the result is the whole part in groups, and then the rewritten text after
+-- the whole part.
 numeral_at : (f : ℕ → List ℕ) (closes : Bool) (size least : ℕ) (numeral d z : List ℕ) → IsDigits d
     → first_passes (is_run_part is_ascii_digit) z ≡ false → numeral ≡ d ++ z
     → float_in_groups closes f (Groups size least) numeral
@@ -264,7 +266,8 @@ closed_shape DotShape false = DotShape
 closed_shape PointShape closes = PointShape
 closed_shape PowerShape closes = PowerShape
 
--- A float's text before its suffix, by its whole part and the text after it.
+-- The text of a float before its suffix: a whole part of digits, and the text after it, which doesn't begin with the letter of
+-- a base. The float has the form `shape`.
 pub record Numeral (numeral x : List ℕ) (shape : FloatShape) : Type 0 where
   pub whole : List ℕ
   pub new : List ℕ

@@ -1,4 +1,4 @@
--- The last character of a text, by its last byte.
+-- The last byte of a text decides whether its last character is `#` or `.`.
 use Rattle.rl_syntax.proofs.Common.{◌≡◌, ℕ, suc, ◌<◌, ◌≤◌, ◌-◌, ◌||◌, Bool, true, false, not, ◌==◌, List, [], ◌∷◌, ◌++◌, length, get_or, refl, sym, ap, ◌∙◌, inl, inr, arith, nat_tests, append-nil, cases_lt, encode_utf8, encode_utf8_all, encodes-chars, encode_ascii, IsUtf8}
 use Rattle.std.specs.Str.{chars}
 use Rattle.rl_syntax.proofs.LowBytes.{AllHigh, encode_is_high}
@@ -25,7 +25,7 @@ last_join [] y ys = refl
 last_join (x ∷ []) y ys = refl
 last_join (x ∷ z ∷ xs) y ys = last_join (z ∷ xs) y ys
 
--- The bytes of a character. The last byte passes the test `is_end` if and only if the character does.
+-- The bytes of a character. The last byte is `#` or `.` if and only if the character is `#` or `.`.
 record Bytes (c : ℕ) : Type 0 where
   first : ℕ
   more : List ℕ
@@ -60,7 +60,7 @@ ends_so c (d ∷ cs) =
     ∙ sym (ap (λ z. last_byte (encode_utf8 c ++ z)) rest ∙ last_join (encode_utf8 c) b.first (b.more
     ++ encode_utf8_all cs)))
 
--- A quote may follow a nonempty text exactly if the text's last byte fails the test `is_end`.
+-- A nonempty text may precede a quote if and only if its last byte is neither `#` nor `.`.
 pub ends_by_byte : (t : List ℕ) → IsUtf8 t → 1 ≤ length t
     → may_precede_quote (chars t) ≡ not (is_end (get_or t (length t - 1) 0))
 ends_by_byte t u some = go (chars t) (encodes-chars t u)

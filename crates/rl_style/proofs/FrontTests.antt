@@ -17,7 +17,7 @@ hashed_here t b = ap begins_hashed_quote b.text_is ∙ raw_opens_here b.hashes b
 other_head : (h k : ℕ) → is_head h ≡ true → is_head k ≡ false → (h == k) ≡ false
 other_head h k is other = not_among h k is_head is other
 
--- ---- tests with equal results for all digits
+-- ---- tests of characters that have one result for all decimal digits
 
 abbrev pub OnDigits : (ℕ → Bool) → Type 0
 OnDigits test = (h k : ℕ) → is_ascii_digit h ≡ true → is_ascii_digit k ≡ true → test h ≡ test k
@@ -67,7 +67,7 @@ digit_continues c h =
 pub continue_on : OnDigits is_continue
 continue_on h k a b = digit_continues h a ∙ sym (digit_continues k b)
 
--- ---- the first characters of two literals
+-- ---- the first characters of the old and the new literal
 
 head_agrees : (test : ℕ → Bool) → OnDigits test → (h k : ℕ) → SameHead h k → test h ≡ test k
 head_agrees test on h k (inl e) = ap test e
@@ -81,7 +81,7 @@ new_is_head h k (inr (a, b)) is = ap (λ z. is_among (codes "\"'rbc") k || z) b 
     or_true true = refl
     or_true false = refl
 
--- If two texts begin alike, they still do with the same text before both.
+-- If two texts begin alike, they also begin alike after one text is put before both.
 pub front_more : (s a b : List ℕ) → SameFront a b → SameFront (s ++ a) (s ++ b)
 front_more s a b f = record {
   front = s ++ f.front;
@@ -96,14 +96,15 @@ front_more s a b f = record {
   new_is = ap (λ z. s ++ z) f.new_is ∙ sym (append_assoc s f.front (f.new_head ∷ f.new_rest));
 }
 
--- The first character of the old and of the new literal, and the text after each.
+-- The first characters `h` and `k` of the old and the new literal, and the texts `x` and `y` after them. A literal may begin
+-- with each of the two characters.
 record Heads (h k : ℕ) (x y : List ℕ) : Type 0 where
   same : SameHead h k
   old_is : is_head h ≡ true
   new_is : is_head k ≡ true
   raw : (h == 114) ≡ true → begins_hashed_quote x ≡ begins_hashed_quote y
 
--- A character that can't begin a literal is the first character of neither literal.
+-- A character that can't begin a literal is neither the first character of the old literal nor that of the new one.
 other_heads : (h k n : ℕ) (x y : List ℕ) → Heads h k x y → is_head n ≡ false → ((h == n) ≡ false) × ((k == n) ≡ false)
 other_heads h k n x y s other = (other_head h n s.old_is other, other_head k n s.new_is other)
 
@@ -134,7 +135,7 @@ pub same_first : (test : ℕ → Bool) → OnDigits test → (a b : List ℕ) �
     → first_passes test a ≡ first_passes test b
 same_first test on a b s = both (first_passes test) (first_agrees test on) a b s
 
--- ---- the text after a sequence of characters
+-- ---- a test of the text after a sequence of characters has one result for the old and the new text
 
 run_agrees : (run test : ℕ → Bool) (front : List ℕ) (h k : ℕ) (x y : List ℕ) → run h ≡ false → run k ≡ false
     → test h ≡ test k
@@ -156,7 +157,7 @@ hashed_agrees f h k x y s =
     let n = other_heads h k 35 x y s refl in
     run_agrees is_hash (λ c. c == 34) f h k x y n.0 n.1 (head_agrees (λ c. c == 34) (code_on 34 refl) h k s.same)
 
--- ---- texts that begin with a dot
+-- ---- the test for a dot has one result for the old and the new text
 
 dot_agrees : Agrees begins_dot
 dot_agrees [] h k x y s =
@@ -169,7 +170,7 @@ dot_agrees (c ∷ f) h k x y s =
 pub same_dot : (a b : List ℕ) → SameFront a b → begins_dot a ≡ begins_dot b
 same_dot a b s = both begins_dot dot_agrees a b s
 
--- ---- texts that begin with an exponent
+-- ---- the test for an exponent has one result for the old and the new text
 
 abbrev powers : List ℕ → Bool
 powers t = first_passes is_ascii_digit (after_run is_underscore t)
@@ -209,7 +210,7 @@ exponent_agrees (c ∷ f) h k x y s = ap (λ b. (c == 101 || c == 69) && b) (sig
 pub same_exponent : (a b : List ℕ) → SameFront a b → begins_exponent a ≡ begins_exponent b
 same_exponent a b s = both begins_exponent exponent_agrees a b s
 
--- ---- texts that begin with an identifier or a prefix
+-- ---- the test for an identifier or a prefix has one result for the old and the new text
 
 abbrev raw_second : List ℕ → Bool
 raw_second t = begins_char 114 t && begins_hashed_quote (drop 1 t)
@@ -270,7 +271,7 @@ pub same_identifier : (c : ℕ) (a b : List ℕ) → SameFront a b → begins_ra
     ≡ begins_raw_identifier (c ∷ b)
 same_identifier c a b s = both (λ t. begins_raw_identifier (c ∷ t)) (identifier_agrees c) a b s
 
--- ---- the start of a whole source
+-- ---- the tests of the start of a whole source
 
 script_agrees : Agrees (begins (codes "#!"))
 script_agrees [] h k x y s =

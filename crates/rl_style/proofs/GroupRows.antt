@@ -1,4 +1,4 @@
--- Digits in groups, and the underscores at the end of a sequence.
+-- Digits that underscores divide into groups, and the underscores at the end of a sequence.
 use Rattle.rl_syntax.proofs.Common.{◌≡◌, ℕ, ◌||◌, ◌&&◌, Bool, true, false, not, ◌==◌, cond, List, [], ◌∷◌, ◌++◌, length, refl, sym, ap, ◌∙◌, append-nil, and_from, and_parts, eqb-true, is_ascii_digit, list_all, list_any, list_all-append}
 use Rattle.std.proofs.lemmas.List.Elements.{filter-append}
 use Rattle.rl_syntax.proofs.Basics.{apart}
@@ -29,7 +29,7 @@ plus_free test (c ∷ cs) n h =
     and_from (not (c == 43)) (list_all (λ c. not (c == 43)) cs) (ap not (apart test c 43 p.0 n))
     (plus_free test cs n p.1)
 
--- ---- digits without underscores
+-- ---- the digits of a sequence, without its underscores
 
 pub bare_other : (cs : List ℕ) → list_all other (without_underscores cs) ≡ true
 bare_other [] = refl
@@ -51,7 +51,7 @@ bare_all test (c ∷ cs) h =
     go true k more = and_from (test c) (list_all test (without_underscores cs)) k more
     go false k more = more
 
--- A character that is an underscore fails each test that underscores fail.
+-- If underscores fail a test, each character that is an underscore fails it.
 under_fails : (test : ℕ → Bool) (c : ℕ) → test 95 ≡ false → other c ≡ false → test c ≡ false
 under_fails test c n h = ap test (eq h) ∙ n
   where
@@ -193,7 +193,7 @@ pub row_some : (p test : ℕ → Bool) (run : List ℕ) → p 95 ≡ false → l
 row_some p test run n h = any_left p (spaced test (without_underscores run)) (ending run)
     (spaced_any p test (without_underscores run) n ∙ bare_any p run n ∙ h)
 
--- If a sequence is divided into groups, its first character stays the first one, unless it is an underscore.
+-- If a sequence of digits doesn't begin with an underscore, it has its old first character after it is divided into groups.
 pub row_first : (test : ℕ → Bool) (c : ℕ) (cs : List ℕ) → (c == 95) ≡ false
     → row_spaced test (c ∷ cs)
     ≡ c ∷ ((mark (test (length (without_underscores cs))) ++ spaced test (without_underscores cs)) ++ ending cs)

@@ -14,7 +14,7 @@ use Rattle.rl_writing.proofs.UnicodeLemmas.{digits_of, escape_fits, escape_is, e
 use Rattle.rl_style.specs.Mirrors.{code_text}
 use Rattle.rl_style.specs.Rewriting.{has_letter, needs_number, is_visible, lower_digit, number_escape, hex_escape}
 
--- A property that holds for all numeric escapes holds for the numeric escape of the character.
+-- A property that holds for all numeric escapes holds for the numeric escape of each character.
 pub number_any : (P : StrictUnit → Type 0) (k : Kind) (c : ℕ) → ((high low : ℕ) → P (AsciiEscape high low))
     → ((high low : ℕ) → P (ByteEscape high low)) → ((ds : List (ℕ × ℕ)) → P (UnicodeEscape ds))
     → P (number_escape k c)
@@ -35,7 +35,7 @@ number_any P k c ascii byte unicode = go (nat_lt c 128)
     go true = two k (lower_digit (c / 16)) (lower_digit (c % 16))
     go false = unicode (digits_of c)
 
--- ---- the characters that are escaped
+-- ---- the characters that become numeric escapes
 
 hidden_escaped : (c : ℕ) → needs_number c ≡ true → needs_escape c ≡ true
 hidden_escaped c h = (and_parts (needs_escape c) (not (has_letter c)) h).0
@@ -65,7 +65,7 @@ no_surrogate c low high = grind (arith, nat_tests)
 none_past : (c : ℕ) → 0x110000 ≤ c → needs_escape c ≡ false
 none_past c low = grind (arith, nat_tests)
 
--- Each invisible or bidirectional character is a Unicode scalar value.
+-- Each invisible, bidirectional or control character other than LF, CR and TAB is a Unicode scalar value.
 pub hidden_scalar : (c : ℕ) → needs_number c ≡ true → IsScalar c
 hidden_scalar c h =
     let e = hidden_escaped c h in
@@ -80,7 +80,7 @@ hidden_scalar c h =
       ]
     ]
 
--- ---- the two digits of an ASCII character
+-- ---- the two hexadecimal digits of an ASCII character
 
 pub low_value : (c : ℕ) → c < 128 → place_value 16 (lower_digit (c / 16) ∷ lower_digit (c % 16) ∷ []) ≡ c
 low_value c h = eqb-true _ c (agree_below_at
@@ -100,7 +100,7 @@ low_digits : (c : ℕ) → c < 128 → (list_all is_low (lower_digit (c / 16) �
 low_digits c h = agree_below_at (λ c. list_all is_low (lower_digit (c / 16) ∷ lower_digit (c % 16) ∷ [])) (λ c. true)
     128 c refl h
 
--- ---- a literal of the kind may contain the escape
+-- ---- a literal may contain the numeric escape of a character
 
 abbrev either_escape : Bool → Kind → ℕ → StrictUnit
 either_escape b k c = cond b (hex_escape k (lower_digit (c / 16)) (lower_digit (c % 16))) (UnicodeEscape (digits_of c))
@@ -146,7 +146,7 @@ number_allowed k us c q h s =
       | inr wide ↦ ap (is_strict_unit k) (wide_escape k c wide) ∙ wide_allowed k us c q h s wide
     ]
 
--- ---- the value of the escape is the character
+-- ---- the value of a numeric escape is its character
 
 two_contents : (k : Kind) (high low : ℕ) → strict_contents (strict_content_of k) (hex_escape k high low)
     ≡ place_value 16 (high ∷ low ∷ []) ∷ []
@@ -180,7 +180,7 @@ number_contents k c =
           ∙ ap (λ n. strict_content_of k (n ∷ [])) (escape_value c)
     ]
 
--- ---- the text of the escape
+-- ---- the text of a numeric escape
 
 pub low_text : (c : ℕ) → c < 128 → code_text c ≡ 92 ∷ 120 ∷ lower_digit (c / 16) ∷ lower_digit (c % 16) ∷ []
 low_text c h = ap (λ b. cond b (92 ∷ 120 ∷ lower_digit (c / 16) ∷ lower_digit (c % 16) ∷ []) (unicode_escape c))

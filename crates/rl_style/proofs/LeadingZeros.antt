@@ -1,4 +1,4 @@
--- The digits without leading zeros represent the old number.
+-- If an integer loses its leading zeros, its digits represent the old number.
 use Rattle.rl_syntax.proofs.Common.{◌≡◌, ℕ, ◌≤◌, ◌+◌, ◌*◌, ◌^◌, ◌⊎◌, ◌||◌, Bool, true, false, ◌==◌, cond, List, [], ◌∷◌, ◌++◌, length, refl, sym, ap, subst, ◌∙◌, inl, inr, arith, and_from, and_parts, both_ways, cases_Bool, eqb-true, or_cases, or_left, or_parts, is_ascii_digit, list_all, list_any, flat_map}
 use Rattle.std.specs.Str.{chars}
 use Rattle.rl_writing.proofs.AsciiLemmas.{low_chars}
@@ -9,7 +9,7 @@ use Rattle.rl_syntax.specs.Strict.{IsDigits}
 use Rattle.rl_style.specs.Cases.{is_padding, or_zero, significant}
 use Rattle.rl_style.proofs.NumberCharacters.{RowStays, Stays}
 
--- The digits without leading zeros don't begin with a zero or an underscore.
+-- A sequence of digits without leading zeros. Its first character is neither a zero nor an underscore.
 pub record Left (run : List ℕ) : Type 0 where
   pub first : ℕ
   pub rest : List ℕ
@@ -30,7 +30,7 @@ left (c ∷ cs) =
       | inr a ↦ inr (record { first = c; rest = cs; is = ap (λ b. cond b (after_run is_padding cs) (c ∷ cs)) a; other = a })
     ]
 
--- If all characters of a sequence pass a test, so do those without its leading zeros.
+-- If all characters of a sequence of digits pass a test, all characters after the leading zeros pass it.
 after_all : (test : ℕ → Bool) (run : List ℕ) → list_all test run ≡ true → list_all test (after_run is_padding run)
     ≡ true
 after_all test [] h = refl
@@ -57,7 +57,7 @@ significant_all test run z h =
       | inr l ↦ ap (list_all test) (significant_left run l ∙ sym l.is) ∙ after_all test run h
     ]
 
--- The sequence without its leading zeros begins with a digit.
+-- A character of a sequence of digits and underscores is a digit if it is neither a zero nor an underscore.
 first_digit : (test : ℕ → Bool) (c : ℕ) → is_run_part test c ≡ true → is_padding c ≡ false → test c ≡ true
 first_digit test c h n =
     elim (or_cases (test c) (c == 95) h) [
@@ -65,7 +65,8 @@ first_digit test c h n =
       | inr a ↦ absurd (both_ways (c == 95) (or_parts (c == 48) (c == 95) n).1 a)
     ]
 
--- A test that a zero and an underscore fail has the same result without the leading zeros.
+-- If zeros and underscores fail a test, a sequence contains a character that passes it if and only if the sequence without its
+-- leading zeros does.
 after_any : (test : ℕ → Bool) (run : List ℕ) → test 48 ≡ false → test 95 ≡ false
     → list_any test (after_run is_padding run) ≡ list_any test run
 after_any test [] z u = refl
@@ -134,7 +135,7 @@ significant_number (c ∷ cs) =
         ∙ ap (λ d. place_value 10 (without_underscores (d ∷ cs))) (sym (eqb-true c 48 z))
     padded (inr u) = ap (λ d. place_value 10 (without_underscores (d ∷ cs))) (sym (eqb-true c 95 u))
 
--- Digits without leading zeros have none after they are rewritten.
+-- If a sequence of digits has no leading zeros, it has none after it is rewritten.
 pub significant_again : (f : ℕ → List ℕ) (run : List ℕ) → f 48 ≡ 48 ∷ [] → RowStays f run
     → significant (flat_map f (significant run)) ≡ flat_map f (significant run)
 significant_again f run z k =
@@ -170,7 +171,7 @@ significant_again f run z k =
           | inr a ↦ a
         ]
 
--- ---- the results of the code
+-- ---- the digits that the code returns
 
 pub none_left : (digits rest : List ℕ) → chars rest ≡ after_run is_padding (chars digits) → chars rest ≡ []
     → chars (48 ∷ []) ≡ significant (chars digits)

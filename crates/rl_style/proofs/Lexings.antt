@@ -1,4 +1,4 @@
--- The end of a literal token in the lexer, by the text after the token.
+-- The lexer ends a literal token according to the text after the token.
 use Rattle.rl_syntax.proofs.Common.{◌≡◌, ℕ, ◌<◌, ◌≤◌, suc, ◌⊎◌, inl, inr, Bool, true, false, not, ◌&&◌, ◌||◌, ◌==◌, cond, List, [], ◌∷◌, ◌++◌, length, Option, Some, None, drop, replicate, refl, sym, ◌∙◌, ap, subst, arith, append_assoc, lit<, and_parts, and_from, or_cases, eqb-true, nat_lt, digit_value, list_all, list_any, is_ascii_digit, is_xid_continue, option_map}
 use Rattle.rl_syntax.specs.Texts.{is_underscore, is_white, first_passes, is_run_part, is_start, is_continue, begins_char}
 use Rattle.rl_syntax.specs.Classes.{after_run}
@@ -14,7 +14,7 @@ use Rattle.rl_lexer.proofs.LexemeOpeners.{raw_opens_here}
 use Rattle.rl_lexer.proofs.LexemeRows.{not_among, quote_past, raw_past, run_past, single_past}
 use Rattle.rl_lexer.proofs.Pieces.{is_equal}
 
--- ---- sequences of characters
+-- ---- the lexer consumes a sequence of characters
 
 pub run_through : (test : ℕ → Bool) (row y : List ℕ) → list_all test row ≡ true → after_run test (row ++ y)
     ≡ after_run test y
@@ -31,14 +31,14 @@ run_shorter test (c ∷ t) = go (test c) (run_shorter test t)
     go true h = omega (arith, h)
     go false h = omega arith
 
--- The text after a sequence isn't longer than the text with the sequence.
+-- The text after a sequence of characters isn't longer than the text that begins with this sequence.
 no_longer : (test : ℕ → Bool) (c : ℕ) (t : List ℕ) → after_run test t ≡ c ∷ t → ⊥
 no_longer test c t e =
     let same : length (after_run test t) ≡ suc (length t) = ap length e in
     let less = run_shorter test t in
     absurd (omega (arith, same, less))
 
--- ---- quoted literals
+-- ---- the end of a quoted literal in the lexer
 
 pub quoted_goes : (p : LiteralPrefix) (parts : List BodyPart) (x y : List ℕ) → IsBody parts
     → lexeme_at (lexeme_text (QuotedLexeme p parts x) ++ y) ≡ Some (LiteralForm, after_suffix (x ++ y))
@@ -96,7 +96,7 @@ raw_goes p n body x y is = go p
     go CPrefix = ap (λ s. lexeme_at (99 ∷ 114 ∷ s)) (raw_text n body x y) ∙ at_class 99 (114 ∷ u) LetterCHead class99
         ∙ raw_chosen u (word_at (114 ∷ u)) (after_suffix (x ++ y)) (raw_opens_here n v) at
 
--- ---- numbers with a base prefix
+-- ---- the end of a number with a base prefix in the lexer
 
 pub based_goes : (letter : ℕ) (digits y : List ℕ) → is_base_letter letter ≡ true → list_all is_continue digits ≡ true
     → lexeme_at (48 ∷ letter ∷ digits ++ y) ≡ Some (LiteralForm, after_run is_continue y)
@@ -106,7 +106,7 @@ based_goes letter digits y is each =
     is
     ∙ ap (λ s. Some (LiteralForm, s)) (run_through is_continue digits y each)
 
--- ---- decimal numbers
+-- ---- the end of a decimal number in the lexer
 
 -- The text is a decimal number: a digit, and more text.
 pub record DecimalForm (t : List ℕ) : Type 0 where
@@ -132,11 +132,11 @@ not_based d (c ∷ u) h = go (d == 48) (c == 98) (c == 111) (c == 120) h
     go true false true r h = absurd (cc)
     go true false false true h = absurd (cc)
 
--- A text at which the lexer consumes nothing begins with no suffix.
+-- If the lexer consumes no suffix at the start of a text, the text doesn't begin with the first character of an identifier.
 letter_taken : (k : ℕ) (t : List ℕ) → is_start k ≡ true → after_suffix (k ∷ t) ≡ k ∷ t → ⊥
 letter_taken k t is h = no_longer is_continue k t (sym (ap (λ b. cond b (after_run is_continue t) (k ∷ t)) is) ∙ h)
 
--- A text at which a decimal number ends doesn't begin with the letter of a base.
+-- If the lexer ends a decimal number at the start of a text, the text doesn't begin with the letter of a base.
 base_taken : (c : ℕ) (t : List ℕ) → is_base_letter c ≡ true → after_decimal (c ∷ t) ≡ c ∷ t → ⊥
 base_taken c t is h = go (c == 120) (c == 111) refl refl is
   where
@@ -152,7 +152,7 @@ no_base_after : (y : List ℕ) → after_decimal y ≡ y → first_passes is_bas
 no_base_after [] h = refl
 no_base_after (c ∷ t) h = false_unless (is_base_letter c) (λ is. base_taken c t is h)
 
--- Whether the number would continue with a base prefix.
+-- Whether the digit `d` and the text `u` after it begin with the prefix of a base, for example `0x`.
 abbrev turns : ℕ → List ℕ → Bool
 turns d u = d == 48 && first_passes is_base_letter u
 
@@ -178,7 +178,7 @@ at_digit : (t y : List ℕ) (s : DecimalForm t) → lexeme_at (t ++ y)
 at_digit t y s = ap (λ z. lexeme_at (z ++ y)) s.text_is ∙ at_class s.digit (s.more ++ y) DigitHead
     (class_digit s.digit s.is_digit)
 
--- If the lexer reads the text before `y` as one token, its parser of decimal numbers ends at `y`.
+-- If the lexer reads a decimal number before the text `y` as one token, its parser of decimal numbers ends at `y`.
 pub decimal_ends : (t y : List ℕ) (f : LexemeForm) (s : DecimalForm t) → lexeme_at (t ++ y) ≡ Some (f, y)
     → (f ≡ LiteralForm) × (after_decimal (s.more ++ y) ≡ y)
 decimal_ends t y f s h =
@@ -192,12 +192,12 @@ decimal_goes t y f s e h =
     ∙ ap (λ z. Some (LiteralForm, z)) (chosen s.digit (s.more ++ y) (no_turn_new s.digit s.more y s.is_decimal h) ∙ h)
     ∙ ap (λ z. Some (z, y)) (sym e)
 
--- ---- the parts of a decimal number
+-- ---- the lexer consumes the parts of a decimal number
 
 abbrev is_part : ℕ → Bool
 is_part c = is_run_part is_ascii_digit c
 
--- The lexer consumes the digits, whatever text follows.
+-- The lexer's parser of decimal numbers consumes digits and underscores, and continues after them.
 pub digits_gone : (more z : List ℕ) → list_all is_part more ≡ true → after_decimal (more ++ z) ≡ after_decimal z
 digits_gone more z h = ap (λ s. after_suffix (after_lexed_exponent (after_lexed_fraction s)))
     (run_through is_part more z h)
@@ -205,7 +205,8 @@ digits_gone more z h = ap (λ s. after_suffix (after_lexed_exponent (after_lexed
 stands : (test : ℕ → Bool) (t : List ℕ) → first_passes test t ≡ false → after_run test t ≡ t
 stands test t h = run_past test [] t (record { each = refl; ends = h })
 
--- The lexer consumes a dot and the digits after it.
+-- The lexer's parser of decimal numbers consumes a dot and the digits after it. After them, it continues with an exponent and
+-- a suffix.
 pub fraction_gone : (f z : List ℕ) → IsDigits f → after_decimal (46 ∷ f ++ z) ≡ after_suffix (after_lexed_exponent
     (after_run is_part z))
 fraction_gone [] z (first, each) = absurd (cc)
@@ -223,7 +224,7 @@ letter_fails test c lower upper h =
       | inr a ↦ subst (λ (x : ℕ). test x ≡ false) (sym (eqb-true c 69 a)) upper
     ]
 
--- A sequence with a digit begins with a digit after its leading underscores.
+-- If a sequence of digits and underscores contains a digit, it begins with a digit after its leading underscores.
 row_digit : (row w : List ℕ) → list_all is_part row ≡ true → list_any is_ascii_digit row ≡ true
     → first_passes is_ascii_digit (after_run is_underscore (row ++ w)) ≡ true
 row_digit [] w each some = absurd (cc)
@@ -241,7 +242,7 @@ row_digit (c ∷ row) w each some =
         let e : (c == 95) ≡ true = ap (λ b. b || c == 95) (sym digit) ∙ here in
         ap (λ b. first_passes is_ascii_digit (cond b (after_run is_underscore (row ++ w)) (c ∷ row ++ w))) e ∙ rest more
 
--- A sequence with a digit doesn't begin with a sign.
+-- If a sequence of digits and underscores contains a digit, it doesn't begin with a sign.
 row_unsigned : (row w : List ℕ) → list_all is_part row ≡ true → list_any is_ascii_digit row ≡ true
     → after_sign (row ++ w) ≡ row ++ w
 row_unsigned [] w each some = absurd (cc)
@@ -268,7 +269,7 @@ power_gone letter u row w is e each some =
     ∙ ap (λ b. cond b (after_run is_part (after_sign u)) (letter ∷ u)) digit
     ∙ ap (after_run is_part) e ∙ run_through is_part row w each
 
--- The lexer consumes an exponent whose letter is the next character.
+-- If a text begins with an exponent, the lexer's parser of exponents consumes it, and the digits and underscores after it.
 exponent_gone : (e w : List ℕ) → IsStrictExponent e → after_lexed_exponent (e ++ w) ≡ after_run is_part w
 exponent_gone e w s =
     ap (λ z. after_lexed_exponent (z ++ w)) s.text
@@ -276,7 +277,7 @@ exponent_gone e w s =
     ∙ power_gone s.letter (s.sign ++ (s.run ++ w)) s.run w s.is_letter
     (sign_gone s.sign s.run w s.is_sign s.each s.some) s.each s.some
 
--- A test that fails for the letters of exponents fails for the first character of an exponent.
+-- If `e` and `E` fail a test, the first character of each exponent fails it.
 exponent_stands : (test : ℕ → Bool) (e w : List ℕ) → IsStrictExponent e → test 101 ≡ false → test 69 ≡ false
     → first_passes test (e ++ w) ≡ false
 exponent_stands test e w s a b = ap (λ z. first_passes test (z ++ w)) s.text
@@ -286,7 +287,7 @@ no_dot : (s : List ℕ) → first_passes (λ c. c == 46) s ≡ false → begins_
 no_dot [] h = refl
 no_dot (c ∷ t) h = ap (λ b. b && not (first_passes (λ d. d == 46 || is_start d) t)) h
 
--- The lexer consumes digits and an exponent.
+-- The lexer's parser of decimal numbers consumes digits and an exponent. After them, it continues with a suffix.
 pub power_ends : (more e w : List ℕ) → list_all is_part more ≡ true → IsStrictExponent e
     → after_decimal (more ++ (e ++ w)) ≡ after_suffix (after_run is_part w)
 power_ends more e w each s =
@@ -297,7 +298,8 @@ power_ends more e w each s =
     (no_dot (e ++ w) (exponent_stands (λ c. c == 46) e w s refl refl))
     ∙ ap after_suffix (exponent_gone e w s)
 
--- The lexer consumes digits, a dot, digits and an exponent.
+-- The lexer's parser of decimal numbers consumes digits, a dot, digits and an exponent. After them, it continues with a
+-- suffix.
 pub pointed_power_ends : (more f e w : List ℕ) → list_all is_part more ≡ true → IsDigits f → IsStrictExponent e
     → after_decimal (more ++ (46 ∷ f ++ (e ++ w))) ≡ after_suffix (after_run is_part w)
 pointed_power_ends more f e w each digits s =
@@ -306,7 +308,7 @@ pointed_power_ends more f e w each digits s =
     (stands is_part (e ++ w) (exponent_stands is_part e w s refl refl))
     ∙ ap after_suffix (exponent_gone e w s)
 
--- ---- digits and suffixes continue as an identifier does
+-- ---- a sequence of digits and a suffix contain only characters of identifiers
 
 pub row_goes_on : (n : ℕ) (row : List ℕ) → n ≤ 16 → list_all (is_run_part (λ d. nat_lt (digit_value d) n)) row ≡ true
     → list_all is_continue row ≡ true

@@ -15,12 +15,13 @@ use Rattle.rl_style.proofs.UnitTexts.{itself_restyled}
 use Rattle.rl_style.proofs.UnitRows.{digit_ascii, digit_bytes}
 use Rattle.rl_syntax.specs.Texts.{first_passes}
 
--- ---- one character of a raw string
+-- ---- the new form of one character of a raw string
 
 abbrev unit_by : Bool → Bool → ℕ → StrictUnit
 unit_by a b c = cond a (QuoteEscape c) (cond b (PlainEscape c) (Itself c))
 
--- A property holds for the new form of a character if it holds for each of the three forms that this may be.
+-- A character of a raw string becomes an escaped quote, an escaped backslash or the character itself. If a property holds for
+-- each of these three forms, it holds for the new form of the character.
 raw_any : (P : StrictUnit → Type 0) (c : ℕ) → ((c == 34) ≡ true → P (QuoteEscape c))
     → ((c == 92) ≡ true → P (PlainEscape c)) → ((c == 34) ≡ false → (c == 92) ≡ false → P (Itself c)) → P (raw_unit c)
 raw_any P c quote backslash other = go (c == 34) (c == 92) refl refl
@@ -52,7 +53,7 @@ c_unit c some h = raw_any (λ u. is_strict_unit CStr u ≡ true) c (quote_is c)
     (λ e. ap (λ z. is_plain_letter z && not (z == 48)) (eqb-true c 92 e))
     (λ a b. and_from (is_bare_in_string c) (not (c == 0)) (bare_is c a b h) some)
 
--- ---- the content of a raw string
+-- ---- the content of a raw string, as characters and escapes
 
 no_return : (c : ℕ) (cs : List ℕ) → list_all (λ c. not (c == 13)) (c ∷ cs) ≡ true
     → (not (c == 13) ≡ true) × (list_all (λ c. not (c == 13)) cs ≡ true)
@@ -114,7 +115,7 @@ raw_contents k (c ∷ cs) =
     ap (λ z. z ++ flat_map (strict_contents (strict_content_of k)) (map raw_unit cs)) (one_content k c)
     ∙ ap (λ z. strict_content_of k (c ∷ []) ++ z) (raw_contents k cs) ∙ joined_content k c cs
 
--- ---- the string with escapes
+-- ---- the string with escapes that replaces a raw string
 
 abbrev pub escaped_text : Kind → List ℕ → List ℕ → List ℕ
 escaped_text k inside x = strict_opener k ++ (flat_map strict_text (map raw_unit inside) ++ (strict_closer k ++ x))
@@ -160,7 +161,7 @@ lost_stays style front t u c = cooked_stays style (escaped_text c.kind c.raw.ins
   new_is = c.new_is;
 })
 
--- ---- the text that the code writes
+-- ---- the text that the code writes for a raw string
 
 -- The quote that would close the string keeps its backslash.
 quote_kept : (style : Style) (k : Kind) (z : Bool) (c : ℕ) → is_string k ≡ true → (c == 34) ≡ true
@@ -187,7 +188,7 @@ one_text style k z c s = go (c == 34) (c == 92) refl refl
     go false true e f = refl
     go false false e f = itself_restyled style k z z c refl
 
--- The value of a character begins with a digit if and only if the character is one.
+-- The value of a character begins with an ASCII digit if and only if the character is an ASCII digit.
 digit_content : (k : Kind) (c : ℕ) → first_passes is_ascii_digit (strict_content_of k (c ∷ [])) ≡ is_ascii_digit c
 digit_content CStr c = digit_ascii (encode_utf8_all (c ∷ [])) ∙ sym (digit_bytes c)
 digit_content Str c = refl

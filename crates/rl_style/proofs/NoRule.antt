@@ -17,7 +17,7 @@ use Rattle.rl_style.proofs.CaseLemmas.{none_right}
 use Rattle.rl_style.proofs.SameFloats.{run_joined}
 use Rattle.rl_style.proofs.SameRaw.{raw_followed, raw_string}
 
--- ---- numbers without a rule
+-- ---- a style without rules doesn't change numbers
 
 character_kept : (style : Style) (drops hex : Bool) (c : ℕ) → HasNoRule style → drops ≡ false
     → number_character style drops hex c ≡ c ∷ []
@@ -117,7 +117,7 @@ float_kept style t u n (inl c) =
     c.new_is ∙ ap (λ z. z ++ (separator style x ++ x)) (numeral_same style x c.float.numeral n)
     ∙ ap (λ z. c.float.numeral ++ (z ++ x)) (unseparated style x n) ∙ sym c.float.text
 
--- ---- quoted literals without a rule
+-- ---- a style without rules doesn't change quoted literals
 
 raw_kept : (style : Style) (front t u : List ℕ) → HasNoRule style → RewritesRaw style front t u → u ≡ t
 raw_kept style front t u n (inl c) =

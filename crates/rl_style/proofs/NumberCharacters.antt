@@ -12,14 +12,14 @@ use Rattle.rl_style.specs.declared.style.Case.TheVariants.{Lower, Upper}
 use Rattle.rl_style.specs.Cases.{cased, exponent_letter}
 use Rattle.rl_style.proofs.CaseLemmas.{cased_underscore, cased_value, none_right, twice_cased}
 
--- The new characters for a character. The flags are true if underscores are dropped, if the number is hexadecimal, and if a
--- plus is dropped. The case of the digits and that of an exponent's letter are the next arguments.
+-- The new characters for a character of a number. The three flags are true if underscores are dropped, if the number is
+-- hexadecimal, and if a plus is dropped. The next arguments are the case of the digits and the case of an exponent's letter.
 abbrev pub becomes : Bool → Bool → Bool → Option Case → Option Case → ℕ → List ℕ
 becomes drops hex plus digits letter c =
     cond ((drops && c == 95) || ((not hex && plus) && c == 43)) []
     (cond hex (cased digits c) (exponent_letter letter c) ∷ [])
 
--- ---- hexadecimal numbers
+-- ---- the new characters of hexadecimal numbers
 
 hex_dropped : (b plus : Bool) (digits letter : Option Case) (c : ℕ) → b ≡ true
     → cond (b || ((not true && plus) && c == 43)) [] (cond true (cased digits c) (exponent_letter letter c) ∷ []) ≡ []
@@ -32,7 +32,7 @@ hex_kept : (b plus : Bool) (digits letter : Option Case) (c : ℕ) → b ≡ fal
 hex_kept true plus digits letter c h = absurd (cc)
 hex_kept false plus digits letter c h = refl
 
--- ---- numbers of another base
+-- ---- the new characters of numbers of other bases
 
 letter_stays : (letter : Option Case) (c : ℕ) → (c == 69) ≡ false → (c == 101) ≡ false → exponent_letter letter c ≡ c
 letter_stays None c a b = refl
@@ -60,9 +60,9 @@ pub stays : (drops plus : Bool) (digits letter : Option Case) (c : ℕ) → (c =
 stays drops plus digits letter c n p l u = other_kept (drops && c == 95) plus digits letter c
     (ap (λ z. drops && z) n ∙ none_right drops) p l u
 
--- ---- sequences of characters
+-- ---- the new characters of a sequence of digits
 
--- A character becomes one with an equal value, or is an underscore that is dropped.
+-- The function `f` replaces the character `c` by a character with an equal value, or `c` is an underscore that `f` drops.
 abbrev pub Keeps : (ℕ → List ℕ) → ℕ → Type 0
 Keeps f c =
     ((f c ≡ []) × ((c == 95) ≡ true))
@@ -90,7 +90,7 @@ hex_keeps drops plus digits letter (c ∷ cs) = (
       cased_underscore digits c,
     )
 
--- A character is unchanged, or is an underscore that is dropped.
+-- The function `f` doesn't change the character `c`, or `c` is an underscore that `f` drops.
 abbrev pub Stays : (ℕ → List ℕ) → ℕ → Type 0
 Stays f c = ((f c ≡ []) × ((c == 95) ≡ true)) ⊎ (f c ≡ c ∷ [])
 
@@ -151,7 +151,7 @@ some_kept f base (c ∷ cs) k n =
           ∙ ap₂ (λ v b. nat_lt v base || b) a.2 more
     ]
 
--- Two sequences of digits with equal values, one by one.
+-- Two sequences of digits have equally many digits, and the digits at each position have equal values.
 abbrev Alike : List ℕ → List ℕ → Type 0
 Alike [] [] = ⊤
 Alike (x ∷ xs) (y ∷ ys) = (digit_value x ≡ digit_value y) × Alike xs ys
@@ -195,7 +195,7 @@ pub number_kept : (f : ℕ → List ℕ) (base : ℕ) (run : List ℕ) → RowKe
     → place_value base (without_underscores (flat_map f run)) ≡ place_value base (without_underscores run)
 number_kept f base run k = (alike_value base _ _ (bare_alike f run k)).1
 
--- ---- decimal digits
+-- ---- the new characters of decimal digits
 
 pub digits_each : (f : ℕ → List ℕ) (run : List ℕ) → RowStays f run → list_all (is_run_part is_ascii_digit) run ≡ true
     → list_all (is_run_part is_ascii_digit) (flat_map f run) ≡ true
@@ -232,7 +232,7 @@ digits_stay f (c ∷ cs) k h = (first k.0, digits_each f (c ∷ cs) k h.1)
     first (inl a) = absurd (let e : false ≡ true = sym (ap is_ascii_digit (eqb-true c 95 a.1)) ∙ h.0 in cc)
     first (inr a) = ap (λ z. first_passes is_ascii_digit (z ++ flat_map f cs)) a ∙ h.0
 
--- If no underscore is dropped, all characters are unchanged.
+-- If no underscore is dropped, rewriting a sequence of decimal digits changes no character.
 pub row_kept : (test : ℕ → Bool) (plus : Bool) (digits letter : Option Case) (run : List ℕ) → test 43 ≡ false
     → test 69 ≡ false → test 101 ≡ false → list_all test run ≡ true
     → flat_map (becomes false false plus digits letter) run ≡ run
@@ -243,7 +243,7 @@ row_kept test plus digits letter (c ∷ cs) p l u h =
     (apart test c 43 q.0 p) (apart test c 69 q.0 l) (apart test c 101 q.0 u))
     ∙ ap (λ z. c ∷ z) (row_kept test plus digits letter cs p l u q.1)
 
--- ---- a decimal number doesn't begin with a base prefix
+-- ---- a rewritten decimal number doesn't begin with a base prefix
 
 second_off : (a b : Bool) → b ≡ false → (a && (b && true)) ≡ false
 second_off a b h = ap (λ z. a && (z && true)) h ∙ none_right a
@@ -275,7 +275,7 @@ decimal_by (c ∷ b ∷ ds) z h n =
     let q = and_parts (test b) (list_all test ds) p.1 in
     second_tells c b (ds ++ z) (apart test b 98 q.0 refl) (apart test b 111 q.0 refl) (apart test b 120 q.0 refl)
 
--- ---- rewriting characters again changes nothing
+-- ---- if the characters of a number are rewritten again, nothing changes
 
 again_hex : (drops plus : Bool) (digits letter : Option Case) (c : ℕ)
     → flat_map (becomes drops true plus digits letter) (becomes drops true plus digits letter c)
@@ -300,7 +300,8 @@ again_hex drops plus digits letter c = go (cases_Bool (drops && c == 95))
         ∙ ap (λ z. z ∷ []) (twice_cased digits c))
         ∙ sym e
 
--- A property holds for each character if it holds for an underscore, a plus, `e`, `E`, and each other character.
+-- A property holds for each character if it holds for an underscore, for a plus, for `e`, for `E`, and for each other
+-- character.
 pub by_character : (P : ℕ → Type 0) (c : ℕ) → P 95 → P 43 → P 69 → P 101
     → ((c == 95) ≡ false → (c == 43) ≡ false → (c == 69) ≡ false → (c == 101) ≡ false → P c) → P c
 by_character P c under plus upper lower other =

@@ -17,7 +17,7 @@ use Rattle.rl_style.proofs.SameUnits.{cooked_strict}
 use Rattle.rl_style.proofs.UnitRows.{texts_once}
 use Rattle.rl_style.proofs.WrittenNumbers.{base_found}
 
--- ---- numbers
+-- ---- a number has one new text in a style
 
 -- The prefix of a base, for example `0x`.
 abbrev prefix_of : ℕ → List ℕ
@@ -57,7 +57,7 @@ styled_integer_once style t u w a b =
     ∙ ap (λ z. integer_of style b.int.base b.int.prefix z a.suffix) row
     ∙ ap (integer_of style b.int.base b.int.prefix b.int.run) suffix ∙ sym b.new_is
 
--- A rewritten integer has no mistyped suffix.
+-- An integer isn't both rewritten in a style and kept because its suffix may be mistyped.
 integers_apart : (style : Style) (t u w : List ℕ) → StylesInt style t u → KeepsInt t w → ⊥
 integers_apart style t u w a b =
     let one = one_strict t Int Int a.contents b.contents a.suffix b.suffix a.int b.int in
@@ -83,7 +83,7 @@ styled_float_once style t u w a b =
     ∙ ap (λ z. float_of style z a.suffix) numeral ∙ ap (float_of style b.float.numeral) suffix
     ∙ sym b.new_is
 
--- A rewritten float has no mistyped suffix.
+-- A float isn't both rewritten in a style and kept because its suffix may be mistyped.
 floats_apart : (style : Style) (t u w : List ℕ) → StylesFloat style t u → KeepsFloat t w → ⊥
 floats_apart style t u w a b =
     let one = one_strict t Float Float a.contents b.contents a.suffix b.suffix a.float b.float in
@@ -95,7 +95,7 @@ float_once style t u w (inl a) (inr b) = absurd (floats_apart style t u w a b)
 float_once style t u w (inr a) (inl b) = absurd (floats_apart style t w u b a)
 float_once style t u w (inr a) (inr b) = a.new_is ∙ sym b.new_is
 
--- ---- raw strings
+-- ---- a raw string has one new text in a style
 
 fewest_once : (k : Kind) (inside : List ℕ) (n m : ℕ) → HasFewestHashes k inside n → HasFewestHashes k inside m → n ≡ m
 fewest_once k inside n m a b =
@@ -112,7 +112,7 @@ hashes_once : (rule : Bool) (k : Kind) (inside : List ℕ) (old n m : ℕ) → H
 hashes_once true k inside old n m a b = fewest_once k inside n m a b
 hashes_once false k inside old n m a b = a ∙ sym b
 
--- The parts of a raw string are determined by its text.
+-- The text of a raw string determines its number of hashes and its content.
 raw_parts_once : (t : List ℕ) (k : Kind) (v w : Contents) (x : List ℕ) → (a : StrictRaw t k v x)
     → (b : StrictRaw t k w x)
     → (a.hashes ≡ b.hashes) × (a.inside ≡ b.inside)
@@ -177,7 +177,7 @@ loses_once style front t u w a b =
     let parts = raw_parts_once t a.kind a.contents b.contents a.suffix a.raw s in
     a.new_is ∙ ap (λ i. unraw_text style a.kind i a.suffix) parts.1 ∙ sym new_is
 
--- A raw string doesn't both stay raw and lose its `r`.
+-- A raw string doesn't both stay a raw string and lose its `r`.
 never_both : (style : Style) (front t u w : List ℕ) → StaysRaw style front t u → LosesRaw style front t w → ⊥
 never_both style front t u w a b =
     let (s, new_is, loses) = loses_as style front t w a.kind a.contents a.suffix
@@ -203,7 +203,7 @@ was_raw : (style : Style) (front t u : List ℕ) → RewritesRaw style front t u
 was_raw style front t u (inl a) = record { kind = a.kind; contents = a.contents; suffix = a.suffix; raw = a.raw }
 was_raw style front t u (inr a) = record { kind = a.kind; contents = a.contents; suffix = a.suffix; raw = a.raw }
 
--- ---- quoted literals with escapes
+-- ---- a quoted literal with escapes has one new text in a style
 
 abbrev CookedAs : Style → List ℕ → List ℕ → Contents → Kind → List ℕ → Type 0
 CookedAs style t w v k x =
@@ -256,7 +256,7 @@ raw_quoted ByteStr h = (λ e. absurd (cc), λ e. absurd (cc), λ e. absurd (cc))
 raw_quoted CStr h = (λ e. absurd (cc), λ e. absurd (cc), λ e. absurd (cc))
 raw_quoted kind h = absurd (cc)
 
--- ---- a literal isn't both raw and one with escapes
+-- ---- a literal isn't both a raw string and a literal with escapes
 
 raw_not_cooked : (k : Kind) (y z : List ℕ) → is_string k ≡ true → strict_raw_opener k ++ y ≡ strict_opener k ++ z → ⊥
 raw_not_cooked Str y z s e = both_ways false refl (ap first_quote e)
@@ -279,12 +279,12 @@ raw_apart style t w a b =
     ∙ ap (λ k. strict_opener k ++ (flat_map strict_text b.cooked.units ++ (strict_closer b.kind ++ b.suffix)))
     (sym one.0))
 
--- ---- a literal has exactly one new text
+-- ---- a literal has exactly one new text in a style
 
 clash : (t : List ℕ) (k l : Kind) (v w : Contents) (x y : List ℕ) → Strict t k v x → Strict t l w y → (k ≡ l → ⊥) → ⊥
 clash t k l v w x y a b n = n (one_strict t k l v w x y a b).0
 
--- The text is an integer with this value and this suffix.
+-- The text is an integer with some value and some suffix.
 abbrev WasInt : List ℕ → Type 0
 WasInt t = (v : Contents) × (x : List ℕ) × StrictInt t v x
 
@@ -292,7 +292,7 @@ was_int : (style : Style) (t u : List ℕ) → RewritesInt style t u → WasInt 
 was_int style t u (inl a) = (a.contents, a.suffix, a.int)
 was_int style t u (inr a) = (a.contents, a.suffix, a.int)
 
--- The text is a float with this value and this suffix.
+-- The text is a float with some value and some suffix.
 abbrev WasFloat : List ℕ → Type 0
 WasFloat t = (v : Contents) × (x : List ℕ) × StrictFloat t v x
 

@@ -1,4 +1,4 @@
--- At most one start of a text has a given length in bytes.
+-- A text has at most one prefix of a given length in bytes.
 use Rattle.rl_syntax.proofs.Common.{◌≡◌, ℕ, List, [], ◌∷◌, ◌++◌, length, refl, sym, ◌∙◌, ap, arith, encode_utf8, encode_utf8_all, len_utf8_bounds, length-encode}
 use Rattle.std.proofs.Common.{length-append}
 use Rattle.rl_syntax.specs.Texts.{byte_len}

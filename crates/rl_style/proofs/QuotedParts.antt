@@ -1,4 +1,4 @@
--- The parts of a quoted literal token are those of its parse result.
+-- If a quoted literal token is parsed, its body and its suffix are those of the parse result.
 use Rattle.rl_syntax.proofs.Common.{◌≡◌, ◌≢◌, ℕ, ◌<◌, ◌||◌, Bool, true, false, not, ◌==◌, List, [], ◌∷◌, ◌++◌, length, replicate, Some, None, refl, sym, ap, subst, ◌∙◌, inl, inr, append_assoc, append_cancel_right, both_ways, or_left, or_right, is_ascii_digit, flat_map, list_all}
 use Rattle.std.specs.Str.{chars}
 use Rattle.rl_syntax.proofs.Basics.{apart, hashes_all}
@@ -29,7 +29,7 @@ use Rattle.rl_style.specs.Mirrors.{OpensAs, CookedParts, RawParts}
 use Rattle.rl_style.specs.Rewriting.{KeepsTruth}
 use Rattle.rl_style.proofs.SameRaw.{length_hashes, raw_joined}
 
--- ---- a token has the form that its opening delimiter identifies
+-- ---- the opening delimiter identifies the form of a token
 
 number_front : (t : List ℕ) → begins_number t ≡ true → opener_at t ≡ None
 unfolding opener_at
@@ -73,7 +73,7 @@ form_same f g k l a b e =
     let same : ◌≡◌ {A = QuotedForm × Kind × List ℕ} (f, k, a) (g, l, b) = cc in
     ap (λ (p : QuotedForm × Kind × List ℕ). p.0) same
 
--- ---- the kinds of quoted literals
+-- ---- the delimiters of quoted literals of each kind
 
 opener_same : (k : Kind) → opener k ≡ strict_opener k
 opener_same Str = refl
@@ -115,7 +115,7 @@ as_reads t Byte v x h r = r
 as_reads t Char v x h r = r
 as_reads t kind v x h r = absurd (cc)
 
--- ---- literals with escapes
+-- ---- the body and the suffix of a literal with escapes
 
 units_tree : (k : Kind) (t r : List ℕ) → t ≡ strict_opener k ++ r → (c : ClosesUnits k r)
     → StrictCooked t k (quoted_contents k (flat_map (strict_contents (strict_content_of k)) c.units)) c.suffix
@@ -146,7 +146,7 @@ cooked_from k t b x v e c reads =
       text_is = e;
     }
 
--- ---- raw strings
+-- ---- the content and the suffix of a raw string
 
 inside_tree : (k : Kind) (t r : List ℕ) → t ≡ strict_raw_opener k ++ r → (c : ClosesRaw k r)
     → StrictRaw t k (quoted_contents k (strict_content_of k c.closes.inside)) c.closes.suffix
@@ -196,7 +196,7 @@ raw_from k t b x h v e c reads =
       text_is = e;
     }
 
--- ---- a literal that is closed has a parse result
+-- ---- a quoted literal that is closed has a parse result
 
 form_quoted : (form : QuotedForm) (k : Kind) → has_form form k ≡ true → is_quoted k ≡ true
 form_quoted CookedForm k h = or_left (is_string k) (is_single k) h
@@ -216,7 +216,7 @@ inside k t r e c = let tree = inside_tree k t r e c in (
       (inr tree),
 )
 
--- ---- the parts by the form
+-- ---- the body and the suffix of a quoted literal of any form
 
 record Told (form : QuotedForm) (kind : Kind) (t r : List ℕ) : Type 0 where
   has : has_form form kind ≡ true
@@ -289,7 +289,7 @@ raw_by RawForm kind t v b x token p is =
     (as_reads t kind (quoted_contents kind v) x (or_left (is_string kind) (is_single kind) o.has)
     (parts_read RawForm kind t v b x p))
 
--- The parts of a literal determine how its text begins.
+-- If a text has the parts of a quoted literal, it begins with the opening delimiter of this literal's kind and form.
 parts_begin : (form : QuotedForm) (kind : Kind) (t v b x : List ℕ) → PartsAre form kind t v b x → OpensAs form kind t
 parts_begin CookedForm kind t v b x p = (_, told_front CookedForm kind t _ (cooked_told kind t v b x p))
 parts_begin SingleForm kind t v b x p = (_, told_front SingleForm kind t _ (single_told kind t v b x p))
@@ -377,7 +377,7 @@ no_other form kind t (FloatRead at) (rest, h) (place, (v, s)) a b = no_number fo
     (_, _, inr s)
 no_other form kind t (TruthRead truth) begins reads a b = no_word form kind (chars t) truth begins reads
 
--- ---- `true` and `false`
+-- ---- the tokens `true` and `false`
 
 number_digit : (t : List ℕ) → IsStrictNumber t → first_passes is_ascii_digit t ≡ true
 number_digit t (v, x, inl s) =

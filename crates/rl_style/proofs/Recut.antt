@@ -130,7 +130,8 @@ token_full (DocBlockToken i) t is = tt
 token_full (BadQuoteToken q) t is = absurd is
 token_full (StrayToken c) t is = absurd is
 
--- White space and comments are skipped before any text that begins with neither.
+-- The text `t` ends with the text `u`. If another text without white space and comments at its start takes the place of `u`,
+-- the lexer still skips the text before `u`.
 abbrev pub SkipsTo : List ℕ → List ℕ → Type 0
 SkipsTo t u = (front : List ℕ) × (t ≡ front ++ u) × ((v : List ℕ) → after_piece v ≡ None → Skipped (front ++ v) v)
 
@@ -142,9 +143,10 @@ skips_to t u full (inl s) = (
 )
 skips_to t u full (inr s) = absurd (subst IsFull s.nothing full)
 
--- ---- the tokens after the literal
+-- ---- the tokens after the replaced literal
 
--- A token begins at the byte offset of the text, plus the number of bytes of the text before the token.
+-- The byte offset of a token is the offset of the text that contains it, plus the number of bytes of this text before the
+-- token.
 pub offset_of_rest : (at k : ℕ) (t f u : List ℕ) → t ≡ f ++ u → k + byte_len u ≡ at + byte_len t → k ≡ at + byte_len f
 offset_of_rest at k t f u e place = omega (arith, place, ap byte_len e, byte_len-append f u)
 
@@ -170,9 +172,9 @@ shifted at from to t (w ∷ ws) r low (after, skipped, is, place, more) =
           (shifted (source_end w) from to after ws r end more),
     )
 
--- ---- the whole text
+-- ---- the tokens of the whole text
 
--- If a text ends with neither a hash nor a dot, neither does its second part.
+-- If a text ends with neither a hash nor a dot, its second part ends with neither.
 may_drop : (a b : List ℕ) → may_precede_quote (a ++ b) ≡ true → may_precede_quote b ≡ true
 may_drop [] b h = h
 may_drop (c ∷ []) [] h = refl
@@ -189,7 +191,8 @@ pub record Unquoted (lead old new : List ℕ) : Type 0 where
   pub old_is : old ≡ front ++ (114 ∷ raw)
   pub new_is : new ≡ front ++ (34 ∷ quoted)
 
--- If the old and the new text follow `lead`, no token before can distinguish them.
+-- The old text `a` and the new text `b` follow the text `lead`. They begin so alike that each token of `lead` before the old
+-- text is also a token before the new text.
 abbrev pub Begun : List ℕ → List ℕ → List ℕ → Type 0
 Begun lead a b = SameFront a b ⊎ Unquoted lead a b
 
@@ -216,7 +219,8 @@ alike_stays lead w a b (inr (inr u)) is =
     subst (λ (z : List ℕ). IsProper w z) (sym u.new_is)
     (unraws_around w u.front u.raw u.quoted (may_drop lead u.front u.may) old)
 
--- The new tokens, and the properties that the tokens before them need. The text follows the text `lead`.
+-- In the text `t`, the literal `new` replaces the literal `old`. The new text has the old tokens before and after the literal.
+-- The text `t` follows the text `lead`.
 pub record Recut (lead : List ℕ) (at : ℕ) (t : List ℕ) (before after : List CutSource) (old new : Lexeme) (place : ℕ)
     (r : List ℕ) : Type 0 where
   pub front : List ℕ
@@ -227,7 +231,7 @@ pub record Recut (lead : List ℕ) (at : ℕ) (t : List ℕ) (before after : Lis
   pub cuts : SourcesUpTo at (front ++ (lexeme_text new ++ rest)) (before ++ (placed_literal new place
       ∷ moved (place + byte_len (lexeme_text old)) (place + byte_len (lexeme_text new)) after)) r
 
--- The text after the literal, before which the literal is a token.
+-- Returns the text after the literal `old`, by the tokens of the whole text.
 abbrev pub literal_rest : (at : ℕ) (t : List ℕ) (before after : List CutSource) (old : Lexeme) (place : ℕ) (r : List ℕ)
     → SourcesUpTo at t (before ++ (placed_literal old place ∷ after)) r → List ℕ
 literal_rest at t [] after old place r (rest, skipped, is, place_is, more) = rest
@@ -241,7 +245,8 @@ literal_is at t [] after old place r (rest, skipped, is, place_is, more) = is
 literal_is at t (d ∷ before) after old place r (u, skipped, is, place_is, more) = literal_is (source_end d) u before
     after old place r more
 
--- The new literal is a token where the old one is, and no token before can distinguish them.
+-- The literal `new` is a token before the text `rest`, as the literal `old` is. Each token that is lexed before the old
+-- literal is also lexed before the new one.
 abbrev pub Follows : List ℕ → ℕ → List ℕ → Lexeme → Lexeme → ℕ → List ℕ → Type 0
 Follows lead at t old new place rest =
     IsLexeme new rest
@@ -381,7 +386,8 @@ ends_follow : (lead : List ℕ) (at : ℕ) (t : List ℕ) (old new : Lexeme) (pl
 ends_follow lead at t old new place rest ends is =
     let (new_is, same) = keeps_its_ends old new rest ends is in (new_is, λ f e k. inr (inl same))
 
--- A new literal with the form, prefix and suffix of the old one is a token.
+-- If a new literal is well formed, and has the kind, the prefix and the suffix of the old one, as `SameEnds` states, it may
+-- replace the old one in a text: all other tokens are lexed as before.
 pub recut_ends : (lead : List ℕ) (at : ℕ) (t : List ℕ) (before after : List CutSource) (old new : Lexeme) (place : ℕ)
     (r : List ℕ)
     → SourcesUpTo at t (before ++ (placed_literal old place ∷ after)) r → AllByRecursion IsSound before

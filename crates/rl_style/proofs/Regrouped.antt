@@ -16,13 +16,13 @@ use Rattle.rl_style.proofs.GroupRows.{clear_ending, mark, not_false, only_ending
 use Rattle.rl_style.proofs.NumberCharacters.{Keeps, RowKeeps, becomes}
 use Rattle.rl_style.proofs.Trimmed.{IsTrim, passing_chars, none_of, only}
 
--- ---- a sequence in groups, or unchanged
+-- ---- a sequence of digits that is divided into groups, or unchanged
 
 pub ends_none : (from_first : Bool) (size count : ℕ) → ends from_first size count 0 ≡ false
 ends_none false size count = ap (λ b. b && 0 % size == 0) (none_right (nat_lt 0 size))
 ends_none true size count = refl
 
--- The test whether an underscore follows a digit, by the number of digits after it.
+-- Whether an underscore follows a digit, according to the number of digits after it.
 abbrev pub tests : Bool → ℕ → ℕ → ℕ → ℕ → Bool
 tests from_first size least count = ends from_first (group_size size least count) count
 
@@ -50,7 +50,7 @@ pub grouped_some : (p : ℕ → Bool) (from_first : Bool) (size least : ℕ) (ru
 grouped_some p from_first size least run n h = either (λ z. list_any p z ≡ true) from_first size least run h
     (row_some p (tests from_first size least (length (without_underscores run))) run n h)
 
--- Whether a sequence contains a character that passes a test, by the characters that pass.
+-- A sequence contains a character that passes a test if and only if the list of the characters that pass isn't empty.
 any_passing : (p : ℕ → Bool) (cs : List ℕ) → list_any p cs ≡ first_passes (λ c. true) (passing_chars p cs)
 any_passing p [] = refl
 any_passing p (c ∷ cs) = go (p c) (any_passing p cs)
@@ -99,7 +99,7 @@ pub ungrouped : (from_first : Bool) (size least : ℕ) (run : List ℕ) → size
     → regrouped from_first size least run ≡ run
 ungrouped from_first size least run e = ap (λ z. regrouped from_first z least run) e
 
--- ---- characters that become one character, or underscores that are dropped
+-- ---- each character becomes one character, or is an underscore that is dropped
 
 abbrev pub Plain : (ℕ → List ℕ) → ℕ → Type 0
 Plain f c =
@@ -190,7 +190,7 @@ drops_all hex plus digits letter (c ∷ cs) =
     one false true e = refl
     one false false e = ap (λ z. not z && true) (new_under hex digits letter c ∙ e)
 
--- ---- underscores are dropped before or after the other characters are rewritten
+-- ---- it makes no difference whether underscores are dropped before or after the other characters are rewritten
 
 bare_character : (drops hex plus : Bool) (digits letter : Option Case) (c : ℕ)
     → without_underscores (becomes drops hex plus digits letter c)
@@ -222,7 +222,7 @@ bare_flat drops hex plus digits letter (c ∷ cs) =
     go true = refl
     go false = refl
 
--- ---- the underscores at the end of a sequence
+-- ---- the underscores at the end of a rewritten sequence
 
 only_flat : (f : ℕ → List ℕ) (run : List ℕ) → f 95 ≡ 95 ∷ [] → RowPlain f run → only (flat_map f run) ≡ only run
 only_flat f [] u k = refl
@@ -257,7 +257,7 @@ ending_flat f (c ∷ cs) u k =
       ]
     ]
 
--- ---- rewriting a sequence again changes nothing
+-- ---- if a sequence is rewritten again, nothing changes
 
 pub again_grouped : (drops hex plus : Bool) (digits letter : Option Case) (from_first : Bool) (size least : ℕ)
     (run : List ℕ) → flat_map (becomes drops hex plus digits letter) run ≡ run
@@ -302,7 +302,7 @@ again_grouped drops hex plus digits letter from_first size least run same plain 
         ap (λ z. in_groups from_first size least z ++ ending (flat_map f new)) bare
         ∙ ap (λ z. in_groups from_first size least (without_underscores run) ++ z) (last drops same p)
 
--- ---- the digits as the code writes them
+-- ---- the digits that the code writes
 
 count_same : (f : ℕ → List ℕ) (run : List ℕ) → RowPlain f run
     → length (without_underscores (flat_map f run)) ≡ length (without_underscores run)
@@ -322,7 +322,7 @@ count_same f (c ∷ cs) k =
     go true d e = e
     go false d e = omega (arith, e)
 
--- A sequence of underscores only has no digits.
+-- A sequence that consists of underscores has no digits.
 only_bare : (cs : List ℕ) → only cs ≡ true → without_underscores cs ≡ []
 only_bare cs h = none_of other cs refl h
 
@@ -382,7 +382,7 @@ placed_is f test (c ∷ cs) u k =
         ∙ sym (row_first test a.0 (flat_map f cs) other)
         ∙ ap (λ z. row_spaced test (z ++ flat_map f cs)) (sym a.1)
 
--- ---- writing one character after another
+-- ---- the code writes one character after another
 
 pub counted : (c : ℕ) (cs : List ℕ) → (c == 95) ≡ false
     → length (without_underscores (c ∷ cs)) ≡ 1 + length (without_underscores cs)

@@ -1,4 +1,5 @@
--- A rewritten literal is one token if the old literal is one, and no token before it can distinguish the two.
+-- A rewritten literal is one token if the old literal is one. Each token before the old literal is also lexed before the new
+-- one.
 use Rattle.rl_syntax.proofs.Common.{◌≡◌, ℕ, ◌≤◌, ◌⊎◌, nat_lt, digit_value, ◌||◌, inl, inr, Bool, true, false, not, ◌==◌, cond, length, lit<, List, [], ◌∷◌, ◌++◌, Some, refl, sym, ◌∙◌, ap, subst, arith, append_assoc, and_from, and_parts, codes, list_all, list_all-append, is_ascii_digit}
 use Rattle.rl_syntax.specs.Texts.{first_passes, is_among, is_continue, is_run_part, is_start}
 use Rattle.rl_syntax.specs.Classes.{after_run}
@@ -25,14 +26,15 @@ use Rattle.rl_style.proofs.SameIntegers as integers
 use Rattle.rl_style.proofs.SameRaw as raws
 use Rattle.rl_style.proofs.SameUnits as units
 
--- If the old text is a token, the new text is one too. Both texts begin so that no token before can distinguish them.
+-- If the old text `t` is a token before the text `y`, the new text `u` is one too. The old and the new text begin alike.
 pub record Replaces (t u y : List ℕ) : Type 0 where
   pub goes : (f : LexemeForm) → lexeme_at (t ++ y) ≡ Some (f, y) → lexeme_at (u ++ y) ≡ Some (f, y)
   pub front : (z : List ℕ) → SameFront (t ++ y) (u ++ z)
 
--- ---- quoted literals
+-- ---- a rewritten quoted literal is one token
 
--- The old and the new literal are strings with one prefix.
+-- If the old and the new literal are strings with escapes, and have one kind and one suffix, the new literal may replace the
+-- old one.
 strings_replace : (k : Kind) (t u x y : List ℕ) (v w : Contents) → StringKind k → StrictCooked t k v x
     → StrictCooked u k w x → Replaces t u y
 strings_replace k t u x y v w f a b =
@@ -98,9 +100,9 @@ raw_replace Int t u x y v w a b = absurd a.allowed
 raw_replace Float t u x y v w a b = absurd a.allowed
 raw_replace BoolKind t u x y v w a b = absurd a.allowed
 
--- ---- numbers
+-- ---- a rewritten number is one token
 
--- The old and the new number begin with a digit.
+-- If the old and the new text begin with a decimal digit, they begin alike.
 digits_front : (t u y z : List ℕ) (c d : ℕ) (m n : List ℕ) → t ≡ c ∷ m → u ≡ d ∷ n → is_ascii_digit c ≡ true
     → is_ascii_digit d ≡ true → SameFront (t ++ y) (u ++ z)
 digits_front t u y z c d m n e g a b = record {
@@ -128,7 +130,7 @@ decimals_replace t u y s r same = record {
   front = λ z. digits_front t u y z s.digit r.digit s.more r.more s.text_is r.text_is s.is_digit r.is_digit;
 }
 
--- A sequence of digits, and the text after it.
+-- The text `t` begins with the sequence of digits `run`, and continues with the text `z`.
 record DigitsThen (run z t : List ℕ) : Type 0 where
   form : DecimalForm t
   rest : List ℕ
@@ -210,7 +212,8 @@ integers_replace t u x y v w a b same = go a.is_front b.is_front
     go (inl f) (inr g) = absurd (not_ten b.prefix b.base g (same ∙ f.1))
     go (inr f) (inl g) = absurd (not_ten a.prefix a.base f (sym same ∙ g.1))
 
--- The text after a float, as the lexer splits it, by the form of the float.
+-- The text that the lexer leaves after the end of a float with the form `shape`. The text `z` follows the dot, the digits or
+-- the exponent with which the float ends.
 abbrev shape_end : FloatShape → List ℕ → List ℕ
 shape_end DotShape z = after_decimal (46 ∷ z)
 shape_end PointShape z = after_suffix (after_lexed_exponent (after_run (is_run_part is_ascii_digit) z))
@@ -258,7 +261,7 @@ float_parts t x v s (inr (inr (d, p, h, k, inr (f, g, e)))) =
     grouped : (r f p x y : List ℕ) → (r ++ (46 ∷ f ++ (p ++ x))) ++ y ≡ r ++ (46 ∷ f ++ (p ++ (x ++ y)))
     grouped r f p x y = simp append_assoc
 
--- If a number may end with a dot before the text `y`, it may also end with a dot and a zero there.
+-- If a number that ends with a dot is a token before the text `y`, it is also a token before `y` with a zero after the dot.
 dot_closes : (y : List ℕ) → after_decimal (46 ∷ y) ≡ y → shape_end PointShape y ≡ y
 dot_closes y h = go (first_passes (λ d. d == 46 || is_start d) y) h
   where
@@ -290,9 +293,10 @@ floats_replace closes t u x y v w a b same =
     decimals_replace t u y d.form e.form (λ h. e.ends y ∙ ap (λ z. shape_end z (x ++ y)) same
     ∙ float_closes closes a.numeral x y a.form (sym (d.ends y) ∙ h))
 
--- ---- raw strings that become strings with escapes
+-- ---- a raw string that becomes a string with escapes is one token
 
--- No token before can distinguish the old and the new text if both follow the text `lead`.
+-- If the old text `t` is a token before the text `y`, the new text `u` is one too. Each token of the text `lead` that is lexed
+-- before the old text is also lexed before the new one.
 pub record ReplacesAfter (lead t u y : List ℕ) : Type 0 where
   pub goes : (f : LexemeForm) → lexeme_at (t ++ y) ≡ Some (f, y) → lexeme_at (u ++ y) ≡ Some (f, y)
   pub front : (z : List ℕ) → Begun lead (t ++ y) (u ++ z)
@@ -347,7 +351,7 @@ lost_replace lead Int t u x y v w a b may = absurd a.allowed
 lost_replace lead Float t u x y v w a b may = absurd a.allowed
 lost_replace lead BoolKind t u x y v w a b may = absurd a.allowed
 
--- ---- any literal except `true`, `false` and numbers that are kept
+-- ---- a rewritten literal is one token, unless it is `true` or `false`, or a number that is kept
 
 abbrev pub RewritesForm : Style → List ℕ → List ℕ → List ℕ → Type 0
 RewritesForm style front t u =

@@ -15,7 +15,8 @@ use Rattle.rl_style.proofs.Recut.{Alike, Begun, Recut, alike_more, literal_is, l
 use Rattle.rl_style.proofs.Restyled.{RewritesForm, replaces, word_or_form}
 use Rattle.rl_style.proofs.WholeSource.{Preamble, preamble, source_recut}
 
--- The new token. The old token follows the text `lead`.
+-- The token that replaces the literal `old`, with the text `u` and the form of `old`. The literal follows the text `lead`, and
+-- the text `rest` follows the literal.
 pub record NewToken (lead : List ℕ) (old : Lexeme) (u rest : List ℕ) : Type 0 where
   pub new : Lexeme
   pub text_is : lexeme_text new ≡ u
@@ -48,7 +49,7 @@ new_token style lead old u rest is w = go (word_or_form style lead (lexeme_text 
           alike = λ z a. inr (subst (λ s. Begun lead (lexeme_text old ++ rest) (s ++ z)) text (made.front z));
         }
 
--- The new tokens of a text that follows the byte order mark.
+-- The tokens of the text `t` after the text `u` replaces the literal `old`. The text `t` follows the text `lead`.
 record NewCut (lead : List ℕ) (at : ℕ) (t : List ℕ) (before after : List CutSource) (old : Lexeme) (u : List ℕ)
     (place : ℕ)
     (r : List ℕ) : Type 0 where

@@ -26,9 +26,9 @@ use Rattle.rl_style.proofs.NumberCharacters.{becomes, by_character, decimal_by, 
 use Rattle.rl_style.proofs.Trimmed.{IsTrim, any_left, digits_join, mapped_trim, only, only_join, row_again, separator_all, separator_gone, some_not_only, trimmed_again, trimmed_all, trimmed_digits, trimmed_filter, trimmed_join, trimmed_some}
 use Rattle.rl_style.proofs.FloatForms.{Letter, lower_e, upper_e, exponent_is, DotShape, PointShape, PowerShape, FloatForm, FloatShape, shape_of, closed_shape, Groups, at_dot, at_point, at_power, at_point_power, Numeral, row_is, form_is}
 
--- ---- a float without the underscores at its end, and with one before a suffix
+-- ---- a float without the underscores at its end is a float, also with an underscore before its suffix
 
--- A float's text before its suffix, with the form of the old one.
+-- The text of a float before its suffix. The float has the form `shape`.
 pub record Shaped (numeral x : List ℕ) (shape : FloatShape) : Type 0 where
   pub form : FloatForm numeral x
   pub same_shape : shape_of numeral x form ≡ shape
@@ -40,7 +40,7 @@ digits_some_only (c ∷ cs) h = ap (λ b. b && only cs) (not_among c 95 is_ascii
 letter_only : (c : ℕ) (cs : List ℕ) → (c == 101 || c == 69) ≡ true → only (c ∷ cs) ≡ false
 letter_only c cs h = ap (λ b. b && only cs) (apart (λ d. d == 101 || d == 69) c 95 h refl)
 
--- An exponent without the underscores at its end.
+-- An exponent without the underscores at its end consists of its letter, its sign, and its digits without these underscores.
 exponent_row : (e : List ℕ) → (s : IsStrictExponent e) → trimmed e ≡ s.letter ∷ (s.sign ++ trimmed s.run)
 exponent_row e s =
     let some : only s.run ≡ false = some_not_only is_ascii_digit s.run refl s.some in
@@ -100,7 +100,7 @@ kept_form style numeral x form = go (trims_by style.suffix_separator x)
     go true = trimmed_form numeral x form
     go false = record { form = form; same_shape = refl }
 
--- An exponent with further digits or underscores after it is an exponent.
+-- If digits or underscores are appended to an exponent, the result is an exponent.
 exponent_more : (e s : List ℕ) → IsStrictExponent e → list_all (is_run_part is_ascii_digit) s ≡ true
     → IsStrictExponent (e ++ s)
 exponent_more e s p h = record {
@@ -151,12 +151,12 @@ no_separator None x e = refl
 no_separator (Some Nothing) x e = refl
 no_separator (Some Underscore) x e = ap (separator_by (Some Underscore)) e
 
--- ---- the value of a float
+-- ---- the value of a rewritten float
 
 abbrev pub spelled : List ℕ → List ℕ
 spelled cs = map (λ c. cond (c == 69) 101 c) (filter (λ c. not (c == 95 || c == 43)) cs)
 
--- The new characters of `c` before the new text `a` have the value that `c` has before the old text `b`.
+-- The new characters of `c`, followed by the new text `a`, represent the value of `c`, followed by the old text `b`.
 abbrev More : Bool → Bool → Option Case → Option Case → List ℕ → List ℕ → ℕ → Type 0
 More drops plus digits letter a b c = spelled (becomes drops false plus digits letter c ++ a) ≡ spelled (c ∷ b)
 
@@ -194,7 +194,7 @@ more_plus false false digits None a b s = s
 more_plus false false digits (Some Lower) a b s = s
 more_plus false false digits (Some Upper) a b s = s
 
--- The rewritten letter of an exponent, in either case, keeps the value.
+-- If the letter of an exponent is rewritten in lower or upper case, the exponent keeps its value.
 more_letter : (drops plus : Bool) (digits letter : Option Case) (c : ℕ) (a b : List ℕ) → spelled (c ∷ b)
     ≡ 101 ∷ spelled b
     → (l : Letter drops plus digits letter c) → spelled a ≡ spelled b → More drops plus digits letter a b c
@@ -250,7 +250,8 @@ run_digits (c ∷ cs) = go (is_run_part is_ascii_digit c) refl (run_digits cs)
         more
     go false h more = refl
 
--- The digits at the start of a text are the text before the rest after them.
+-- If a text is divided into `front` and the text after its leading digits, `front` consists of these digits, and contains no
+-- plus.
 pub run_cut : (cs front rest : List ℕ) → cs ≡ front ++ rest → rest ≡ after_run (is_run_part is_ascii_digit) cs
     → (front ≡ digit_run cs) × (list_all (λ c. not (c == 43)) front ≡ true)
 run_cut cs front rest cut is =
@@ -267,7 +268,7 @@ spelled_row drops plus digits letter from_first size least cs =
     ap (map (λ c. cond (c == 69) 101 c)) (grouped_kept (λ c. not (c == 95 || c == 43)) from_first size least
     (flat_map (becomes drops false plus digits letter) cs) refl) ∙ spelled_same drops plus digits letter cs
 
--- The zero that is added to a final dot.
+-- The zero that the style adds to a float that ends with its dot, or nothing.
 abbrev pub added : FloatShape → Bool → List ℕ
 added DotShape true = 48 ∷ []
 added DotShape false = []
@@ -279,7 +280,8 @@ added_none DotShape = refl
 added_none PointShape = refl
 added_none PowerShape = refl
 
--- If the whole part is rewritten and divided into groups, the value changes only as the text after the whole part does.
+-- If the text after a float's whole part gets further digits, for example an added zero, the value of the float gets these
+-- digits. Rewriting the whole part doesn't change the value.
 spelled_at : (drops plus : Bool) (digits letter : Option Case) (size least : ℕ) (numeral new d z w extra : List ℕ)
     → new ≡ Groups size least false (flat_map (becomes drops false plus digits letter) d) ++ w → numeral ≡ d ++ z
     → spelled w ≡ spelled z ++ extra → spelled new ≡ spelled numeral ++ extra
@@ -323,7 +325,7 @@ spelled_numeral drops plus digits letter closes size least numeral x (inr (inr (
     ∙ ap (λ y. spelled z ++ y) (spelled_same drops plus digits letter e) ∙ sym (spelled_join z e))
     ∙ sym (append-nil (spelled (46 ∷ (z ++ e)))))
 
--- ---- the rewritten literal
+-- ---- the rewritten float
 
 abbrev Size : Style → List ℕ → ℕ
 Size style x = size_by style.digit_groups 10 x
@@ -331,7 +333,7 @@ Size style x = size_by style.digit_groups 10 x
 abbrev Least : Style → ℕ
 Least style = least_by style.digit_groups
 
--- The new text of a float before its suffix has a whole part and a text after it, as the old one does.
+-- Like the old float, the new float has a whole part before its suffix, and a text after the whole part.
 pub kept_numeral : (style : Style) (numeral x : List ℕ) (form : FloatForm numeral x)
     → Numeral (styled_numeral style x numeral) x
     (closed_shape (shape_of (kept_run style x numeral) x (kept_form style numeral x form).form) style.float_zero)
@@ -359,7 +361,7 @@ spelled_kept style x numeral = go (trims_by style.suffix_separator x)
     go true = ap (map (λ c. cond (c == 69) 101 c)) (trimmed_filter (λ c. not (c == 95 || c == 43)) numeral refl)
     go false = refl
 
--- The value of the new float.
+-- The value of the new float: the old value, and the zero that the style adds to a final dot.
 abbrev pub new_digits : Style → (numeral x : List ℕ) → FloatForm numeral x → List ℕ
 new_digits style numeral x form = spelled numeral ++ added (shape_of numeral x form) style.float_zero
 
@@ -395,7 +397,7 @@ written style t u v x s e = record {
   contents = ap Digits (sym (new_spelled style s.numeral x s.form));
 }
 
--- The value of the float, without an added zero, is the old one.
+-- If the style adds no zero to a final dot, the new float has the old value.
 digits_kept : (style : Style) (numeral x : List ℕ) (form : FloatForm numeral x) → style.float_zero ≡ false
     → new_digits style numeral x form ≡ spelled numeral
 digits_kept style numeral x form off = ap (λ b. spelled numeral ++ added (shape_of numeral x form) b) off
@@ -466,9 +468,9 @@ float_number style t u (inl c) = record {
   keeps = contents_kept style c.contents c.float.numeral c.suffix c.float.form c.float.contents;
 }
 
--- ---- rewriting a float again changes nothing
+-- ---- if a float is rewritten again, nothing changes
 
--- The last part of a text without underscores at its end has none at its end either.
+-- If a text has no underscores at its end, its last part has none at its end either.
 tail_trims : (a b : List ℕ) → only b ≡ false → IsTrim (a ++ b) → IsTrim b
 tail_trims a b n h = same_tail a (trimmed b) b (sym (trimmed_join a b n) ∙ h)
 
@@ -556,7 +558,7 @@ numeral_trims style x numeral form h =
     form_trims (drops_underscores style x) style.exponent_plus style.hex_digits style.exponent_letter style.float_zero
     (Size style x) (Least style) kept x (kept_form style numeral x form).form short
 
--- If a sequence of digits is rewritten twice, the second time changes nothing.
+-- If a sequence of digits is rewritten and divided into groups twice, the second time changes nothing.
 row_stays_so : (drops plus : Bool) (digits letter : Option Case) (from_first : Bool) (size least : ℕ) (d : List ℕ)
     → IsDigits d
     → Groups size least from_first (flat_map (becomes drops false plus digits letter)

@@ -21,12 +21,13 @@ use Rattle.rl_style.proofs.Regrouped.{again_grouped, grouped_all, grouped_any, g
 use Rattle.rl_style.proofs.Trimmed.{IsTrim, any_left, base_kept, digits_join, mapped_trim, row_again, separator_all, separator_gone, significant_trim, trimmed_again, trimmed_all, trimmed_digits, trimmed_filter, trimmed_some}
 use Rattle.rl_style.proofs.NumberCharacters.{RowKeeps, RowStays, decimal_by, digits_stay, each_kept, hex_keeps, keeps_of, number_kept, of_base, row_kept, row_stays, some_kept, some_stays, stays, twice}
 
--- ---- digits without leading zeros
+-- ---- the digits of an integer without leading zeros
 
 abbrev row_of : ℕ → List ℕ → Type 0
 row_of base run = list_all (is_run_part (of_base base)) run ≡ true
 
--- The properties of a sequence of digits that the removal of leading zeros doesn't change.
+-- The sequence `kept` consists of digits and underscores, and contains a digit. It represents the number of the sequence
+-- `run`, and is a sequence of decimal digits if `run` is.
 pub record RowFacts (base : ℕ) (run kept : List ℕ) : Type 0 where
   pub each : row_of base kept
   pub some : list_any (of_base base) kept ≡ true
@@ -45,7 +46,7 @@ facts_then base a b c f g = record {
   digits = λ d. g.digits (f.digits d);
 }
 
--- The sequence without the underscores at its end has the properties `RowFacts` too.
+-- If a sequence of digits loses the underscores at its end, it still contains a digit and represents the old number.
 kept_facts : (style : Style) (base : ℕ) (x run : List ℕ) → row_of base run → list_any (of_base base) run ≡ true
     → of_base base 95 ≡ false → RowFacts base run (kept_run style x run)
 kept_facts style base x run h some n = go (trims_by style.suffix_separator x)
@@ -78,11 +79,11 @@ zero_facts style base x run h some = go (drops_zeros style base x && list_any ex
         subst (λ z. RowFacts z run (significant run)) (sym ten) (of_ten (subst (λ z. row_of z run) ten h))
     go false e = record { each = h; some = some; number = refl; digits = λ d. d }
 
--- The digits without those that the style drops.
+-- The digits of a number, without the leading zeros and the final underscores that the style drops.
 abbrev pub kept_of_row : Style → ℕ → List ℕ → List ℕ → List ℕ
 kept_of_row style base x run = kept_digits style base x (kept_run style x run)
 
--- ---- the digits by the base of the number
+-- ---- the digits of an integer in each base
 
 pub record IntegerFacts (style : Style) (drops : Bool) (base : ℕ) (run : List ℕ) : Type 0 where
   pub keeps : RowKeeps (number_character style drops (base == 16)) run
@@ -130,7 +131,7 @@ row_facts style t v x i =
     facts_then i.base i.run (kept_run style x i.run) (kept_of_row style i.base x i.run) kept
     (zero_facts style i.base x (kept_run style x i.run) kept.each kept.some)
 
--- The digits without those that the style drops, rewritten.
+-- The rewritten digits of a number, without the leading zeros and the final underscores that the style drops.
 abbrev pub new_row : Style → Bool → ℕ → List ℕ → List ℕ → List ℕ
 new_row style hex base x run = flat_map (number_character style (drops_underscores style x) hex)
     (kept_of_row style base x run)
@@ -150,9 +151,9 @@ integer_plus t v x run i each = go i.is_front
     go (inr (inr (inl b))) = of 8 b.1 refl
     go (inr (inr (inr b))) = of 16 b.1 refl
 
--- ---- digits in groups
+-- ---- the digits of an integer in groups
 
--- A sequence of digits that is divided into groups keeps the properties `RowFacts`.
+-- If a sequence of digits is divided into groups, it still contains a digit and represents the old number.
 pub in_row_facts : (style : Style) (base : ℕ) (x run : List ℕ) → of_base base 95 ≡ false → row_of base run
     → list_any (of_base base) run ≡ true → RowFacts base run (grouped_run false style base x run)
 in_row_facts style base x run n h some =
@@ -175,7 +176,7 @@ no_groups : (groups : Option DigitGroups) (base : ℕ) (x : List ℕ) → first_
 no_groups None base x h = refl
 no_groups (Some groups) base x h = ap (λ b. cond b 0 (base_group groups base)) h
 
--- ---- decimal integers
+-- ---- a rewritten decimal integer doesn't begin with a base prefix
 
 -- If the suffix begins with the letter of a base, no underscore is dropped.
 kept_before : (style : Style) (x : List ℕ) → first_passes is_base_letter x ≡ true → drops_underscores style x ≡ false
@@ -227,7 +228,7 @@ decimal_front style t v x i e d h =
       ],
     )
 
--- ---- the rewritten literal
+-- ---- the rewritten integer
 
 pub regrouped_text : (p r s x : List ℕ) → p ++ (r ++ (s ++ x)) ≡ (p ++ (r ++ s)) ++ x
 regrouped_text p r s x = simp append_assoc
@@ -290,9 +291,9 @@ integer_same style t u (inr c) = record {
   is = kept_int t u c;
 }
 
--- ---- rewriting an integer again changes nothing
+-- ---- if an integer is rewritten again, nothing changes
 
--- A rewritten sequence of digits has no leading zeros, if the style drops them.
+-- If the style drops leading zeros, a rewritten sequence of digits has none.
 zeros_again : (style : Style) (drops : Bool) (base : ℕ) (x run : List ℕ) → row_of base run
     → kept_digits style base x (flat_map (number_character style drops (base == 16)) (kept_digits style base x run))
     ≡ flat_map (number_character style drops (base == 16)) (kept_digits style base x run)
@@ -340,7 +341,7 @@ zeros_again style drops base x run each = go (drops_zeros style base x) refl
         (ten (subst (λ z. row_of z run) is each))
     go false e = refl
 
--- A rewritten sequence of digits has no underscores at its end, if the style drops them.
+-- If the style drops the underscores before a suffix, a rewritten sequence of digits has no underscores at its end.
 row_trims : (style : Style) (t : List ℕ) (v : Contents) (x : List ℕ) (i : StrictInt t v x)
     → trims_by style.suffix_separator x ≡ true
     → IsTrim (flat_map (number_character style (drops_underscores style x) (i.base == 16))
@@ -361,7 +362,7 @@ row_trims style t v x i h =
     go true = significant_trim short short_trims
     go false = short_trims
 
--- Digits in groups have no leading zeros if the digits have none.
+-- If a sequence of digits has no leading zeros, it has none after it is divided into groups.
 significant_groups : (size least : ℕ) (run : List ℕ) → significant run ≡ run
     → significant (regrouped false size least run) ≡ regrouped false size least run
 significant_groups size least run same =

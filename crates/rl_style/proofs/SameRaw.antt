@@ -36,12 +36,13 @@ same_opener ByteStr s = refl
 same_opener CStr s = refl
 same_opener kind s = absurd (cc)
 
--- The parts of a raw string, joined in the order of the definition, are the same text as those joined from the right.
+-- The definition of a raw string joins its parts from the left. Joined from the right, they are the same text.
 pub raw_joined : (o h i x : List ℕ) → ((((o ++ h) ++ (34 ∷ i)) ++ (34 ∷ h)) ++ x) ≡ o
     ++ (h ++ (34 ∷ (i ++ (34 ∷ (h ++ x)))))
 raw_joined o h i x = simp append_assoc
 
--- The parts of a raw string, as they are written.
+-- The text of a raw string and its suffix consists of its parts in order: prefix, hashes, quote, content, quote, hashes and
+-- suffix.
 pub raw_followed : (k : Kind) (n : ℕ) (inside x : List ℕ) → is_string k ≡ true → raw_text k n inside ++ x
     ≡ (((strict_raw_opener k ++ replicate n 35) ++ (34 ∷ inside)) ++ (34 ∷ replicate n 35)) ++ x
 raw_followed k n inside x s =
@@ -52,13 +53,13 @@ raw_followed k n inside x s =
     ∙ ap (λ z. z ++ (h ++ (34 ∷ (inside ++ (34 ∷ (h ++ x)))))) (sym (same_opener k s))
     ∙ sym (raw_joined (strict_raw_opener k) h inside x)
 
--- ---- a raw string with this number of hashes is closed at its end
+-- ---- a raw string with enough hashes ends at its closing delimiter
 
 pub record Suits (inside : List ℕ) (n : ℕ) : Type 0 where
   pub few : n < 256
   pub first_close : (front rest : List ℕ) → inside ≢ (front ++ (34 ∷ replicate n 35)) ++ rest
 
--- A raw string isn't a string with escapes: its text begins differently.
+-- Whether the text begins with a quote. A string with escapes does after its prefix, and a raw string doesn't.
 abbrev pub first_quote : List ℕ → Bool
 first_quote t = first_passes (λ c. c == 34) t
 
@@ -77,7 +78,7 @@ pub length_hashes : (n : ℕ) → length {A = ℕ} (replicate n 35) ≡ n
 length_hashes zero = refl
 length_hashes (suc n) = ap suc (length_hashes n)
 
--- The text of a raw string after its prefix determines its number of hashes and its body.
+-- The text of a raw string after its prefix determines its number of hashes and its content.
 one_way : (n m : ℕ) (inside other : List ℕ) → replicate n 35 ++ (34 ∷ (inside ++ (34 ∷ replicate n 35)))
     ≡ replicate m 35 ++ (34 ∷ (other ++ (34 ∷ replicate m 35))) → (n ≡ m) × (inside ≡ other)
 one_way n m inside other e =
@@ -123,7 +124,7 @@ pub hashes_suit : (fewest : Bool) (t : List ℕ) (k : Kind) (v : Contents) (x : 
 hashes_suit true t k v x s n h = fewest_suits k n s.inside (raw_string t k v x s) h
 hashes_suit false t k v x s n h = subst (Suits s.inside) (sym h) (record { few = s.few; first_close = s.first_close })
 
--- ---- the rewritten literal
+-- ---- the rewritten raw string
 
 abbrev pub written : (t u : List ℕ) (k : Kind) (v : Contents) (x : List ℕ) (s : StrictRaw t k v x) (n : ℕ)
     → Suits s.inside n → u ≡ raw_text k n s.inside ++ x → StrictRaw u k v x

@@ -16,7 +16,7 @@ use Rattle.rl_style.proofs.CodeDigits.{code_twice, fewest_unicode, fewest_value}
 use Rattle.rl_style.proofs.HiddenUnits.{held_low, number_allowed, number_any, number_contents, quotes_shown, visible_shown}
 use Rattle.rl_style.proofs.CaseLemmas.{none_right, cased_past, cased_value, spelled_cased, twice_cased}
 
--- ---- hexadecimal digits
+-- ---- rewritten hexadecimal digits have the old value
 
 pub hex_cased : (case : Option Case) (c : ℕ) → is_ascii_hexdigit (cased case c) ≡ is_ascii_hexdigit c
 hex_cased case c =
@@ -37,7 +37,7 @@ two_cased : (case : Option Case) (high low : ℕ) → place_value 16 (cased case
     ≡ place_value 16 (high ∷ low ∷ [])
 two_cased case high low = spelled_cased case 16 (high ∷ low ∷ [])
 
--- ---- the digits of a Unicode escape
+-- ---- the rewritten digits of a `\u{..}` escape have the old value
 
 firsts : (case : Option Case) (ds : List (ℕ × ℕ)) → map (λ d. d.0) (map (cased_digit case) ds)
     ≡ map (cased case) (map (λ d. d.0) ds)
@@ -66,7 +66,7 @@ unicode_cased case ds =
     ∙ ap (λ n. (nat_le 1 (length ds) && nat_le (length ds) 6) && list_all (λ d. is_ascii_hexdigit d.0) ds
     && all_scalars (n ∷ [])) (code_cased case ds)
 
--- ---- Unicode escapes with the fewest digits
+-- ---- `\u{..}` escapes with the fewest digits
 
 abbrev kept_digits : Style → List (ℕ × ℕ) → List (ℕ × ℕ)
 kept_digits style ds = cond style.code_digits (fewest_digits ds) ds
@@ -89,7 +89,7 @@ kept_unicode style ds h = go style.code_digits
 pub code_value : (style : Style) (ds : List (ℕ × ℕ)) → spaced_value (styled_digits style ds) ≡ spaced_value ds
 code_value style ds = code_cased style.escape_digits (kept_digits style ds) ∙ kept_value style ds
 
--- ---- one character or escape
+-- ---- one rewritten character, or one escaped quote
 
 first_of : (a b : Bool) → (a || b) ≡ true → b ≡ false → a ≡ true
 first_of true b h n = refl
@@ -114,7 +114,7 @@ itself_at : (k : Kind) (c d : ℕ) → (c == d) ≡ true → is_strict_unit k (I
     ≡ true
 itself_at k c d e h = ap (λ z. is_strict_unit k (Itself z)) (eqb-true c d e) ∙ h
 
--- A quote that doesn't close the literal may be in it unescaped.
+-- If an escaped quote doesn't close the literal, the literal may contain it without a backslash.
 quote_allowed : (k : Kind) (us : List StrictUnit) (c : ℕ) → HasUnits k us → (c == 39 || c == 34) ≡ true
     → (c == closer k) ≡ false → is_strict_unit k (Itself c) ≡ true
 quote_allowed Str us c q h n = itself_at Str c 39 (first_of (c == 39) (c == 34) h n) refl
@@ -171,7 +171,7 @@ code_allowed style CStr ds h =
     (code_unicode style ds p.0) (ap (λ n. not (n == 0)) (code_value style ds) ∙ p.1)
 code_allowed style kind ds h = absurd (cc)
 
--- ---- numeric escapes that become shorter
+-- ---- numeric escapes that become visible characters or escapes with a letter
 
 -- The new form of a numeric escape: a visible character if `a` is true, else an escape with a letter if `b` is true, else the
 -- escape itself.
@@ -217,7 +217,7 @@ follows : (a b : Bool) → a ≡ true → (not a || b) ≡ true → b ≡ true
 follows true b h k = k
 follows false b h k = absurd (cc)
 
--- A test that passes for each visible ASCII character, tried one by one, passes for `n`.
+-- If a trial of each ASCII character shows that all visible ones pass a test, the visible character `n` passes the test.
 visible_test : (test : ℕ → Bool) (n : ℕ) → is_visible n ≡ true
     → ((n < 128) → (not (is_visible n) || test n) ≡ true) → test n ≡ true
 visible_test test n v all = follows (is_visible n) (test n) v (all (visible_low n v))
@@ -241,7 +241,8 @@ visible_allowed Char us n q v = visible_test (λ n. is_strict_unit Char (visible
     low)
 visible_allowed kind us n q v = absurd q
 
--- A property that holds for LF, CR and TAB, and for NUL if it is the character, holds for each character with a letter escape.
+-- A property holds for each character that may have an escape with a letter if it holds for LF, CR and TAB, and for NUL in
+-- case the character is NUL.
 named_any : (P : ℕ → Type 0) (z : Bool) (n : ℕ) → gets_letter z n ≡ true → P 10 → P 13 → P 9
     → ((n == 0) ≡ true → P 0) → P n
 named_any P z n h a b c d =
@@ -282,7 +283,7 @@ respelled_allowed : (style : Style) (k : Kind) (z : Bool) (us : List StrictUnit)
 respelled_allowed style k z us n escape q m h = respelled_any (λ u. is_strict_unit k u ≡ true) style k z n escape
     (visible_allowed k us n q) (named_allowed k us z n q m) h
 
--- The number that an escape of a C string represents isn't 0, so `MayBeZero` holds for it.
+-- In a C string, the number that an escape represents isn't 0.
 no_zero : (b : Bool) (n : ℕ) → (b && not (n == 0)) ≡ true → (n == 0) ≡ true → ⊥
 no_zero b n h e = both_ways (n == 0) (not-true (n == 0) (and_parts b (not (n == 0)) h).1) e
 
@@ -328,7 +329,7 @@ respelled_ends style k z n escape us b h =
     respelled_any (λ u. BlanksEnd (u ∷ us)) style k z n escape
     (λ v. visible_any (λ u. BlanksEnd (u ∷ us)) k n (λ e. b) (λ e. b) b) (λ e. b) h
 
--- The new form of a numeric escape has the old value.
+-- A visible character that replaces a numeric escape, perhaps after a backslash, has itself as its value.
 visible_contents : (k : Kind) (n : ℕ) → is_visible n ≡ true → strict_contents (strict_content_of k) (visible_unit k n)
     ≡ n ∷ []
 visible_contents k n v =
@@ -361,7 +362,7 @@ itself_any P style k z c escaped other = go (style.hidden && needs_number c) ref
     go true e = escaped (and_parts style.hidden (needs_number c) e).1
     go false e = other
 
--- ---- any character or escape
+-- ---- a literal may contain each rewritten character and escape
 
 ascii_stays : (style : Style) (k : Kind) (z : Bool) (us : List StrictUnit) (high low : ℕ) → HasUnits k us
     → is_strict_unit k (AsciiEscape high low) ≡ true → is_strict_unit k (reescaped style k z (AsciiEscape high low))
@@ -407,7 +408,7 @@ all_allowed style k vs (u ∷ us) q h =
     and_from (is_strict_unit k (restyled style k z u)) (list_all (is_strict_unit k) (restyled_units style k us))
     (unit_allowed style k z vs u q p.0) (all_allowed style k vs us q p.1)
 
--- ---- the number of characters and escapes
+-- ---- rewriting keeps the number of characters and escapes
 
 unit_count : (style : Style) (k : Kind) (us : List StrictUnit) → length (restyled_units style k us) ≡ length us
 unit_count style k [] = refl
@@ -422,7 +423,7 @@ same_count style Byte us h = unit_count style Byte us ∙ h
 same_count style Char us h = unit_count style Char us ∙ h
 same_count style kind us h = absurd h
 
--- ---- escaped line ends
+-- ---- after rewriting, an escaped line end skips no more white space than before
 
 no_blank : (c : ℕ) → (c == 39 || c == 34) ≡ true → is_dropped_blank c ≡ false
 no_blank c h =
@@ -513,7 +514,7 @@ blanks_stay style k (u ∷ us) h b = go u (and_parts (is_strict_unit k u) (list_
         (UnicodeEscape (styled_digits style digits)) rest (ih p b) (ih p b)
     go (LineBreak blanks) p b ih = (front_stays style k us p b.0, ih p b.1)
 
--- ---- the value of the literal
+-- ---- rewriting keeps the value of a literal
 
 one_byte : (c : ℕ) → (c == 39 || c == 34) ≡ true → encode_utf8_all (c ∷ []) ≡ c ∷ []
 one_byte c h = append-nil _ ∙ encode_ascii c (below (cases_Bool (c == 39)))
@@ -592,7 +593,7 @@ follows_same style k [] h = refl
 follows_same style k (u ∷ us) h = ap (first_passes is_ascii_digit) (unit_contents style k (not (digit_follows k us)) u
     (and_parts (is_strict_unit k u) (list_all (is_strict_unit k) us) h).0)
 
--- ---- the rewritten literal
+-- ---- the rewritten literal with escapes
 
 -- A quoted literal with escapes is a literal token of its kind.
 pub cooked_strict : (t : List ℕ) (k : Kind) (v : Contents) (x : List ℕ) → StrictCooked t k v x → Strict t k v x
@@ -628,7 +629,7 @@ cooked_same style t u c = record {
   is = cooked_strict u c.kind c.contents c.suffix (written style t u c.kind c.contents c.suffix c.cooked c.new_is);
 }
 
--- ---- rewriting a literal again changes nothing
+-- ---- if a literal with escapes is rewritten again, nothing changes
 
 -- A character that needs no numeric escape is unchanged.
 pub shown_stays : (style : Style) (k : Kind) (z : Bool) (c : ℕ) → needs_number c ≡ false → restyled style k z (Itself c)

@@ -17,7 +17,7 @@ use Rattle.rl_style.proofs.NumberCharacters.{RowKeeps}
 abbrev pub only : List ℕ → Bool
 only cs = list_all is_underscore cs
 
--- ---- the part of a sequence that isn't dropped
+-- ---- the part of a sequence that remains without the underscores at its end
 
 only_all : (test : ℕ → Bool) (cs : List ℕ) → list_all test cs ≡ true → list_all test (trimmed cs) ≡ true
 only_all test [] h = refl
@@ -78,7 +78,7 @@ trimmed_first (c ∷ cs) h = ap (first_passes is_ascii_digit) (digit_first c cs 
 pub trimmed_digits : (cs : List ℕ) → IsDigits cs → IsDigits (trimmed cs)
 trimmed_digits cs h = (trimmed_first cs h.0, trimmed_all (is_run_part is_ascii_digit) cs h.1)
 
--- ---- two sequences joined
+-- ---- the underscores at the end of two joined sequences
 
 pub only_join : (a b : List ℕ) → only b ≡ false → only (a ++ b) ≡ false
 only_join [] b h = h
@@ -96,7 +96,7 @@ some_not_only test cs n h =
       | inr a ↦ a
     ]
 
--- ---- dropping the underscores at the end again changes nothing
+-- ---- if the underscores at the end are dropped again, nothing changes
 
 abbrev pub IsTrim : List ℕ → Type 0
 IsTrim cs = trimmed cs ≡ cs
@@ -177,7 +177,7 @@ mapped_trim f (c ∷ cs) k h =
           ∙ ap (λ z. z ++ flat_map f cs) (sym a.1)
     ]
 
--- An underscore that is appended to a sequence is dropped with those at its end.
+-- An underscore that is appended to a sequence of digits is dropped with the other underscores at its end.
 one_after : (cs : List ℕ) → trimmed (cs ++ (95 ∷ [])) ≡ trimmed cs
 one_after [] = refl
 one_after (c ∷ cs) =
@@ -208,7 +208,7 @@ other_trims a c h =
 pub under_only : (u : List ℕ) (c : ℕ) → only u ≡ true → (c == 95) ≡ true → only (u ++ (c ∷ [])) ≡ true
 under_only u c h k = list_all-append is_underscore u (c ∷ []) ∙ and_from (only u) _ h (and_from (c == 95) true k refl)
 
--- ---- the digits that aren't dropped
+-- ---- the digits that remain without the underscores at the end
 
 pub kept_first : (style : Style) (x run : List ℕ) → first_passes is_ascii_digit run ≡ true
     → first_passes is_ascii_digit (kept_run style x run) ≡ true
@@ -249,7 +249,7 @@ base_kept (Some Nothing) x h = (ap not h, refl, h)
 base_kept (Some Underscore) [] h = absurd (cc)
 base_kept (Some Underscore) (c ∷ cs) h = absurd (cc)
 
--- If the underscores at the end of a rewritten number are dropped again, the digits stay as they were.
+-- If the underscores at the end of a rewritten number are dropped again, the digits don't change.
 pub row_again : (s : Option Separator) (x run : List ℕ) → (trims_by s x ≡ true → IsTrim run)
     → cond (trims_by s x) (trimmed (run ++ separator_by s x)) (run ++ separator_by s x) ≡ run
 row_again None x run h = append-nil run

@@ -1,4 +1,4 @@
--- Sequences of characters and escapes: a text is exactly one such sequence, and each is rewritten according to the text after
+-- A text is exactly one sequence of characters and escapes. Each character or escape is rewritten according to the text after
 -- it.
 use Rattle.rl_syntax.proofs.Common.{is_ascii_digit, nat_tests, ◌≡◌, ℕ, ◌≤◌, inl, inr, arith, cases_lt, Bool, true, not, List, [], ◌∷◌, ◌++◌, Some, None, refl, sym, ap, subst, ◌∙◌, append_assoc, append-nil, append_cancel_right, and_parts, list_all, flat_map, encode_utf8_all, encodes-append}
 use Rattle.rl_syntax.proofs.Basics.{false_unless}
@@ -13,7 +13,7 @@ use Rattle.rl_style.proofs.UnitTexts.{alone_of, bytes_of, unit_restyled}
 
 -- ---- the characters and escapes read so far
 
--- The first character or escape of a sequence is the one that the code reads.
+-- The text `t` consists of the character or escape `u`, and then of `us`. The code reads `u` first.
 record FirstIs (k : Kind) (u : StrictUnit) (us : List StrictUnit) (t : List ℕ) : Type 0 where
   value : List ℕ
   value_is : value ≡ strict_contents (strict_content_of k) u
@@ -49,14 +49,15 @@ digit_ascii (n ∷ ns) =
     no_digit : (n : ℕ) → 128 ≤ n → is_ascii_digit n ≡ true → ⊥
     no_digit n high d = grind (arith, nat_tests)
 
--- The bytes of a character begin with an ASCII digit if and only if the character is one.
+-- The UTF-8 bytes of a character begin with an ASCII digit if and only if the character is an ASCII digit.
 pub digit_bytes : (c : ℕ) → is_ascii_digit c ≡ is_ascii_digit (ascii_in (encode_utf8_all (c ∷ [])))
 digit_bytes c = digit_ascii (c ∷ []) ∙ ap is_ascii_digit (elim (cases_lt c 128) [
   | inl low ↦ (alone_of c).low low ∙ sym ((bytes_of c).low low)
   | inr high ↦ (alone_of c).high high ∙ sym ((bytes_of c).high high)
 ])
 
--- Whether the next character or escape represents a digit, by the text.
+-- The code finds by the text whether the next character or escape represents a digit. The result is that of the definition,
+-- which uses the sequence of characters and escapes.
 pub follows_is : (k : Kind) (us : List StrictUnit) (t : List ℕ) → AreUnits k us t
     → digit_follows k us ≡ represents_digit (unit_at k t)
 follows_is k [] t a = sym (ap represents_digit (ap (unit_at k) a.inside_is ∙ unit_nil k))
@@ -64,7 +65,7 @@ follows_is k (u ∷ us) t a =
     let f = first_is k u us t a in
     ap (first_passes is_ascii_digit) (sym f.value_is) ∙ digit_ascii f.value ∙ sym (ap represents_digit f.read)
 
--- Two sequences of characters and escapes with one text are equal.
+-- If two sequences of characters and escapes have one text, their new texts are equal.
 pub texts_once : (style : Style) (k : Kind) (us vs : List StrictUnit) (t : List ℕ) → AreUnits k us t → AreUnits k vs t
     → flat_map strict_text (restyled_units style k us) ≡ flat_map strict_text (restyled_units style k vs)
 texts_once style k [] [] t a b = refl
@@ -100,7 +101,7 @@ texts_once style k (u ∷ us) (v ∷ vs) t a b =
     ∙ ap (λ t. strict_text (restyled style k z v) ++ t) (texts_once style k us vs (flat_map strict_text us) f.left
     (subst (AreUnits k vs) (sym rest) g.left))
 
--- The new text of the first part of a sequence of characters and escapes.
+-- The new text of the first characters and escapes of a sequence. The characters and escapes `left` follow them.
 abbrev pub text_before : Style → Kind → List StrictUnit → List StrictUnit → List ℕ
 text_before style k [] left = []
 text_before style k (u ∷ us) left =

@@ -5,7 +5,7 @@ use Rattle.std.specs.Prelude.{Option}
 use Rattle.std.specs.Str.{chars}
 use Rattle.rl_syntax.proofs.Basics.{apart, false_unless}
 use Rattle.rl_syntax.proofs.LowBytes.{encode_is_high, low_front}
-use Rattle.rl_lenient.proofs.Names.{Kind, Str, ByteStr, CStr, Byte, Char, Int, Float, BoolKind, content_of, holds_characters, place_value, strict_content_of, strict_contents, first_passes, IsTail, StrictUnit, Itself, QuoteEscape, PlainEscape, AsciiEscape, ByteEscape, UnicodeEscape, LineBreak, strict_text, is_strict_unit, unit_text}
+use Rattle.rl_lenient.proofs.Names.{Kind, Str, ByteStr, CStr, Byte, Char, Int, Float, BoolKind, content_of, decodes_to_chars, place_value, strict_content_of, strict_contents, first_passes, IsTail, StrictUnit, Itself, QuoteEscape, PlainEscape, AsciiEscape, ByteEscape, UnicodeEscape, LineBreak, strict_text, is_strict_unit, unit_text}
 use Rattle.rl_syntax.specs.Written.{closer}
 use Rattle.rl_syntax.specs.Strict.{is_allowed_in_single_quotes, is_bare_in_string, is_plain_letter, is_unicode_escape, plain_escapes, plain_value_in, spaced_digit, spaced_value}
 use Rattle.rl_lenient.specs.Mirrors.UnitAt.{unit_at}
@@ -28,7 +28,7 @@ use Rattle.rl_style.proofs.HiddenUnits.{hidden_invisible, hidden_scalar, hidden_
 use Rattle.rl_style.proofs.SameUnits.{named_low, quote_of, visible_low}
 use Rattle.rl_style.proofs.WrittenTexts.{scalars_join}
 
--- ---- ends of a text
+-- ---- ends of a text, as characters and as bytes
 
 -- If the characters of a text are the end of another text's characters, its bytes are the end of the other text's bytes.
 pub tail_of : (t r front : List ℕ) → IsUtf8 t → IsUtf8 r → chars t ≡ front ++ chars r → IsTail t r
@@ -61,7 +61,7 @@ letter_of_plain _ c h = h
 abbrev otherwise : Style → Kind → ℕ → ℕ → List ℕ → List ℕ
 otherwise style k n c cs = cond (c == 120 || c == 117) (number_text style k n (92 ∷ c ∷ cs)) (92 ∷ c ∷ cs)
 
--- The number `m` is the character `n` if it is ASCII, and 128 otherwise.
+-- The number `m` is the character `n` if `n` is ASCII, and 128 otherwise.
 pub record IsOf (n m : ℕ) : Type 0 where
   pub low : n < 128 → m ≡ n
   pub high : 128 ≤ n → m ≡ 128
@@ -73,7 +73,8 @@ alone_of n = record {
       (λ b. let l = ltb-true n 128 b in absurd (omega (arith, l, h))));
 }
 
--- The first byte of a character's UTF-8 bytes is the character if it is ASCII. Otherwise it isn't ASCII.
+-- The first byte of a character's UTF-8 bytes is the character if it is ASCII. For other characters, the first byte counts as
+-- 128.
 pub bytes_of : (n : ℕ) → IsOf n (ascii_in (encode_utf8_all (n ∷ [])))
 bytes_of n = record {
   low = λ l. ap ascii_in (low_front n [] l) ∙ (alone_of n).low l;
@@ -92,9 +93,10 @@ held_of Int n = alone_of n
 held_of Float n = alone_of n
 held_of BoolKind n = alone_of n
 
--- The number that the code computes for a character is that of its value: the character if it is ASCII, and 128 otherwise.
+-- The code computes a number from a character: the character if it is ASCII, and 128 otherwise. The definition computes an
+-- equal number from the character's value.
 pub content_ascii : (k : Kind) (n m : ℕ) → m ≡ cond (nat_lt n 128) n 128 → m ≡ ascii_in (content_of k (n ∷ []))
-content_ascii k n m e = go (holds_characters k)
+content_ascii k n m e = go (decodes_to_chars k)
   where
     bytes : cond (nat_lt n 128) n 128 ≡ ascii_in (encode_utf8_all (n ∷ []))
     bytes =
@@ -107,7 +109,7 @@ content_ascii k n m e = go (holds_characters k)
     go true = e
     go false = e ∙ bytes
 
--- The new form of a numeric escape, by its value.
+-- A visible character is written after a backslash if it is the closing quote or a backslash. Otherwise it is written alone.
 visible_is : (a b : Bool) (n : ℕ) → cond (a || b) (92 ∷ n ∷ []) (n ∷ [])
     ≡ strict_text (cond a (QuoteEscape n) (cond b (PlainEscape n) (Itself n)))
 visible_is true b n = refl
@@ -141,7 +143,7 @@ kept_escape style k z n escape v l =
     ∙ ap (λ b. cond (style.named_escapes && b) (PlainEscape (letter_of n)) escape) l
     ∙ ap (λ b. cond b (PlainEscape (letter_of n)) escape) (none_right style.named_escapes)
 
--- If the value isn't an ASCII character, the escape is unchanged except for its digits.
+-- If the value of a numeric escape isn't an ASCII character, only the digits of the escape are rewritten.
 kept_text : (style : Style) (k : Kind) (text : List ℕ) → number_text style k 128 text ≡ digits_text style text
 kept_text style k text =
     ap (λ b. cond b (visible_text k 128) (cond (style.named_escapes && false) (92 ∷ letter_of 128 ∷ [])
@@ -188,7 +190,7 @@ number_is style k z n m text escape of same =
         ap (λ b. number_text style k (cond b n 128) text) e ∙ kept_text style k text ∙ same
         ∙ ap strict_text (sym (kept_escape style k z n escape none unnamed))
 
--- An escape such as `\n`, whose letter is neither a quote nor that of a numeric escape.
+-- An escape such as `\n` is unchanged. Its letter is neither a quote nor the letter of a numeric escape.
 plain_text : (style : Style) (k : Kind) (n c : ℕ) → is_plain_letter c ≡ true → restyled_escape style k n (c ∷ [])
     ≡ 92 ∷ c ∷ []
 plain_text style k n c h =
@@ -239,7 +241,7 @@ row_text case (d ∷ ds) =
     ∙ ap (λ z. (cased case d.0 ∷ z) ++ map (cased case) (flat_map spaced_digit ds)) (underscores case d.1)
     ∙ ap (λ z. (cased case d.0 ∷ replicate d.1 95) ++ z) (row_text case ds)
 
--- The digits of a `\u{..}` escape, and the brace after them.
+-- If the digits of a `\u{..}` escape and the brace after them are written in one case, only the digits change.
 closed_text : (case : Option Case) (ds : List (ℕ × ℕ)) → map (cased case) (flat_map spaced_digit ds ++ (125 ∷ []))
     ≡ flat_map spaced_digit (map (cased_digit case) ds) ++ (125 ∷ [])
 closed_text case ds =
@@ -269,14 +271,14 @@ hex_text style high low =
     (map (cased style.escape_digits) (92 ∷ 120 ∷ high ∷ low ∷ []))) (none_right style.code_digits)
     ∙ hex_front style.escape_digits (high ∷ low ∷ [])
 
--- The digits of an escape of the kind are hexadecimal.
+-- In a literal of any kind, the digits of a `\u{..}` escape are hexadecimal.
 hexes : (k : Kind) (ds : List (ℕ × ℕ)) → is_strict_unit k (UnicodeEscape ds) ≡ true → list_all hex_of ds ≡ true
 hexes Str ds h = unicode_hex ds h
 hexes Char ds h = unicode_hex ds h
 hexes CStr ds h = unicode_hex ds (and_parts (is_unicode_escape ds) (not (spaced_value ds == 0)) h).0
 hexes kind ds h = absurd (cc)
 
--- Whether an escaped character is written with a letter. `\0` is allowed for a NUL if the flag is true.
+-- Whether the character `c` is a NUL that the style writes as `\0`. The flag `z` is true if `\0` is allowed.
 abbrev by_letter : Style → Bool → ℕ → Bool
 by_letter style z c = style.named_escapes && (z && c == 0)
 
@@ -371,8 +373,8 @@ itself_restyled style k y z c same = go (style.hidden && needs_number c) refl
         ∙ hidden_is style k z c (and_parts style.hidden (needs_number c) e).1
     go false e = refl
 
--- The test whether a character is a NUL that may be written as `\0` gives the same result for the character's value and for the
--- character itself.
+-- The code and the definition test whether a character is a NUL that may be written as `\0`. The code tests the character's
+-- value, and the definition tests the character itself. The two tests have one result.
 zero_same : (k : Kind) (z : Bool) (c : ℕ)
     → ((lettered z (ascii_in (strict_content_of k (c ∷ []))) == 0) && c == 0) ≡ (z && c == 0)
 zero_same k z c = go (c == 0) refl
@@ -422,7 +424,7 @@ unit_restyled style k z (UnicodeEscape digits) h =
     (UnicodeEscape (styled_digits style digits)) (held_of k n) (code_text_is style digits (hexes k digits h))
 unit_restyled style k z (LineBreak blanks) h = refl
 
--- ---- the bytes that the code writes
+-- ---- the bytes that the code writes for a character or escape
 
 at_escape : (style : Style) (k : Kind) (n : ℕ) (t cs : List ℕ) → t ≡ 92 ∷ cs → restyled_text style k n t
     ≡ restyled_escape style k n cs
@@ -484,7 +486,7 @@ alone_bytes style k n unit escape u e f =
     let text : chars unit ≡ 92 ∷ [] = e ∙ ap (λ z. 92 ∷ z) f in
     ap encode_utf8_all (at_escape style k n (chars unit) [] text ∙ sym text) ∙ encodes-chars unit u
 
--- The bytes that the code writes for a character other than a backslash are those of its new form.
+-- If a character isn't a backslash, the code writes the bytes of its new form.
 pub plain_bytes : (style : Style) (k : Kind) (n c : ℕ) (unit rest at a b : List ℕ) → IsUtf8 rest
     → chars unit ≡ c ∷ chars rest → first_passes (λ c. c == 92) (chars unit) ≡ false
     → a ≡ at ++ encode_utf8_all (itself_text style (n == 0) c) → b ≡ a ++ rest
@@ -504,7 +506,7 @@ pub empty_bytes : (style : Style) (k : Kind) (n : ℕ) (unit : List ℕ) → cha
 unfolding restyled_text
 empty_bytes style k n unit e = ap (λ z. encode_utf8_all (restyled_text style k n z)) e
 
--- ---- a numeric escape, as the code writes it
+-- ---- the bytes that the code writes for a numeric escape
 
 opened : (t : List ℕ) → begins (92 ∷ 117 ∷ 123 ∷ []) t ≡ true → t ≡ 92 ∷ 117 ∷ 123 ∷ drop 3 t
 opened [] h = absurd (cc)

@@ -1,5 +1,5 @@
--- If a raw string of a text is replaced by a string with escapes, the text is lexed as before. Neither a hash nor a dot
--- precedes the string.
+-- If a raw string of a text is replaced by a string with escapes, all other tokens are lexed as before. The text before the
+-- string ends with neither a hash nor a dot.
 use Rattle.rl_syntax.proofs.Common.{◌≡◌, ℕ, inr, true, List, [], ◌++◌, refl, ◌∙◌, ap, append-nil}
 use Rattle.rl_lexer.specs.Lexemes.{BodyPart, NoPrefix, Lexeme, RawLexeme, QuotedLexeme, lexeme_text}
 use Rattle.rl_style.specs.Around.{may_precede_quote}

@@ -13,7 +13,7 @@ use Rattle.rl_style.specs.Around.{may_precede_quote, StaysBeforeQuote}
 use Rattle.rl_syntax.proofs.Basics.{false_unless}
 use Rattle.rl_lexer.proofs.Pieces.{is_equal}
 
--- The old text: the text before the raw string, `r`, and the text after it.
+-- The old text: the text `f` before the raw string, the letter `r`, and the text `x` after it.
 abbrev old : List ℕ → List ℕ → List ℕ
 old f x = f ++ (114 ∷ x)
 
@@ -46,7 +46,7 @@ suffix_fits : (s f x y : List ℕ) → IsLexedSuffix s (old f x) → IsLexedSuff
 suffix_fits [] f x y h = first_fits is_start f x y start_34 h
 suffix_fits (c ∷ s) f x y (h, r) = (h, row_fits is_continue s f x y continue_34 r)
 
--- ---- texts that begin with a dot
+-- ---- the test for a dot, before a raw string and before a string with escapes
 
 dot_fits : (f x y : List ℕ) → may_precede_quote f ≡ true → begins_dot (old f x) ≡ false → begins_dot (new f y) ≡ false
 dot_fits [] x y may h = refl
@@ -72,7 +72,7 @@ after_dot (LexedPower letter sign n d more) s f x y may suffix (il, id, row) h =
 assoc3 : (d e s t : List ℕ) → (d ++ (e ++ s)) ++ t ≡ d ++ (e ++ (s ++ t))
 assoc3 d e s t = simp append_assoc
 
--- A test of a first character that fails for the old text also fails for the new text, with the parts `d`, `e` and `s` before
+-- If the first character of the old text fails a test, that of the new text fails it too. The texts `d`, `e` and `s` precede
 -- both.
 behind : (test : ℕ → Bool) (d e s f x y : List ℕ) → test 34 ≡ false → first_passes test (d ++ (e ++ (s ++ old f x)))
     ≡ false
@@ -95,7 +95,7 @@ fraction_fits (LexedDot ds) e s f x y may suffix power (h, r) =
       record { each = r.each; ends = behind (is_run_part is_ascii_digit) [] t s f x y refl r.ends },
     )
 
--- ---- texts that begin with an exponent
+-- ---- the test for an exponent, before a raw string and before a string with escapes
 
 run_agrees : (run test : ℕ → Bool) (f x y : List ℕ) → run 114 ≡ false → run 34 ≡ false → test 114 ≡ test 34
     → first_passes test (after_run run (old f x)) ≡ first_passes test (after_run run (new f y))
@@ -159,7 +159,7 @@ decimal_fits d more g e s f x y may (id, not_based, row, fraction, power, suffix
         (ap (first_passes is_base_letter) (at (old f x)) ∙ h)
     base false h = refl
 
--- ---- texts that begin with an identifier or a prefix
+-- ---- the test for an identifier or a prefix, before a raw string and before a string with escapes
 
 hashed_agrees : (c : ℕ) (g x y : List ℕ) → may_precede_quote (c ∷ g) ≡ true → begins_hashed_quote (old (c ∷ g) x)
     ≡ begins_hashed_quote (new (c ∷ g) y)

@@ -14,8 +14,8 @@ use Rattle.rl_style.proofs.Recut.{Alike, Recut, alike_more, recut_ends}
 abbrev is_mark : ℕ → Bool
 is_mark c = c == 65279
 
--- The byte order mark at the start of the text, or nothing, and the source after it. If another source `u` follows the same mark,
--- only this mark is dropped, provided that both sources or neither of them begin with a byte order mark.
+-- The byte order mark at the start of the text, or nothing, and the source after it. Another source `u` may follow `mark`
+-- instead. Then exactly `mark` is dropped, if both sources or neither of them begin with a byte order mark.
 record Marked (t : List ℕ) : Type 0 where
   pub mark : List ℕ
   pub text_is : t ≡ mark ++ without_byte_order_mark t
@@ -52,7 +52,7 @@ no_line (c ∷ x) h none =
     let here : Skipped (c ∷ x) (c ∷ x) = skipped_none (c ∷ x) (ap is_white e) (ap (λ z. z == 47) e) in
     both_ways (begins_char 91 (c ∷ x)) (none (c ∷ x) here) (ap (λ z. z == 91) e)
 
--- The text begins without `#!` or with `#![`, after its byte order mark.
+-- The text, without its byte order mark, doesn't begin with `#!`, or begins with `#![`.
 abbrev is_code : List ℕ → Bool
 is_code t = not (begins (codes "#!") t) || begins (codes "#![") t
 
@@ -69,7 +69,7 @@ mark_agrees lead a b (inr (inr u)) = ap (first_passes is_mark) u.old_is ∙ go u
     go [] x y = refl
     go (c ∷ f) x y = refl
 
--- Neither a raw string nor a string with escapes changes whether a first line is an interpreter's line.
+-- If two texts are equal up to an `r` in one and a quote in the other, neither or both begin with an interpreter's line.
 unquoted_code : (f x y : List ℕ) → is_code (f ++ (114 ∷ x)) ≡ is_code (f ++ (34 ∷ y))
 unquoted_code [] x y = refl
 unquoted_code (c ∷ []) x y = refl
@@ -84,12 +84,13 @@ code_agrees lead a b (inr (inl f)) =
 code_agrees lead a b (inr (inr u)) = ap is_code u.old_is ∙ unquoted_code u.front u.raw u.quoted
     ∙ ap is_code (sym u.new_is)
 
--- The source's body is the text after the byte order mark.
+-- If a text doesn't begin with an interpreter's line, its body is the whole text.
 body_is : (t body : List ℕ) → is_code t ≡ true → IsWithoutLine t body → body ≡ t
 body_is t body h (inl is) = absurd (no_script t body h is)
 body_is t body h (inr is) = is.0
 
--- The text before the body. It is followed by any text that no token before can distinguish from the body.
+-- The text `mark` before the body of a source: its byte order mark, or nothing. It is also the text before each other body `u`
+-- that begins as the body does.
 pub record Preamble (t body : List ℕ) (at : ℕ) : Type 0 where
   pub mark : List ℕ
   pub text_is : t ≡ mark ++ body

@@ -33,7 +33,7 @@ use Rattle.rl_style.proofs.WrittenTexts.{between_texts, scalars_join, text_of}
 use Rattle.rl_writing.proofs.AsciiLemmas.{encoded_low, low_chars}
 use Rattle.rl_style.specs.declared.characters.Manner.{Manner}
 
--- ---- the base of a number
+-- ---- the base that the code finds in a number
 
 abbrev radix_of : List ℕ → ℕ
 radix_of t = (radix_at t).0
@@ -74,10 +74,10 @@ digits_found t v x i =
       ]
     ]
 
--- ---- the bytes that the code writes
+-- ---- the bytes that the code writes for a number
 
--- If Unicode scalar values are written before a UTF-8 text, the result is UTF-8, and its characters are these and those of the
--- text.
+-- If Unicode scalar values are written before a UTF-8 text, the result is UTF-8. Its characters are these values and then the
+-- characters of the text.
 followed : (m s b : List ℕ) → IsUtf8 s → scalars m ≡ true → b ≡ encode_utf8_all m ++ s → IsUtf8 b
     × (chars b ≡ m ++ chars s)
 followed m s b v h e = text_of b (m ++ chars s) (scalars_join m (chars s) h (scalars-chars s v))
@@ -120,7 +120,7 @@ separator_scalars (Some Nothing) x = refl
 separator_scalars (Some Underscore) [] = refl
 separator_scalars (Some Underscore) (c ∷ cs) = refl
 
--- The bytes of the suffix, and of the separator before it.
+-- The bytes of the separator before the suffix, and of the suffix.
 abbrev pub ended : Style → List ℕ → List ℕ
 ended style suffix = encode_utf8_all (separator style (chars suffix)) ++ suffix
 
@@ -325,7 +325,7 @@ float_written style text full numeral suffix new v un us cut kept e f exact =
     empty_utf8 : IsUtf8 []
     empty_utf8 = ([], (refl, refl))
 
--- ---- numbers that are written unchanged
+-- ---- numbers that the code writes unchanged
 
 pub integer_unchanged : (t new x : List ℕ) (v : Contents) → StrictInt t v x → is_mistyped x t ≡ true → new ≡ t
     → KeepsInt t new
@@ -337,7 +337,7 @@ pub float_unchanged : (t new x : List ℕ) (v : Contents) → StrictFloat t v x 
 float_unchanged t new x v f mistyped e =
     record { contents = v; suffix = x; float = f; mistyped = mistyped; new_is = e }
 
--- ---- parts that are written into a slice one after the other
+-- ---- the code writes one part of a number after the other
 
 -- If one more part is written, the whole text is still the text written so far and the text that is still to be written.
 pub one_more : (whole taken new one rest : List ℕ) → whole ≡ taken ++ encode_utf8_all (one ++ rest)
@@ -369,7 +369,8 @@ dotted text inside prefix ut ui is e =
     ∙ ap (λ z. 46 ∷ z) (encodes-chars inside ui) in
     (let n = ap length bytes in omega (arith, n), whole)
 
--- If the text after the whole part doesn't begin with a dot, only its characters are rewritten.
+-- If the text after a float's whole part doesn't begin with a dot, its characters are rewritten, and no digits are divided
+-- into groups.
 pub undotted : (closes : Bool) (f : ℕ → List ℕ) (g : List ℕ → List ℕ) (cs prefix : List ℕ) → prefix ≡ 46 ∷ []
     → ((x : List ℕ) → cs ≡ chars prefix ++ x → ⊥) → fraction_in_groups closes f g cs ≡ flat_map f cs
 undotted closes f g [] prefix is none = refl
@@ -380,7 +381,7 @@ undotted closes f g (c ∷ cs) prefix is none =
       | inr a ↦ ap (λ b. cond b (c ∷ after_dot closes f g cs) (flat_map f (c ∷ cs))) a
     ]
 
--- The bytes that are written after a float's dot: a zero or nothing if the text after the dot is empty.
+-- If nothing follows the dot of a float, the code writes a zero or nothing after the dot, as the definition states.
 pub none_put : (closes : Bool) (f : ℕ → List ℕ) (g : List ℕ → List ℕ) (old new cs : List ℕ)
     → new ≡ old ++ encode_utf8_all (cond closes (48 ∷ []) []) → cs ≡ []
     → new ≡ old ++ encode_utf8_all (after_dot closes f g cs)
@@ -417,7 +418,7 @@ fraction_put closes f g old first second text cs a b t =
     ∙ ap (λ z. old ++ z) (sym (encodes-append (46 ∷ []) more))
     ∙ ap (λ z. old ++ encode_utf8_all (fraction_in_groups closes f g z)) (sym t)
 
--- ---- a number rewritten with the options of a style
+-- ---- the number that the code writes in a style
 
 pub float_put : (style : Style) (manner : Manner) (cs run rest first second third suffix : List ℕ)
     → manner.style ≡ style → manner.drops ≡ drops_underscores style (chars suffix)

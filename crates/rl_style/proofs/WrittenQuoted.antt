@@ -16,7 +16,7 @@ use Rattle.rl_style.proofs.SameRaw.{length_hashes, raw_followed, raw_joined, raw
 use Rattle.rl_style.proofs.UnitTexts.{units_scalars}
 use Rattle.rl_style.proofs.WrittenTexts.{scalars_join, text_of}
 
--- ---- the lengths of a literal's parts
+-- ---- the lengths of a quoted literal's parts
 
 pub parts_length : (t i s a b : List ℕ) → IsUtf8 t → IsUtf8 i → IsUtf8 s → list_all is_low a ≡ true
     → list_all is_low b ≡ true → chars t ≡ a ++ (chars i ++ (b ++ chars s))
@@ -32,7 +32,7 @@ parts_length t i s a b ut ui us la lb e =
     ap length whole ∙ length-append a (i ++ (b ++ s)) ∙ ap (λ n. length a + n) (length-append i (b ++ s)
     ∙ ap (λ n. length i + n) (length-append b s))
 
--- ---- literals with escapes
+-- ---- the bytes that the code writes for a literal with escapes
 
 opener_low : (k : Kind) → list_all is_low (strict_opener k) ≡ true
 opener_low Str = refl
@@ -114,7 +114,7 @@ closer_scalars Int = refl
 closer_scalars Float = refl
 closer_scalars BoolKind = refl
 
--- Texts that are written one after another are joined in that order.
+-- If the code writes parts one after another, the written text consists of the parts in this order.
 pub joined : (a b c d o mid x : List ℕ) (q r : ℕ) → d ≡ c ++ x → c ≡ b ++ encode_utf8 q → q ≡ r → b ≡ a ++ mid → a ≡ o
     → d
     ≡ ((o ++ mid) ++ encode_utf8 r) ++ x
@@ -166,7 +166,7 @@ cooked_written style k text inside suffix new ui us p w =
       },
     )
 
--- ---- raw strings
+-- ---- the bytes that the code writes for a raw string
 
 abbrev raw_tree : (k : Kind) (t i x : List ℕ) → (p : RawParts k t i x)
     → StrictRaw t k (quoted_contents k (strict_content_of k i)) x
@@ -237,7 +237,7 @@ pub regrouped : (o h i x : List ℕ) → o ++ (h ++ (34 ∷ (i ++ (34 ∷ (h ++ 
     ≡ (o ++ (h ++ (34 ∷ []))) ++ (i ++ ((34 ∷ h) ++ x))
 regrouped o h i x = simp append_assoc
 
--- A raw string with the fewest hashes has at most one byte more than the old text.
+-- If a raw string gets the fewest hashes, the new text has at most one byte more than the old text.
 pub raw_room : (k : Kind) (t i s : List ℕ) (n : ℕ) → IsUtf8 t → IsUtf8 i → IsUtf8 s
     → RawParts k (chars t) (chars i) (chars s) → HasFewestHashes k (chars i) n
     → (length i + 2 * n + 4) + length s ≤ length t + 1

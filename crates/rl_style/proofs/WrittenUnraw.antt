@@ -23,7 +23,8 @@ opener_is ByteStr h = (refl, refl, refl, refl)
 opener_is CStr h = (refl, refl, refl, refl)
 opener_is kind h = absurd (cc)
 
--- The new text has at most four bytes for each byte of the content, and no hashes.
+-- If a raw string becomes a string with escapes, each byte of its content becomes at most four bytes. With the delimiters and
+-- the suffix, these are at most four times the bytes of the raw string.
 pub unraw_room : (k : Kind) (t i s : List ℕ) → IsUtf8 t → IsUtf8 i → IsUtf8 s
     → RawParts k (chars t) (chars i) (chars s) → length (opener k) + 4 * length i + 1 + length s ≤ 4 * length t
 unraw_room k t i s ut ui us p =
@@ -75,9 +76,9 @@ unraw_written style k t inside suffix new ui us p w =
           ++ (z ++ chars suffix))) (sym o.3),
     )
 
--- ---- writing one character after another
+-- ---- the code writes one character of a raw string after another
 
--- The new text of the first characters of a raw string, where other characters follow.
+-- The new text of the first characters of a raw string. The characters `left` follow them.
 abbrev pub raw_before : Style → List ℕ → List ℕ → List ℕ
 raw_before style [] left = []
 raw_before style (c ∷ cs) left =
@@ -119,7 +120,7 @@ raw_all style front a xs all rest cut none e =
     ∙ ap (λ t. front ++ encode_utf8_all t) (raw_whole style xs
     ∙ ap (raw_inside style) (sym (cut ∙ ap (λ t. xs ++ t) none ∙ append-nil xs)))
 
--- ---- the parts of the written string
+-- ---- the parts of the string with escapes, one after another
 
 pub unraw_pieces : (a b c d o mid x : List ℕ) → d ≡ c ++ x → c ≡ b ++ (34 ∷ []) → b ≡ a ++ mid → a ≡ o
     → d ≡ ((o ++ mid) ++ (34 ∷ [])) ++ x

@@ -32,11 +32,12 @@ pub record SameFront (old new : List ℕ) : Type 0 where
   pub new_is : new ≡ front ++ (new_head ∷ new_rest)
 
 -- If two texts begin alike up to a literal's first character, each token before the old text is a token before the new text.
--- Invalid quotes and stray characters are excepted.
+-- Only invalid quotes and stray characters are excepted.
 abbrev pub StaysAround : Type 0
 StaysAround = (w : SourceLexeme) (old new : List ℕ) → SameFront old new → IsProper w old → IsProper w new
 
--- The old and the new literal are quoted with escapes and have one prefix and one suffix. The new one is well formed.
+-- The old and the new literal are quoted literals with escapes. They have one prefix and one suffix. The new literal has a
+-- valid body.
 pub record SameQuoted (old new : Lexeme) : Type 0 where
   pub prefix : LiteralPrefix
   pub parts : List BodyPart
@@ -46,7 +47,8 @@ pub record SameQuoted (old new : Lexeme) : Type 0 where
   pub old_is : old ≡ QuotedLexeme prefix parts suffix
   pub new_is : new ≡ QuotedLexeme prefix new_parts suffix
 
--- The old and the new literal are raw strings with any hashes, one prefix and one suffix. The new one is well formed.
+-- The old and the new literal are raw strings. They have one prefix and one suffix, and may have different numbers of hashes.
+-- The new literal has a valid body.
 pub record SameRawString (old new : Lexeme) : Type 0 where
   pub prefix : LiteralPrefix
   pub hashes : ℕ
@@ -58,7 +60,8 @@ pub record SameRawString (old new : Lexeme) : Type 0 where
   pub old_is : old ≡ RawLexeme prefix hashes body suffix
   pub new_is : new ≡ RawLexeme prefix new_hashes new_body suffix
 
--- The old literal is a raw string with the prefix `b` or `c`, and the new one a string with escapes and this prefix.
+-- The old literal is a raw string with the prefix `b` or `c`. The new literal is a string with escapes. It has the prefix and
+-- the suffix of the old one, and a valid body.
 pub record SameUnraw (old new : Lexeme) : Type 0 where
   pub prefix : LiteralPrefix
   pub has_prefix : prefix ≢ NoPrefix
@@ -70,7 +73,7 @@ pub record SameUnraw (old new : Lexeme) : Type 0 where
   pub old_is : old ≡ RawLexeme prefix hashes body suffix
   pub new_is : new ≡ QuotedLexeme prefix new_parts suffix
 
--- The old and the new literal are characters or bytes with one suffix. The new one is well formed.
+-- The old and the new literal are characters, or both are bytes. They have one suffix. The new literal has a valid body.
 pub record SameCharacter (old new : Lexeme) : Type 0 where
   pub is_byte : Bool
   pub inside : CharacterBody
@@ -80,7 +83,7 @@ pub record SameCharacter (old new : Lexeme) : Type 0 where
   pub old_is : old ≡ CharacterLexeme is_byte inside suffix
   pub new_is : new ≡ CharacterLexeme is_byte new_inside suffix
 
--- The old and the new literal are integers with one base prefix. Here the suffix is part of their digits.
+-- The old and the new literal are integers with one base prefix. The digits include the suffix here.
 pub record SameBased (old new : Lexeme) : Type 0 where
   pub letter : ℕ
   pub digits : List ℕ
@@ -89,7 +92,8 @@ pub record SameBased (old new : Lexeme) : Type 0 where
   pub old_is : old ≡ BasedLexeme letter digits
   pub new_is : new ≡ BasedLexeme letter new_digits
 
--- The fractions differ only in their digits. A dot without digits stays so, or gets a digit.
+-- Both numbers have a fraction, or neither has one. The digits of the two fractions may differ. The new fraction begins with a
+-- digit, unless both numbers end with their dot.
 abbrev pub SameFraction : LexedFraction → LexedFraction → LexedExponent → Type 0
 SameFraction NoLexedFraction NoLexedFraction power = ⊤
 SameFraction (LexedDot digits) (LexedDot new) power =
@@ -106,7 +110,7 @@ SamePower (LexedPower _ _ _ _ _) (LexedPower letter sign n d more) =
 SamePower _ _ = ⊥
 
 -- The old and the new literal are decimal numbers with one first digit and one suffix. The new one has a fraction and an
--- exponent where the old one has them, and doesn't begin with the prefix of another base.
+-- exponent if the old one has them, and doesn't begin with the prefix of another base.
 pub record SameDecimal (old new : Lexeme) : Type 0 where
   pub digit : ℕ
   pub more : List ℕ
@@ -124,14 +128,15 @@ pub record SameDecimal (old new : Lexeme) : Type 0 where
   pub old_is : old ≡ DecimalLexeme digit more fraction exponent suffix
   pub new_is : new ≡ DecimalLexeme digit new_more new_fraction new_exponent suffix
 
--- The new literal has the form, the prefix and the suffix of the old one, and is well formed.
+-- The new literal has the kind, the prefix and the suffix of the old one, and is well formed. Both literals are raw strings,
+-- or neither is. But a raw string with the prefix `b` or `c` may become a string with escapes.
 abbrev pub SameEnds : Lexeme → Lexeme → Type 0
 SameEnds old new =
     SameQuoted old new ⊎ (SameRawString old new ⊎ (SameCharacter old new ⊎ (SameBased old new
     ⊎ (SameDecimal old new ⊎ SameUnraw old new))))
 
--- A new literal with the form, the prefix and the suffix of the old one is a literal before any text that may follow the old
--- one, and begins as the old one does.
+-- If a new literal has the ends of the old one (`SameEnds`), it is a literal before each text that may follow the old one, and
+-- begins as the old one does. The ends of a literal are its prefix and its suffix.
 abbrev pub KeepsItsEnds : Type 0
 KeepsItsEnds =
     (l m : Lexeme) (after : List ℕ) → SameEnds l m → IsLexeme l after
@@ -143,8 +148,8 @@ may_precede_quote [] = true
 may_precede_quote (c ∷ []) = not (c == code "#" || c == code ".")
 may_precede_quote (c ∷ d ∷ t) = may_precede_quote (d ∷ t)
 
--- A token before a raw string is also a token before a string with escapes, if the text between them ends with neither a hash
--- nor a dot.
+-- A token before a raw string is also a token before a string with escapes, if the text between the token and the string ends
+-- with neither a hash nor a dot.
 abbrev pub StaysBeforeQuote : Type 0
 StaysBeforeQuote =
     (w : SourceLexeme) (front raw quoted : List ℕ) → IsTrue (may_precede_quote front)

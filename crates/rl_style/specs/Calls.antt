@@ -10,7 +10,7 @@ use Rattle.rl_lexer.specs.Sources.{SourceKind, PlainKind, RawIdentifierKind, Lif
 use Rattle.rl_style.specs.declared.calls.Calls.{Calls}
 use Rattle.rl_style.specs.declared.calls.Calls.TheVariants as found
 
--- The position of the next token relative to macro calls. A macro's definition and an attribute count as calls.
+-- The position of the next token relative to macro calls. The definition of a macro and an attribute count as macro calls.
 pub data CallState : Type 0 where
   -- The next token is outside of macro calls.
   Outside : CallState
@@ -20,7 +20,7 @@ pub data CallState : Type 0 where
   AfterBang : CallState
   -- The next token follows `#`, or `#!`.
   AfterHash : CallState
-  -- The next token is inside a macro call, nested in this number of brackets.
+  -- The next token is inside a macro call, nested in `depth` brackets.
   Inside : (depth : ℕ) → CallState
 
 -- The keywords of all editions of Rust. No macro has one of these names, so `!` after one is an operator or the never type.
@@ -35,7 +35,8 @@ keywords =
 unfoldable pub is_keyword : List ℕ → Bool
 is_keyword word = list_any (bytes_eq word) keywords
 
--- The position after an identifier. After a macro's name and `!`, the identifier is the name of a defined macro.
+-- The position relative to macro calls, after an identifier. After a macro's name and `!`, the identifier is the name of a
+-- macro that is being defined.
 abbrev pub after_word : CallState → List ℕ → CallState
 after_word (Inside depth) word = Inside depth
 after_word AfterBang word = AfterBang
@@ -46,7 +47,8 @@ after_word AfterHash word = AfterWord word
 abbrev pub at_hash : ℕ → CallState
 at_hash mark = if mark == code "#" then AfterHash else Outside
 
--- The position after a punctuation character. A `!` after an identifier that isn't a keyword makes it a macro's name.
+-- The position relative to macro calls, after a punctuation character. If `!` follows an identifier that isn't a keyword, the
+-- identifier is a macro's name.
 abbrev pub after_mark : CallState → ℕ → CallState
 after_mark (Inside depth) mark = Inside depth
 after_mark AfterHash mark = if mark == code "!" then AfterHash else at_hash mark
@@ -58,8 +60,8 @@ after_mark Outside mark = at_hash mark
 abbrev pub deeper : ℕ → ℕ
 deeper depth = if nat_lt depth 18446744073709551615 then depth + 1 else depth
 
--- The position after an opening bracket. Brackets of any kind nest. Any bracket begins a macro call, and `[` begins an
--- attribute.
+-- The position relative to macro calls, after an opening bracket. Brackets of any kind nest. Any bracket after a macro's name
+-- and `!` begins a macro call, and `[` after `#` begins an attribute.
 abbrev pub after_opener : CallState → ℕ → CallState
 after_opener (Inside depth) bracket = Inside (deeper depth)
 after_opener AfterBang bracket = Inside 1
@@ -74,28 +76,28 @@ after_closer _ = Outside
 abbrev pub after_bracket : CallState → ℕ → CallState
 after_bracket s bracket = if is_among (codes "([{") bracket then after_opener s bracket else after_closer s
 
--- The position after a literal, a lifetime, a doc comment or a stray character.
+-- The position relative to macro calls, after a literal, a lifetime, a doc comment or a stray character.
 abbrev pub after_any_other : CallState → CallState
 after_any_other (Inside depth) = Inside depth
 after_any_other _ = Outside
 
--- The position after a token of this kind with the text `bytes`.
-abbrev pub calls_after : CallState → SourceKind → List ℕ → CallState
-calls_after s (PlainKind IdentifierForm) bytes = after_word s bytes
-calls_after s (PlainKind (DelimiterForm c)) bytes = after_bracket s c
-calls_after s (PlainKind (MarkForm c)) bytes = after_mark s c
-calls_after s (PlainKind LiteralForm) bytes = after_any_other s
-calls_after s RawIdentifierKind bytes = after_word s bytes
-calls_after s LifetimeKind bytes = after_any_other s
-calls_after s DocCommentKind bytes = after_any_other s
-calls_after s StrayKind bytes = after_any_other s
+-- The position relative to macro calls, after a token of the given kind. The text of the token is `bytes`.
+abbrev pub advance_calls : CallState → SourceKind → List ℕ → CallState
+advance_calls s (PlainKind IdentifierForm) bytes = after_word s bytes
+advance_calls s (PlainKind (DelimiterForm c)) bytes = after_bracket s c
+advance_calls s (PlainKind (MarkForm c)) bytes = after_mark s c
+advance_calls s (PlainKind LiteralForm) bytes = after_any_other s
+advance_calls s RawIdentifierKind bytes = after_word s bytes
+advance_calls s LifetimeKind bytes = after_any_other s
+advance_calls s DocCommentKind bytes = after_any_other s
+advance_calls s StrayKind bytes = after_any_other s
 
 -- The next token is inside a macro call.
 abbrev pub is_in_call : CallState → Bool
 is_in_call (Inside depth) = true
 is_in_call _ = false
 
--- The position in these definitions that a position in the code represents.
+-- Converts the code's position relative to macro calls to the position in the definitions.
 abbrev pub calls_seen : Calls → CallState
 calls_seen found.Outside = Outside
 calls_seen (found.AfterWord word) = AfterWord word.now

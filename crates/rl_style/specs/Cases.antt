@@ -30,13 +30,13 @@ exponent_letter None c = c
 exponent_letter (Some Lower) c = if c == code "E" then code "e" else c
 exponent_letter (Some Upper) c = if c == code "e" then code "E" else c
 
--- The style drops the underscores of a number with this suffix. If the suffix begins as a base prefix does, they are kept, so
--- that `0_b1` doesn't become a binary number.
+-- Whether the style drops the underscores of a number with the given suffix. If the suffix begins with the letter of a base,
+-- they are kept, so that `0_b1` doesn't become a binary number.
 abbrev pub drops_underscores : Style → List ℕ → Bool
 drops_underscores style suffix = style.underscores && not (first_passes is_base_letter suffix)
 
--- The new characters for one character of a number: one, or none if it is dropped. `drops` is true if underscores are dropped,
--- and `hex` if the number is hexadecimal.
+-- The new characters for one character of a number. They are one character, or none if the character is dropped. `drops` is
+-- true if underscores are dropped, and `hex` if the number is hexadecimal.
 abbrev pub number_character : Style → Bool → Bool → ℕ → List ℕ
 number_character style drops hex c =
     if (drops && c == code "_") || ((not hex && style.exponent_plus) && c == code "+") then []
@@ -47,8 +47,8 @@ abbrev pub trimmed : List ℕ → List ℕ
 trimmed [] = []
 trimmed (c ∷ cs) = if list_all is_underscore (c ∷ cs) then [] else c ∷ trimmed cs
 
--- The style drops the underscores before a number's suffix. A style without a separator keeps them if the suffix begins with the
--- letter of a base, so that the number doesn't become another number.
+-- Whether the style drops the underscores before a number's suffix. A style without a separator keeps them if the suffix
+-- begins with the letter of a base, so that the number doesn't become another number.
 abbrev pub trims_by : Option Separator → List ℕ → Bool
 trims_by None suffix = false
 trims_by (Some Nothing) suffix = not (first_passes is_base_letter suffix)
@@ -79,7 +79,8 @@ or_zero (c ∷ cs) = c ∷ cs
 abbrev pub significant : List ℕ → List ℕ
 significant run = or_zero (after_run is_padding run)
 
--- The style drops the leading zeros of an integer: it is decimal, and its suffix doesn't begin as a base prefix does.
+-- Whether the style drops the leading zeros of an integer. It drops them only if the integer is decimal, and if its suffix
+-- doesn't begin with the letter of a base.
 abbrev pub drops_zeros : Style → ℕ → List ℕ → Bool
 drops_zeros style base suffix = (style.leading_zeros && base == 10) && not (first_passes is_base_letter suffix)
 
@@ -87,7 +88,7 @@ drops_zeros style base suffix = (style.leading_zeros && base == 10) && not (firs
 abbrev pub exceeds_octal : ℕ → Bool
 exceeds_octal c = c == code "8" || c == code "9"
 
--- The digits of an integer without the leading zeros, if the style drops them. A number whose digits are all octal keeps its
+-- The digits of an integer, without the leading zeros if the style drops them. A number whose digits are all octal keeps its
 -- leading zeros, since `0123` may be meant as an octal number.
 abbrev pub kept_digits : Style → ℕ → List ℕ → List ℕ → List ℕ
 kept_digits style base suffix run =

@@ -33,13 +33,14 @@ abbrev pub NoRuleChangesNothing : Type 0
 NoRuleChangesNothing =
     (style : Style) (front t u : List ℕ) → HasNoRule style → Rewrites style front t u → u ≡ t
 
--- The new text has each parse result of the old text: its kind, its value and its suffix.
+-- If the old text has a parse result, the new text has the kind, the value and the suffix of this result.
 abbrev pub ReadsAlike : List ℕ → List ℕ → Type 0
 ReadsAlike t u =
     (kind : Kind) (contents : Contents) (suffix : List ℕ)
     → Reads t kind contents suffix → Reads u kind contents suffix
 
--- If the old text is a literal token of Rust's grammar, the new text is one with the same kind, value and suffix.
+-- If the old text is a literal token of Rust's grammar, the new text is one too, and has the kind, the value and the suffix of
+-- the old text.
 abbrev pub StrictAlike : List ℕ → List ℕ → Type 0
 StrictAlike t u =
     (kind : Kind) (contents : Contents) (suffix : List ℕ)

@@ -16,13 +16,13 @@ use Rattle.rl_style.specs.Cases.{cased, is_padding}
 use Rattle.rl_writing.specs.AsciiStrings.{unicode_escape}
 use Rattle.rl_style.specs.Rewriting.{gets_letter, needs_number, is_visible, letter_of, lower_digit, needs_backslash}
 
--- The character, or an empty list if there is none.
+-- The list of the optional character: one character, or an empty list for `None`.
 abbrev pub one_or_none : Option ℕ → List ℕ
 one_or_none None = []
 one_or_none (Some c) = c ∷ []
 
--- A rewritten sequence of digits and underscores. An underscore follows each digit whose number of following digits passes the
--- test. Only underscores at the sequence's end are kept.
+-- A rewritten sequence of digits and underscores. An underscore follows a digit if the number of digits after it passes the
+-- test. Of the old underscores, only those at the end of the sequence are kept.
 abbrev pub run_placed : (ℕ → List ℕ) → (ℕ → Bool) → List ℕ → List ℕ
 run_placed character test [] = []
 run_placed character test (c ∷ cs) =
@@ -35,7 +35,7 @@ run_placed character test (c ∷ cs) =
 abbrev pub OpensAs : QuotedForm → Kind → List ℕ → Type 0
 OpensAs form kind text = (rest : List ℕ) × (opener_at text ≡ found_opener form kind rest)
 
--- The text is a raw string of the kind with the content `inside` and this suffix.
+-- The text is a raw string of the kind with the content `inside` and the suffix `suffix`.
 pub record RawParts (kind : Kind) (text inside suffix : List ℕ) : Type 0 where
   pub hashes : ℕ
   pub few : hashes < 256
@@ -47,13 +47,13 @@ pub record RawParts (kind : Kind) (text inside suffix : List ℕ) : Type 0 where
   pub text_is : text ≡ strict_raw_opener kind ++ (replicate hashes (code "#")
       ++ (code "\"" ∷ (inside ++ (code "\"" ∷ (replicate hashes (code "#") ++ suffix)))))
 
--- The content `inside` consists of these characters and escapes of the kind.
+-- The text `inside` consists of the characters and escapes `units`. A literal of the kind may contain each of them.
 pub record AreUnits (kind : Kind) (units : List StrictUnit) (inside : List ℕ) : Type 0 where
   pub each : IsTrue (list_all (is_strict_unit kind) units)
   pub blanks_end : BlanksEnd units
   pub inside_is : inside ≡ flat_map strict_text units
 
--- The text is a quoted literal of the kind with escapes, with the content `inside` and this suffix.
+-- The text is a quoted literal of the kind with escapes. Its content is `inside`, and its suffix is `suffix`.
 pub record CookedParts (kind : Kind) (text inside suffix : List ℕ) : Type 0 where
   pub units : List StrictUnit
   pub count : HasUnits kind units
@@ -70,7 +70,8 @@ ascii_in (n ∷ ns) = if nat_lt n 128 then n else 128
 abbrev pub visible_text : Kind → ℕ → List ℕ
 visible_text kind c = if c == closer kind || c == code "\\" then code "\\" ∷ c ∷ [] else c ∷ []
 
--- The text without leading zeros and underscores. If it has only zeros before the closing brace, one zero is kept.
+-- The text of an escape's digits after the leading zeros and underscores. If it begins with the closing brace, a zero is put
+-- before the brace.
 abbrev pub zero_closed : List ℕ → List ℕ
 zero_closed [] = []
 zero_closed (c ∷ cs) = if c == code "}" then code "0" ∷ c ∷ cs else c ∷ cs
@@ -80,7 +81,8 @@ fewest_text [] = []
 fewest_text (c ∷ cs) =
     if is_padding c then without_underscores (zero_closed (after_run is_padding cs)) else without_underscores (c ∷ cs)
 
--- The new form of a numeric escape: with the fewest digits if it is `\u{..}` and the style requires this.
+-- The text of a numeric escape with its digits in the style. A `\u{..}` escape has the fewest digits if the style requires
+-- this.
 abbrev pub digits_text : Style → List ℕ → List ℕ
 digits_text style text =
     if style.code_digits && begins (codes "\\u{") text
@@ -98,7 +100,7 @@ number_text style kind n text =
     else (if style.named_escapes && gets_letter true n then code "\\" ∷ letter_of n ∷ []
     else digits_text style text)
 
--- The new form of an escape with the value `n`. The list is the text after its backslash.
+-- The new form of an escape with the value `n`. The argument is the text of the escape after its backslash.
 abbrev pub restyled_escape : Style → Kind → ℕ → List ℕ → List ℕ
 restyled_escape style kind n [] = code "\\" ∷ []
 restyled_escape style kind n (c ∷ cs) =
@@ -112,7 +114,8 @@ abbrev pub code_text : ℕ → List ℕ
 code_text c =
     if nat_lt c 128 then code "\\" ∷ code "x" ∷ lower_digit (c / 16) ∷ lower_digit (c % 16) ∷ [] else unicode_escape c
 
--- The new form of an invisible or bidirectional character: `\0` for a NUL that may be written so, or a numeric escape.
+-- The new form of an invisible or bidirectional character. If the character is NUL and may be written as `\0`, it is the
+-- escape `\0`. Otherwise it is a numeric escape.
 abbrev pub hidden_text : Style → Bool → ℕ → List ℕ
 hidden_text style zero c =
     if style.named_escapes && (zero && c == 0) then code "\\" ∷ code "0" ∷ [] else digits_text style (code_text c)
@@ -132,11 +135,11 @@ abbrev pub represents_digit : Option (List ℕ × List ℕ) → Bool
 represents_digit None = false
 represents_digit (Some p) = is_ascii_digit (ascii_in p.0)
 
--- A character of a raw string, as it is written in a string with escapes.
+-- The new form of a character of a raw string that becomes a string with escapes.
 abbrev pub raw_character : Style → Bool → ℕ → List ℕ
 raw_character style zero c = if needs_backslash c then code "\\" ∷ c ∷ [] else itself_text style zero c
 
--- The content of a raw string, as it is written in a string with escapes.
+-- The new form of a raw string's content, if the raw string becomes a string with escapes.
 abbrev pub raw_inside : Style → List ℕ → List ℕ
 raw_inside style [] = []
 raw_inside style (c ∷ cs) = raw_character style (not (first_passes is_ascii_digit cs)) c ++ raw_inside style cs

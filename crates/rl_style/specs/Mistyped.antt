@@ -17,11 +17,11 @@ abbrev pub ends_with_width : List ℕ → Bool
 ends_with_width [] = false
 ends_with_width (c ∷ cs) = (c == code "_" && is_width cs) || ends_with_width cs
 
--- An integer with this suffix and this text may have a mistyped suffix: it has no suffix, and ends with a width.
+-- An integer may have a mistyped suffix if it has no suffix and its text ends with an underscore and a width, as `2_32` does.
 abbrev pub is_mistyped : List ℕ → List ℕ → Bool
 is_mistyped [] text = ends_with_width text
 is_mistyped (c ∷ cs) text = false
 
--- A float with this suffix and this text may have a mistyped suffix: it has an exponent and no suffix, and ends with a width.
+-- A float may have a mistyped suffix if it has an exponent and no suffix, and its text ends with an underscore and a width.
 abbrev pub is_mistyped_float : List ℕ → List ℕ → Bool
 is_mistyped_float suffix text = is_mistyped suffix text && list_any is_exponent_letter text

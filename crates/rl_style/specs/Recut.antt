@@ -6,7 +6,8 @@ use Rattle.rl_lexer.specs.Lexemes.{BodyPart, IsBody, NoPrefix, Lexeme, RawLexeme
 use Rattle.rl_lexer.specs.Sources.{SourceLexeme, PlainToken, BadQuoteToken, StrayToken, CutSource, SourcesUpTo, without_byte_order_mark, IsCutUpTo}
 use Rattle.rl_style.specs.Around.{SameEnds, may_precede_quote}
 
--- The old tokens, with their byte offsets moved from `from` to `to`.
+-- The tokens after a replaced literal, which ended at the byte offset `from` and ends at `to` now. Their byte offsets change
+-- by the difference.
 abbrev pub moved : ℕ → ℕ → List CutSource → List CutSource
 moved from to [] = []
 moved from to (w ∷ ws) = record { token = w.token; at = w.at + to - from } ∷ moved from to ws
@@ -63,8 +64,8 @@ KeepsTheSource =
     → IsTrue (begins_with_code t) → IsCutUpTo t (before ++ (placed_literal old place ∷ after)) r
     → AllByRecursion IsSound before → SameEnds old new → IsRecutSource t before after old new place r
 
--- A raw string without a prefix may be replaced by a string with escapes if neither a hash nor a dot precedes it: all other
--- tokens are lexed as before.
+-- If a raw string without a prefix is replaced by a string with escapes, all other tokens are lexed as before. The text before
+-- the string ends with neither a hash nor a dot.
 abbrev pub KeepsTheTokensUnraw : Type 0
 KeepsTheTokensUnraw =
     (at : ℕ) (t : List ℕ) (before after : List CutSource) (hashes : ℕ) (body suffix : List ℕ) (parts : List BodyPart)

@@ -9,7 +9,7 @@ use Rattle.rl_lexer.specs.Cursors.{CursorState}
 use Rattle.rl_lexer.specs.Lexemes.{DelimiterForm, MarkForm}
 use Rattle.rl_lexer.specs.Sources.{BeginsNoSource, DocCommentKind, IsLiteralText, PlainKind, SourceKind, TakesSource, source_view}
 use Rattle.rl_lexer.specs.declared.sources.SourceToken.{SourceToken}
-use Rattle.rl_style.specs.Calls.{CallState, calls_after, is_in_call}
+use Rattle.rl_style.specs.Calls.{CallState, advance_calls, is_in_call}
 use Rattle.rl_style.specs.declared.restylable.Last.{Last}
 use Rattle.rl_style.specs.declared.restylable.Last.TheVariants.{Other, Dot, Dots, Opening}
 use Rattle.rl_style.specs.declared.restylable.Restylable.{Restylable}
@@ -26,7 +26,7 @@ abbrev pub is_dot : SourceKind → Bool
 is_dot (PlainKind (MarkForm c)) = c == code "."
 is_dot _ = false
 
--- The state after one more dot. `joined` is true if the dot directly follows the token before it.
+-- Describes the last token after one more dot. `joined` is true if the dot directly follows the token before it.
 abbrev pub one_more : Last → Bool → Last
 one_more Dot joined = cond joined Dots Dot
 one_more Dots joined = cond joined Dots Dot
@@ -39,7 +39,8 @@ is_opening (PlainKind (MarkForm c)) = c == code ","
 is_opening DocCommentKind = true
 is_opening _ = false
 
--- The state after a token of this kind. The token begins at the byte offset `lo`, and the token before it ends at `end`.
+-- Describes the last token after a token of the given kind, which begins at the byte offset `lo`. The token before it ends at
+-- `end`.
 abbrev pub last_after : Last → ℕ → SourceKind → ℕ → Last
 last_after last end kind lo =
     if is_dot kind then one_more last (lo == end) else if is_opening kind then Opening else Other
@@ -53,24 +54,24 @@ abbrev pub begins_one_colon : List ℕ → Bool
 begins_one_colon [] = false
 begins_one_colon (c ∷ t) = c == code ":" && not (begins_char (code ":") t)
 
--- A number is a field of a tuple. `last` is the token before it, and `rest` the source after it, without white space and
--- comments at its beginning.
+-- A number between the token `last` and the source `rest` is a field of a tuple. White space and comments at the start of the
+-- source aren't part of `rest`.
 abbrev pub names_field : Last → List ℕ → Bool
 names_field Dot rest = true
 names_field Opening rest = begins_one_colon rest
 names_field _ rest = false
 
--- The literal may be a field of a tuple: it is a number after one dot, or before one colon.
+-- The literal may be a field of a tuple. It is a number after one dot, or before one colon.
 abbrev pub is_field : Last → List ℕ → List ℕ → Bool
 is_field last bytes rest = begins_number bytes && names_field last rest
 
--- The cursor's state after the token.
+-- The state of the cursor after it has read the token.
 abbrev pub passed : RestylableState → SourceToken → CursorState → RestylableState
 passed s token tokens = record {
   tokens = tokens;
   last = last_after s.last s.end (source_view token.form) token.lo;
   end = token.hi;
-  calls = calls_after s.calls (source_view token.form) token.text.now;
+  calls = advance_calls s.calls (source_view token.form) token.text.now;
 }
 
 -- The token of a source is a literal.

@@ -52,12 +52,12 @@ KeepsTheRestyledSource =
 
 -- ---- sources with several rewritten literals
 
--- The new text of a token if it has one, and its old text otherwise.
+-- The text of a token after an edit: the new text, or the old text if the edit is `None`.
 abbrev pub edited_text : Option (List ℕ) → SourceLexeme → List ℕ
 edited_text None token = source_text token
 edited_text (Some written) token = written
 
--- The new text is the old one with the new texts of some of the tokens. The old text begins at the byte offset `at`.
+-- If some tokens of the old text get new texts, the result is the new text. The old text begins at the byte offset `at`.
 abbrev pub IsEdited : ℕ → List ℕ → List CutSource → List (Option (List ℕ)) → List ℕ → Type 0
 IsEdited at old [] [] new = new ≡ old
 IsEdited at old (w ∷ ws) (e ∷ es) new =
@@ -65,7 +65,8 @@ IsEdited at old (w ∷ ws) (e ∷ es) new =
     × (new ≡ gap ++ (edited_text e w.token ++ new_after)) × IsEdited (source_end w) after ws es new_after
 IsEdited at old _ _ new = ⊥
 
--- The new text of a token, if it has one, is the literal's text in the style. The old text begins at the byte offset `at`.
+-- If an edit gives a token a new text, the token is a literal and the new text is this literal in the style. The old text
+-- begins at the byte offset `at`.
 abbrev pub IsInStyle : Style → ℕ → List ℕ → CutSource → Option (List ℕ) → Type 0
 IsInStyle style at t w None = ⊤
 IsInStyle style at t w (Some written) =
@@ -77,7 +78,8 @@ AreInStyle style at t [] [] = ⊤
 AreInStyle style at t (w ∷ ws) (e ∷ es) = IsInStyle style at t w e × AreInStyle style at t ws es
 AreInStyle style at t _ _ = ⊥
 
--- The new token is the old one, or has its kind and the new text.
+-- If an edit gives a token a new text, the new token has this text and the old token's kind. Otherwise the new token is the
+-- old one.
 abbrev pub IsTokenOf : Option (List ℕ) → SourceLexeme → SourceLexeme → Type 0
 IsTokenOf None old new = new ≡ old
 IsTokenOf (Some written) old new = (source_text new ≡ written) × (source_kind new ≡ source_kind old)
@@ -87,7 +89,8 @@ AreTokensOf [] [] [] = ⊤
 AreTokensOf (e ∷ es) (v ∷ vs) (w ∷ ws) = IsTokenOf e v.token w.token × AreTokensOf es vs ws
 AreTokensOf _ _ _ = ⊥
 
--- The new text is lexed into the old number of tokens. Each is the old token or has its new text.
+-- The lexer splits the new text into as many tokens as the old text. Each token is the old one, or has the new text that an
+-- edit gives it.
 pub record IsCutEdited (at : ℕ) (new : List ℕ) (cuts : List CutSource) (edits : List (Option (List ℕ))) (r : List ℕ) :
     Type 0 where
   pub tokens : List CutSource
@@ -101,7 +104,8 @@ KeepsTheTokensOfEdits =
     → SourcesUpTo at old cuts r → AllByRecursion IsSound cuts → IsEdited at old cuts edits new
     → AreInStyle style at old cuts edits → IsCutEdited at new cuts edits r
 
--- The new source is lexed into the old number of tokens. Each is the old token or has its new text.
+-- The lexer splits the new source into as many tokens as the old source. Each token is the old one, or has the new text that
+-- an edit gives it.
 pub record IsEditedSource (new : List ℕ) (cuts : List CutSource) (edits : List (Option (List ℕ))) (r : List ℕ) : Type
     0 where
   pub tokens : List CutSource

@@ -21,7 +21,7 @@ use Rattle.rl_style.specs.Cases.{cased, drops_underscores, kept_digits, kept_run
 use Rattle.rl_style.specs.Groups.{float_in_groups, grouped_run}
 use Rattle.rl_style.specs.Mistyped.{is_mistyped, is_mistyped_float}
 
--- Both texts are literal tokens of one kind, with one value and one suffix. It is proved that two such texts have equal parse
+-- Both texts are literal tokens of one kind, with one value and one suffix. It is proved that the two texts have equal parse
 -- results.
 pub record SameLiteral (old new : List ℕ) : Type 0 where
   pub kind : Kind
@@ -30,7 +30,7 @@ pub record SameLiteral (old new : List ℕ) : Type 0 where
   pub was : Strict old kind contents suffix
   pub is : Strict new kind contents suffix
 
--- A float's value gets a zero after the dot at its end, since the style adds it.
+-- The style adds a zero to a float that ends with its dot. The new value is the old value with this zero at its end.
 pub record GetsZero (style : Style) (old new : Contents) : Type 0 where
   pub float_zero : IsTrue style.float_zero
   pub digits : List ℕ
@@ -49,7 +49,7 @@ pub record SameNumber (style : Style) (old new : List ℕ) : Type 0 where
 
 -- ---- rewritten numbers
 
--- The new digits of an integer with this base and this suffix.
+-- The new digits of an integer with the given base and suffix.
 abbrev pub styled_run : Style → ℕ → List ℕ → List ℕ → List ℕ
 styled_run style base suffix run =
     grouped_run false style base suffix
@@ -77,14 +77,14 @@ pub record KeepsInt (old new : List ℕ) : Type 0 where
 abbrev pub RewritesInt : Style → List ℕ → List ℕ → Type 0
 RewritesInt style old new = StylesInt style old new ⊎ KeepsInt old new
 
--- The new form of a float's text before this suffix.
+-- The new form of a float's text before its suffix.
 abbrev pub styled_numeral : Style → List ℕ → List ℕ → List ℕ
 styled_numeral style suffix numeral =
     float_in_groups style.float_zero (number_character style (drops_underscores style suffix) false)
     (λ from_first. grouped_run from_first style 10 suffix) (kept_run style suffix numeral)
 
--- The old text is a float, and the new text has its rewritten digits and its suffix. They are rewritten as those of an integer,
--- except that leading zeros are kept.
+-- The old text is a float, and the new text has its rewritten digits and its suffix. The digits are rewritten as those of an
+-- integer, except that leading zeros are kept.
 pub record StylesFloat (style : Style) (old new : List ℕ) : Type 0 where
   pub contents : Contents
   pub suffix : List ℕ
@@ -153,8 +153,9 @@ respelled style kind zero c escape =
     if style.ascii_escapes && is_visible c then visible_unit kind c
     else (if style.named_escapes && gets_letter zero c then PlainEscape (letter_of c) else escape)
 
--- The new form of an escape. A quote that doesn't close the literal is written without its backslash, and a visible character
--- without its numeric escape. Other numeric escapes have their digits in one case.
+-- The new form of an escape. If the style requires it, a quote that doesn't close the literal loses its backslash, and a
+-- visible character or an escape with a letter replaces a numeric escape. Other numeric escapes have their digits in the
+-- style.
 abbrev pub reescaped : Style → Kind → Bool → StrictUnit → StrictUnit
 reescaped style kind zero (QuoteEscape c) =
     if style.quote_escapes && not (c == closer kind) then Itself c else QuoteEscape c
@@ -176,7 +177,7 @@ needs_number c = needs_escape c && not (has_letter c)
 abbrev pub lower_digit : ℕ → ℕ
 lower_digit n = if nat_lt n 10 then code "0" + n else code "a" + (n - 10)
 
--- The escape `\x` with two digits, in a literal of the kind.
+-- The escape `\x` with two digits. In literals of some kinds its value is an ASCII character, and in others it is a byte.
 abbrev pub hex_escape : Kind → ℕ → ℕ → StrictUnit
 hex_escape Str high low = AsciiEscape high low
 hex_escape Char high low = AsciiEscape high low
@@ -220,13 +221,14 @@ pub record RewritesCooked (style : Style) (old new : List ℕ) : Type 0 where
 
 -- ---- rewritten raw strings
 
--- The new number of hashes of a raw string: the fewest that its content allows, or the old number.
+-- The new number of hashes of a raw string. If the first argument is true, it is the fewest that the content allows, and
+-- otherwise the old number.
 abbrev pub HasHashes : Bool → Kind → List ℕ → ℕ → ℕ → Type 0
 HasHashes true kind inside old new = HasFewestHashes kind inside new
 HasHashes false kind inside old new = new ≡ old
 
--- A raw string may lose its `r`, where `front` is the text before it. After a hash or a dot, a string without `b` or `c` keeps
--- it.
+-- A raw string may lose its `r`. The text `front` precedes it. If `front` ends with a hash or a dot, a raw string without the
+-- prefix `b` or `c` keeps its `r`.
 abbrev pub may_lose_r : Kind → List ℕ → Bool
 may_lose_r Str front = may_precede_quote front
 may_lose_r _ front = true
@@ -234,8 +236,8 @@ may_lose_r _ front = true
 abbrev pub needs_backslash : ℕ → Bool
 needs_backslash c = c == code "\"" || c == code "\\"
 
--- A raw string becomes a string with escapes. `front` is the text before it, and `inside` its content. The content needs no
--- escapes, or contains characters that the style escapes.
+-- The style turns a raw string into a string with escapes. The text `front` precedes it, and `inside` is its content. Either
+-- the content needs no escapes, or it contains characters that the style escapes.
 abbrev pub loses_raw : Style → Kind → List ℕ → List ℕ → Bool
 loses_raw style kind front inside =
     may_lose_r kind front
@@ -245,12 +247,13 @@ loses_raw style kind front inside =
 abbrev pub raw_unit : ℕ → StrictUnit
 raw_unit c = if c == code "\"" then QuoteEscape c else (if c == code "\\" then PlainEscape c else Itself c)
 
--- The string of the kind with escapes that has the value `inside` and this suffix.
+-- The string of the kind with escapes, in the style. It has the value `inside` and the given suffix.
 abbrev pub unraw_text : Style → Kind → List ℕ → List ℕ → List ℕ
 unraw_text style kind inside suffix =
     strict_opener kind ++ (restyled_inside style kind (map raw_unit inside) ++ (strict_closer kind ++ suffix))
 
--- The old text is a raw string and stays one. The new text has its content, the style's number of hashes, and its suffix.
+-- The old text is a raw string, and the new text is one too. The new text has the old content and suffix, and the style's
+-- number of hashes.
 pub record StaysRaw (style : Style) (front old new : List ℕ) : Type 0 where
   pub kind : Kind
   pub contents : Contents
@@ -261,7 +264,7 @@ pub record StaysRaw (style : Style) (front old new : List ℕ) : Type 0 where
   pub hashes_are : HasHashes style.raw_hashes kind raw.inside raw.hashes hashes
   pub new_is : new ≡ raw_text kind hashes raw.inside ++ suffix
 
--- The old text is a raw string, and the new text is the string with escapes that has its value, in the style.
+-- The old text is a raw string. The new text is a string with escapes that has the old value and suffix, in the style.
 pub record LosesRaw (style : Style) (front old new : List ℕ) : Type 0 where
   pub kind : Kind
   pub contents : Contents

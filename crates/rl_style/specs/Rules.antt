@@ -33,7 +33,7 @@ rule_label RawHashes = codes "fewest_hashes"
 rule_label Raw = codes "drop_raw"
 rule_label Hidden = codes "escape_invisible"
 
--- ---- the field of a style for a rule, if the rule is that one
+-- ---- each function returns one field of a style for its own rule, and the field's default for other rules
 
 abbrev only_hex_digits : Style → Rule → Option Case
 only_hex_digits style HexDigits = style.hex_digits
@@ -99,7 +99,7 @@ abbrev only_hidden : Style → Rule → Bool
 only_hidden style Hidden = style.hidden
 only_hidden style _ = false
 
--- The style that has only this rule of the given style.
+-- The style in which only one rule of the given style is set.
 abbrev pub only : Style → Rule → Style
 only style rule = record {
   hex_digits = only_hex_digits style rule;

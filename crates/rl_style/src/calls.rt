@@ -3,7 +3,7 @@
 ghost use Rattle.std.specs.Prelude.{◌≡◌};
 ghost use Rattle.rl_lexer.specs.Cursors.{form_view};
 ghost use Rattle.rl_lexer.specs.Sources.{PlainKind, source_view};
-ghost use Rattle.rl_style.specs.Calls.{after_closer, after_bracket, after_mark, after_opener, after_any_other, after_word, calls_after, calls_seen, deeper, is_in_call, is_keyword};
+ghost use Rattle.rl_style.specs.Calls.{after_closer, after_bracket, after_mark, after_opener, after_any_other, after_word, advance_calls, calls_seen, deeper, is_in_call, is_keyword};
 
 use rl_lexer::{Form, SourceForm, SourceToken};
 
@@ -12,13 +12,13 @@ use rl_lexer::{Form, SourceForm, SourceToken};
 pub enum Calls<'t> {
     /// The next token is outside of macro calls.
     Outside,
-    /// The next token follows this identifier, which may be a macro's name.
+    /// The next token follows the given identifier, which may be a macro's name.
     AfterWord(&'t str),
     /// The next token follows a macro's name, `!`, and perhaps identifiers.
     AfterBang,
     /// The next token follows `#`, or `#!`.
     AfterHash,
-    /// The next token is inside a macro call, nested in this number of brackets.
+    /// The next token is inside a macro call, nested in the given number of brackets.
     Inside(usize),
 }
 
@@ -74,7 +74,7 @@ fn deeper(depth: usize) -> usize
     if depth < usize::MAX { depth + 1 } else { depth }
 }
 
-/// Returns the position after the identifier `word`.
+/// Returns the position relative to macro calls, after the identifier `word`.
 #[inline(always)]
 fn after_word<'t>(calls: Calls<'t>, word: &'t str) -> Calls<'t>
     ensures { calls_seen result ≡ after_word (calls_seen calls.entry) word.now }
@@ -85,7 +85,7 @@ fn after_word<'t>(calls: Calls<'t>, word: &'t str) -> Calls<'t>
     }
 }
 
-/// Returns the position after the punctuation character `mark`.
+/// Returns the position relative to macro calls, after the punctuation character `mark`.
 #[inline(always)]
 fn after_mark(calls: Calls<'_>, mark: char) -> Calls<'_>
     ensures { calls_seen result ≡ after_mark (calls_seen calls.entry) mark }
@@ -99,7 +99,7 @@ fn after_mark(calls: Calls<'_>, mark: char) -> Calls<'_>
     }
 }
 
-/// Returns the position after the opening bracket `bracket`.
+/// Returns the position relative to macro calls, after the opening bracket `bracket`.
 fn after_opener(calls: Calls<'_>, bracket: char) -> Calls<'_>
     ensures { calls_seen result ≡ after_opener (calls_seen calls.entry) bracket }
 {
@@ -111,7 +111,7 @@ fn after_opener(calls: Calls<'_>, bracket: char) -> Calls<'_>
     }
 }
 
-/// Returns the position after a closing bracket.
+/// Returns the position relative to macro calls, after a closing bracket.
 fn after_closer(calls: Calls<'_>) -> Calls<'_>
     ensures { calls_seen result ≡ after_closer (calls_seen calls.entry) }
 {
@@ -121,7 +121,7 @@ fn after_closer(calls: Calls<'_>) -> Calls<'_>
     }
 }
 
-/// Returns the position after the bracket `bracket`, which may be an opening or a closing one.
+/// Returns the position relative to macro calls, after the opening or closing bracket `bracket`.
 #[inline(always)]
 fn after_bracket(calls: Calls<'_>, bracket: char) -> Calls<'_>
     ensures { calls_seen result ≡ after_bracket (calls_seen calls.entry) bracket }
@@ -132,7 +132,7 @@ fn after_bracket(calls: Calls<'_>, bracket: char) -> Calls<'_>
     after_closer(calls)
 }
 
-/// Returns the position after a token that isn't an identifier, a punctuation character or a bracket.
+/// Returns the position relative to macro calls, after a token that isn't an identifier, a punctuation character or a bracket.
 #[inline(always)]
 fn after_any_other(calls: Calls<'_>) -> Calls<'_>
     ensures { calls_seen result ≡ after_any_other (calls_seen calls.entry) }
@@ -143,10 +143,10 @@ fn after_any_other(calls: Calls<'_>) -> Calls<'_>
     }
 }
 
-/// Returns the position after a token of the lexer with the form `form` and the text `text`.
+/// Returns the position relative to macro calls, after a token of the lexer with the form `form` and the text `text`.
 #[inline(always)]
 fn after_lexeme<'t>(calls: Calls<'t>, form: Form, text: &'t str) -> Calls<'t>
-    ensures { calls_seen result ≡ calls_after (calls_seen calls.entry) (PlainKind (form_view form)) text.now }
+    ensures { calls_seen result ≡ advance_calls (calls_seen calls.entry) (PlainKind (form_view form)) text.now }
 {
     match form {
         Form::Identifier => after_word(calls, text),
@@ -156,10 +156,10 @@ fn after_lexeme<'t>(calls: Calls<'t>, form: Form, text: &'t str) -> Calls<'t>
     }
 }
 
-/// Returns the position after one more token of a source.
+/// Returns the position relative to macro calls, after one more token of a source.
 #[inline(always)]
-pub fn calls_after<'t>(calls: Calls<'t>, token: SourceToken<'t>) -> Calls<'t>
-    ensures { calls_seen result ≡ calls_after (calls_seen calls.entry) (source_view token.entry.form) token.entry.text.now }
+pub fn advance_calls<'t>(calls: Calls<'t>, token: SourceToken<'t>) -> Calls<'t>
+    ensures { calls_seen result ≡ advance_calls (calls_seen calls.entry) (source_view token.entry.form) token.entry.text.now }
 {
     match token.form {
         SourceForm::Token(form) => after_lexeme(calls, form, token.text),

@@ -12,7 +12,7 @@ ghost use Rattle.rl_style.specs.Rewriting.{RewritesCooked, gets_letter, is_visib
 use crate::codes::put_digits;
 use crate::hidden::put_itself;
 use crate::style::Style;
-use rl_lenient::units::{Piece, unit};
+use rl_lenient::units::{Piece, parse_char_or_escape};
 use rl_syntax::Kind;
 use rl_syntax::slice_writer::{put_byte, put_char, put_text};
 use rl_syntax::text::{before, split_char, strip_byte};
@@ -71,7 +71,7 @@ fn lettered(zero: bool, byte: u8) -> u8
 fn represents_digit(kind: Kind, text: &str) -> bool
     ensures { result ≡ represents_digit (unit_at kind (chars text.now)) }
 {
-    match unit(kind, text) {
+    match parse_char_or_escape(kind, text) {
         Some((piece, _)) => ascii_of(kind, piece).is_ascii_digit(),
         None => false,
     }
@@ -231,7 +231,7 @@ fn put_units(out: &mut [u8], at: usize, kind: Kind, style: Style, inside: &str) 
 {
     let mut end = at;
     let mut rest = inside;
-    while let Some((piece, after)) = unit(kind, rest) {
+    while let Some((piece, after)) = parse_char_or_escape(kind, rest) {
         let byte = lettered(!represents_digit(kind, after), ascii_of(kind, piece));
         end = put_unit(out, end, kind, style, before(rest, after), byte);
         rest = after;

@@ -12,7 +12,7 @@ use crate::characters::{Manner, begins_base_letter, put_character, put_numeral};
 use crate::style::{DigitGroups, Style};
 use rl_syntax::slice_writer::put_byte;
 use rl_syntax::text::split_char;
-use rl_writing::{ends_group, group_size_for};
+use rl_writing::{digit_group_size, is_digit_group_end};
 
 /// Returns the number of digits in a group, for numbers of the base `base`.
 fn base_group(groups: DigitGroups, base: u32) -> usize
@@ -48,15 +48,15 @@ fn least_digits(style: Style) -> usize
 }
 
 /// Whether an underscore follows a digit. `count` is the number of digits in the sequence, and `left` the number of digits
-/// after this one. Groups are counted from the first digit if `from_first` is true, and from the last one otherwise.
+/// after the digit. Groups are counted from the first digit if `from_first` is true, and from the last one otherwise.
 fn ends(from_first: bool, size: usize, count: usize, left: usize) -> bool
     requires { left ≤ count }
     ensures { result ≡ ends from_first size count left }
 {
     if from_first {
-        left > 0 && ends_group(size, count - left)
+        left > 0 && is_digit_group_end(size, count - left)
     } else {
-        ends_group(size, left)
+        is_digit_group_end(size, left)
     }
 }
 
@@ -76,7 +76,7 @@ fn count_digits(run: &str) -> usize
     count
 }
 
-/// Writes the new form of a digit, and an underscore after it if `ends` is true: its group ends there.
+/// Writes the new form of a digit. If `ends` is true, the digit's group ends, and an underscore is written after the digit.
 fn put_digit(out: &mut [u8], at: usize, manner: Manner, digit: char, ends: bool) -> usize
     requires { at + 2 * length (encode_utf8 digit) ≤ length out.old }
     ensures end { result ≤ at + 2 * length (encode_utf8 digit) }
@@ -105,7 +105,7 @@ fn put_grouped(out: &mut [u8], at: usize, manner: Manner, from_first: bool, run:
     ensures len { length out.new ≡ length out.old }
 {
     let count = count_digits(run);
-    let size = group_size_for(manner.size, least_digits(manner.style), count);
+    let size = digit_group_size(manner.size, least_digits(manner.style), count);
     let mut left = count;
     let mut end = at;
     let mut rest = run;

@@ -19,13 +19,13 @@ pub fn a_rewritten_literal_is_the_same_number()
 
 /// Two literals with one kind, one value and one suffix have equal parse results, and either both or neither are valid in Rust.
 /// An integer above 128 bits has no parse result, in either text.
-pub fn the_same_literal_reads_alike()
+pub fn equal_literals_have_equal_readings()
     ensures reads { TheSameLiteralReadsAlike }
     ensures strict { TheSameLiteralIsStrictAlike }
 {}
 
 /// Rewriting a literal twice in one style changes nothing the second time.
-pub fn a_rewritten_text_stays()
+pub fn rewriting_twice_changes_nothing_more()
     ensures { ARewrittenTextStays }
 {}
 
@@ -41,12 +41,13 @@ pub fn no_rule_changes_nothing()
 
 /// If the literal after a token is replaced by one that begins as the old literal does, the token before it is lexed as before.
 /// Excepted are invalid quotes and stray characters, which no valid Rust source contains.
-pub fn tokens_in_front_stay()
+pub fn tokens_before_a_rewritten_literal_stay()
     ensures { StaysAround }
 {}
 
-/// If a literal is replaced by a well-formed one with its form, prefix and suffix, the new literal is lexed as one token before
-/// the text that follows the old one. It begins as the old one does.
+/// If a literal is replaced by a well-formed literal with its kind, prefix and suffix, the new literal is lexed as one token
+/// before the text that follows the old one. It begins as the old one does. Both are raw strings, or neither is. But a raw
+/// string with the prefix `b` or `c` may become a string with escapes.
 pub fn new_literals_are_tokens()
     ensures { KeepsItsEnds }
 {}
@@ -59,7 +60,7 @@ pub fn the_tokens_are_kept()
 /// If one literal of a source is rewritten, all other tokens of the source are lexed as before. The source must begin without
 /// `#!`, or with an attribute's `#![` ([`may_restyle`](crate::may_restyle)). After another `#!`, the literal may hide or show
 /// the end of a comment, which determines whether the first line is an interpreter's line.
-pub fn the_source_is_kept()
+pub fn the_tokens_of_a_source_are_kept()
     ensures { KeepsTheSource }
 {}
 
@@ -71,30 +72,30 @@ pub fn the_tokens_of_a_style_are_kept()
 
 /// If a literal of a source is rewritten in a style, all other tokens of the source are lexed as before. The source must begin
 /// without `#!`, or with an attribute's `#![`.
-pub fn the_restyled_source_is_kept()
+pub fn the_tokens_of_a_restyled_source_are_kept()
     ensures { KeepsTheRestyledSource }
 {}
 
 /// If any literals of a text are rewritten in a style, the text is lexed into the old number of tokens, of the old kinds. Each
-/// token is the old one, or its new text.
+/// token is the old one, or has its new text.
 pub fn the_tokens_of_edits_are_kept()
     ensures { KeepsTheTokensOfEdits }
 {}
 
 /// If any literals of a source are rewritten in a style, the source is lexed into the old number of tokens, of the old kinds.
 /// The source must begin without `#!`, or with an attribute's `#![`.
-pub fn the_edited_source_is_kept()
+pub fn the_tokens_of_an_edited_source_are_kept()
     ensures { KeepsTheEditedSource }
 {}
 
-/// If a raw string is replaced by a string with escapes, the token before it is lexed as before, provided that the text between
-/// them ends with neither a hash nor a dot.
-pub fn tokens_before_quotes_stay()
+/// If a raw string is replaced by a string with escapes, the token before it is lexed as before, provided that the text
+/// between the token and the string ends with neither a hash nor a dot.
+pub fn tokens_before_a_replaced_raw_string_stay()
     ensures { StaysBeforeQuote }
 {}
 
 /// If a raw string of a text is replaced by a string with escapes, all other tokens of the text are lexed as before, provided
 /// that neither a hash nor a dot precedes the string.
-pub fn the_tokens_are_kept_unraw()
+pub fn the_tokens_around_a_replaced_raw_string_are_kept()
     ensures { KeepsTheTokensUnraw }
 {}

@@ -11,7 +11,7 @@
 //! use rl_style::{Case, Style, rewrite_into};
 //!
 //! #[tactic(auto, using(rl_style::proofs::Theorems::a_rewritten_literal_is_the_same))]
-//! pub fn write_lower(text: &str, out: &mut [u8]) -> Option<usize>
+//! pub fn write_lower_hex(text: &str, out: &mut [u8]) -> Option<usize>
 //!     requires { 4 * length text.now + 1 ≤ length out.old }
 //!     ensures same { IfSome result (λ n. SameLiteral (chars text.now) (chars (take n out.new))) }
 //! {
@@ -24,7 +24,7 @@
 //!         Err(_) => None,
 //!     }
 //! }
-//! // write_lower("0xAB_u8", &mut [0; 64]) == Some(7)
+//! // write_lower_hex("0xAB_u8", &mut [0; 64]) == Some(7)
 //! ```
 #![tactic(auto)]
 
@@ -45,9 +45,9 @@ mod rules;
 mod style;
 mod whole;
 
-pub use crate::calls::{Calls, calls_after, is_in_call};
+pub use crate::calls::{Calls, advance_calls, is_in_call};
 pub use crate::restylable::{Restylable, Restylables};
 pub use crate::rewrite::rewrite_into;
-pub use crate::rules::{Rule, all_rules, changes};
+pub use crate::rules::{Rule, all_rules, is_changed_by_style};
 pub use crate::style::{Case, DigitGroups, Separator, Style};
 pub use crate::whole::may_restyle;

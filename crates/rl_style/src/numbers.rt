@@ -22,7 +22,7 @@ use rl_syntax::classes::{CharClass, skip_class};
 use rl_syntax::slice_writer::{put_byte, put_text};
 use rl_syntax::text::{after_prefix, before, split_char};
 
-/// Whether the style drops the underscores of a number with this suffix.
+/// Whether the style drops the underscores of a number with the given suffix.
 fn drops_underscores(style: Style, suffix: &str) -> bool
     ensures { result ≡ drops_underscores style (chars suffix.now) }
 {
@@ -54,7 +54,7 @@ fn significant(digits: &str) -> &str
     }
 }
 
-/// Whether the style drops the leading zeros of an integer with this base and this suffix.
+/// Whether the style drops the leading zeros of an integer with the given base and suffix.
 fn drops_zeros(style: Style, base: u32, suffix: &str) -> bool
     ensures { result ≡ drops_zeros style base (chars suffix.now) }
 {
@@ -140,7 +140,7 @@ fn put_suffix(out: &mut [u8], at: usize, style: Style, suffix: &str) -> usize
     put_text(out, at, suffix)
 }
 
-/// Returns the options by which a number of this base with this suffix is rewritten.
+/// Returns the options for rewriting a number with the given base and suffix.
 fn number_style(style: Style, base: u32, suffix: &str) -> Manner
     ensures style { result.style ≡ style }
     ensures drops { result.drops ≡ drops_underscores style (chars suffix.now) }

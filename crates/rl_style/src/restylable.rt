@@ -8,7 +8,7 @@ ghost use Rattle.rl_style.specs.Calls.{Outside};
 ghost use Rattle.rl_style.specs.Restylable.{GivesLiteral, GivesNone, begins_one_colon, is_field, last_after, names_field, one_more};
 ghost use Rattle.rl_style.specs.declared.restylable.Last.TheVariants as last;
 
-use crate::calls::{Calls, calls_after, is_in_call};
+use crate::calls::{Calls, advance_calls, is_in_call};
 use rl_lexer::{Form, LexError, SourceForm, SourceToken, Sources};
 use rl_syntax::text::{begins_with_char, strip_byte};
 use std::marker::Model;
@@ -36,14 +36,14 @@ pub struct Restylable<'t> {
     /// Whether the literal may be a field of a tuple. A field has only one name, so it isn't rewritten.
     ///
     /// A field is a number after one dot, as in `t.0`, or a number that a single `:` follows, after `{`, `,`, `]` or a doc
-    /// comment, as in `S { #[a] 0: x }`. White space and plain comments may be between these.
+    /// comment, as in `S { #[a] 0: x }`. White space and plain comments may be between these tokens.
     pub is_field: bool,
     /// Whether the literal is inside a macro call, a macro's definition or an attribute, where a macro may depend on the
     /// literal's text.
     ///
     /// Only tokens are considered. A call is an identifier, `!` and a bracket, with other identifiers between `!` and the
-    /// bracket allowed, as in `macro_rules! m {`. An attribute begins with `#[` or `#![`. Each extends to its closing bracket.
-    /// A keyword of all editions isn't a macro's name: `return !(1)`.
+    /// bracket allowed, as in `macro_rules! m {`. An attribute begins with `#[` or `#![`. Calls and attributes extend to their
+    /// closing brackets. A keyword of all editions isn't a macro's name: `return !(1)`.
     pub in_macro: bool,
 }
 
@@ -67,7 +67,7 @@ impl<'t> Model for Restylables<'t> {
     ghost view = { λ r. record { tokens = r.tokens; last = r.last; end = r.end; calls = calls_seen r.calls } };
 }
 
-/// Returns the state after one more dot. `is_joined` is true if the dot directly follows the token before it.
+/// Describes the last token after one more dot. `is_joined` is true if the dot directly follows the token before it.
 fn one_more(last: Last, is_joined: bool) -> Last
     ensures { result ≡ one_more last is_joined }
 {
@@ -77,7 +77,7 @@ fn one_more(last: Last, is_joined: bool) -> Last
     }
 }
 
-/// Returns the state after the token `token`, where `last` is the state before it. The token before it ends at `end`.
+/// Describes the last token after the token `token`, where `last` describes the token before it, which ends at `end`.
 fn last_after(last: Last, end: usize, token: SourceToken<'_>) -> Last
     ensures { result ≡ last_after last end (source_view token.entry.form) token.entry.lo }
 {
@@ -89,7 +89,7 @@ fn last_after(last: Last, end: usize, token: SourceToken<'_>) -> Last
     }
 }
 
-/// Whether the text begins with one colon. `::` is another token.
+/// Whether the text begins with one colon, and not with `::`, which is another token.
 fn begins_one_colon(text: &str) -> bool
     ensures { result ≡ begins_one_colon (chars text.now) }
 {
@@ -99,8 +99,8 @@ fn begins_one_colon(text: &str) -> bool
     }
 }
 
-/// Whether a number is a field of a tuple. `last` is the token before it, and `rest` the text after it, without white space and
-/// comments at its beginning.
+/// Whether a number is a field of a tuple. `last` describes the token before the number, and `rest` is the text after the
+/// number, without white space and comments at its beginning.
 fn names_field(last: Last, rest: &str) -> bool
     ensures { result ≡ names_field last (chars rest.now) }
 {
@@ -111,7 +111,7 @@ fn names_field(last: Last, rest: &str) -> bool
     }
 }
 
-/// Whether the literal `token` may be a field of a tuple. `rest` is the text after it.
+/// Whether the literal `token` may be a field of a tuple. `rest` is the text after the literal.
 fn is_field(last: Last, token: SourceToken<'_>, rest: &str) -> bool
     ensures { result ≡ is_field last token.entry.text.now (chars rest.now) }
 {
@@ -148,7 +148,7 @@ impl<'t> Restylables<'t> {
             let (before, around) = (last, calls);
             last = last_after(before, end, token);
             end = token.hi;
-            calls = calls_after(around, token);
+            calls = advance_calls(around, token);
             if token.is_literal() {
                 self.last = last;
                 self.end = end;

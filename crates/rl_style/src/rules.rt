@@ -81,7 +81,7 @@ impl Rule {
 }
 
 impl Style {
-    /// Returns a style that has only this rule of the style, and no other rule.
+    /// Returns a style that has the rule `rule` as this style has it, and no other rule.
     pub fn only(self, rule: Rule) -> Style
         ensures { result ≡ style_of self rule }
     {
@@ -161,7 +161,12 @@ impl Style {
 /// # Errors
 ///
 /// Returns the flaw of [`explain`](rl_strict::explain) if `text` isn't a literal token.
-pub fn changes(front: &str, text: &str, style: Style, out: &mut [u8]) -> Result<bool, Flaw>
+pub fn is_changed_by_style(
+    front: &str,
+    text: &str,
+    style: Style,
+    out: &mut [u8],
+) -> Result<bool, Flaw>
     requires { 4 * length text.now + 1 ≤ length out.old }
     ensures change { IfOk result (λ is. IsTrue is ↔ Changes style (chars front.now) (chars text.now)) }
     ensures flaw { IfErr result (ExplainsStrictly (chars text.now)) }

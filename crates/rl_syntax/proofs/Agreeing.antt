@@ -1,4 +1,4 @@
--- A literal of Rust's grammar has an equal parse result by `syn`'s grammar.
+-- Each literal of Rust's grammar has an equal parse result by `syn`'s grammar.
 use Rattle.rl_syntax.proofs.Common.{◌≡◌, ℕ, List, ◌∷◌, true, false, Bool, refl, ◌∙◌, codes, if◌then◌else◌}
 use Rattle.rl_syntax.specs.declared.kind.Kind.{Kind}
 use Rattle.rl_syntax.specs.declared.kind.Kind.TheVariants.{Str, ByteStr, CStr, Byte, Char, Int, Float, Bool as BoolKind}

@@ -2,7 +2,7 @@
 use Rattle.rl_syntax.proofs.Common.{◌≡◌, ℕ, ◌<◌, Bool, true, false, not, ◌&&◌, ◌||◌, ◌==◌, ◌∙◌, ap, sym, refl, arith, nat_lt, nat_tests, is_ascii_alphabetic, is_ascii_alphanumeric, is_xid_start-ascii, is_xid_continue-ascii, is_xid_start, is_xid_continue}
 use Rattle.rl_syntax.specs.Texts.{is_white, is_start, is_continue}
 
--- A test that white space doesn't pass is unchanged by the condition that the character isn't white space.
+-- If white space doesn't pass a test, the additional condition that a character isn't white space doesn't change the test.
 plain : (b w : Bool) → (b ≡ true → w ≡ false) → (b && not w) ≡ b
 plain true w h = ap not (h refl)
 plain false w h = refl
@@ -55,7 +55,8 @@ ascii_xid_start c low = is_xid_start-ascii c low
 pub ascii_xid_continue : (c : ℕ) → c < 128 → is_xid_continue c ≡ (is_ascii_alphanumeric c || (c == 95))
 ascii_xid_continue c low = is_xid_continue-ascii c low
 
--- An ASCII character that may be in an identifier isn't white space.
+-- An ASCII character passes the test `is_start` exactly if it is an underscore or begins an identifier by Unicode. None of these
+-- characters is white space.
 pub start_is_plain : (c : ℕ) → c < 128 → is_start c ≡ (c == 95 || is_xid_start c)
 start_is_plain c low =
     plain (c == 95 || is_xid_start c) (is_white c)

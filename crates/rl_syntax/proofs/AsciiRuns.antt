@@ -1,9 +1,9 @@
--- Sequences of ASCII characters of one class, at the start of a text.
+-- Leading ASCII characters of a text that are of one class.
 use Rattle.rl_syntax.proofs.Common.{◌≡◌, ◌+◌, ◌<◌, ◌≤◌, ◌⊎◌, inl, inr, ℕ, zero, suc, Bool, true, false, cond, List, [], ◌∷◌, ◌++◌, take, drop, get_or, refl, sym, ap, subst, ◌∙◌, arith, agree_below_at, and_parts, cases_Bool, nat_tests, take-append-drop, prefix_len-le-length, IsCharBoundary-start, IsCharBoundary-after_ascii, IsUtf8-drop, IsUtf8-take, chars-append, chars-IsAscii, encodes-chars, list_all, prefix_len, chars, encode_utf8_all, IsAscii, IsCharBoundary, IsUtf8}
 use Rattle.std.proofs.lemmas.List.Sums.{prefix_len_passes}
 use Rattle.rl_syntax.specs.Texts.{first_passes, is_white, IsTail}
 use Rattle.rl_syntax.specs.Classes.{after_run, class_test}
-use Rattle.rl_syntax.specs.Mirrors.RunsAt.{is_word_byte, is_blank_byte, is_run_byte, run_class}
+use Rattle.rl_syntax.specs.Mirrors.RunsAt.{is_ascii_id_continue, is_blank_byte, is_run_byte, run_class}
 use Rattle.rl_syntax.proofs.AsciiLemmas.{ascii_xid_continue, continue_is_plain}
 use Rattle.rl_syntax.proofs.LowBytes.{cases128, low_front}
 use Rattle.rl_syntax.proofs.ScanLemmas.{prefix_ends, prefix_passes}
@@ -17,12 +17,12 @@ pub record RunCut (q : ℕ → Bool) (bs : List ℕ) : Type 0 where
   pub stops : first_passes q (chars (drop (prefix_len q bs) bs)) ≡ false
   pub behind : IsTail bs (drop (prefix_len q bs) bs)
 
--- Only ASCII characters pass the test.
+-- Whether only ASCII characters pass a test.
 abbrev pub PassesLow : (ℕ → Bool) → Type 0
 PassesLow q = (c : ℕ) → q c ≡ true → c < 128
 
 module _ (q : ℕ → Bool) (low : PassesLow q) where
-  -- The sequence of bytes that pass the test ends where a character ends.
+  -- If only ASCII characters pass a test, the leading bytes of a text that pass it end where a character ends.
   low_boundary : (bs : List ℕ) (n : ℕ) → IsUtf8 bs → n ≡ prefix_len q bs → IsCharBoundary bs n
   low_boundary bs zero u e = IsCharBoundary-start bs u
   low_boundary bs (suc m) u e =
@@ -32,13 +32,13 @@ module _ (q : ℕ → Bool) (low : PassesLow q) where
       subst (IsCharBoundary bs) next (IsCharBoundary-after_ascii bs m u (omega arith)
       (low (get_or bs m 0) (prefix_len_passes q bs m 0 within)))
 
-  -- The bytes of the sequence are ASCII.
+  -- If only ASCII characters pass a test, and all bytes of a list pass it, the bytes are ASCII.
   low_all : (bs : List ℕ) → list_all q bs ≡ true → IsAscii bs
   low_all [] h i = omega arith
   low_all (b ∷ bs) h zero = low b (and_parts (q b) (list_all q bs) h).0
   low_all (b ∷ bs) h (suc i) = low_all bs (and_parts (q b) (list_all q bs) h).1 i
 
-  -- If the first byte of a text fails the test, so does its first character.
+  -- If only ASCII characters pass a test, and the first byte of a text fails it, so does the first character of the text.
   low_head : (cs : List ℕ) → first_passes q (encode_utf8_all cs) ≡ false → first_passes q cs ≡ false
   low_head [] h = refl
   low_head (c ∷ cs) h = go (cases128 c)
@@ -68,7 +68,7 @@ module _ (q : ℕ → Bool) (low : PassesLow q) where
 
 -- ---- sequences of identifier characters and of white space
 
-word_low : (c : ℕ) → is_word_byte c ≡ true → c < 128
+word_low : (c : ℕ) → is_ascii_id_continue c ≡ true → c < 128
 word_low c h = grind (arith, nat_tests)
 
 blank_low : (c : ℕ) → is_blank_byte c ≡ true → c < 128
@@ -78,7 +78,8 @@ held_low : (word : Bool) → PassesLow (is_run_byte word)
 held_low true = word_low
 held_low false = blank_low
 
--- For an ASCII character, `is_run_byte` agrees with the test of the character's class.
+-- For an ASCII character, the test `is_run_byte` agrees with the test of the class: that of identifier characters, or that of
+-- white space.
 pub held_agrees : (word : Bool) (c : ℕ) → c < 128 → class_test (run_class word) c ≡ is_run_byte word c
 held_agrees true c low = continue_is_plain c low ∙ ascii_xid_continue c low
 held_agrees false c low = agree_below_at is_white is_blank_byte 128 c refl low
@@ -86,7 +87,7 @@ held_agrees false c low = agree_below_at is_white is_blank_byte 128 c refl low
 pub held_cut : (word : Bool) (bs : List ℕ) → IsUtf8 bs → RunCut (is_run_byte word) bs
 held_cut word bs u = low_cut (is_run_byte word) (held_low word) bs u
 
--- The sequence of identifier characters or white space continues after bytes that belong to it.
+-- If all bytes of `front` are identifier characters (or all are white space), `after_run` skips them.
 passed_over : (word : Bool) (front back : List ℕ) → list_all (is_run_byte word) front ≡ true
     → after_run (class_test (run_class word)) (front ++ back) ≡ after_run (class_test (run_class word)) back
 passed_over word [] back h = refl
@@ -105,7 +106,7 @@ run_past word bs rest u e =
     (chars (drop (prefix_len (is_run_byte word) bs) bs)) run.plain
     ∙ ap (λ r. after_run test (chars r)) (sym e)
 
--- The sequence of identifier characters or white space ends at an ASCII byte that fails the test.
+-- The leading identifier characters or white space of a text end at an ASCII byte that fails the test.
 pub run_ended : (word : Bool) (bs rest after : List ℕ) (b : ℕ) → IsUtf8 bs → rest
     ≡ drop (prefix_len (is_run_byte word) bs) bs → chars rest ≡ b ∷ chars after → b < 128 → chars rest
     ≡ after_run (class_test (run_class word)) (chars bs)

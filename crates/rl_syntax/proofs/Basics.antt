@@ -7,7 +7,7 @@ use Rattle.rl_syntax.specs.Texts.{xid_ok, first_passes}
 use Rattle.std.proofs.Math.Utf8.{scalars}
 use Rattle.rl_syntax.specs.Classes.{is_hash}
 
--- Two characters differ if the test passes one and not the other.
+-- If a test passes one of two characters and fails the other, the characters differ.
 pub apart : (test : ℕ → Bool) (c k : ℕ) → test c ≡ true → test k ≡ false → eqb c k ≡ false
 apart test c k h n = ne_eqb c k (λ e. both_ways (test k) n (subst (λ x. test x ≡ true) e h))
 
@@ -68,7 +68,7 @@ pub passes_same : (f g : ℕ → Bool) → ((c : ℕ) → f c ≡ g c) → (cs :
 passes_same f g same [] = refl
 passes_same f g same (c ∷ cs) = same c
 
--- An ASCII character that isn't an identifier character differs from each that is one.
+-- An ASCII character that isn't an identifier character differs from each identifier character.
 pub continue_not : (k c : ℕ) → k < 128 → (is_ascii_alphanumeric k || eqb k 95) ≡ false → is_xid_continue c ≡ true
     → eqb c k ≡ false
 continue_not k c small not_one h = apart is_xid_continue c k h (is_xid_continue-ascii k small ∙ not_one)
@@ -96,7 +96,7 @@ pub false_unless : (b : Bool) → (b ≡ true → ⊥) → b ≡ false
 false_unless true h = absurd (h refl)
 false_unless false h = refl
 
--- If a joined text is a list of Unicode scalar values, so are its two parts.
+-- If two joined lists consist of Unicode scalar values, each of the lists does.
 pub scalars_parts : (a b : List ℕ) → scalars (a ++ b) ≡ true → (scalars a ≡ true) × (scalars b ≡ true)
 scalars_parts [] b h = (refl, h)
 scalars_parts (c ∷ a) b h =

@@ -1,4 +1,4 @@
--- The start of a text, by its bytes and by its characters.
+-- A word begins the bytes of a text exactly if it begins the text's characters.
 use Rattle.rl_syntax.proofs.Common.{◌≡◌, ℕ, ◌<◌, ◌≤◌, ◌⊎◌, inl, inr, true, ◌&&◌, ◌==◌, List, [], ◌∷◌, ◌++◌, ◌≢◌, ◌+◌, length, drop, Option, Some, None, refl, sym, subst, ◌∙◌, ap, arith, and_parts, nat_tests, nat_lt, list_all, chars, encode_utf8_all, IsUtf8, IsCharBoundary, encodes-chars, encodes-append, chars-append, IsUtf8-drop}
 use Rattle.std.specs.Prelude.{nat_eq, IfSome, IfNone, MatchOption}
 use Rattle.std.specs.List.{starts_with}

@@ -1,4 +1,4 @@
--- The value of a C string contains no zero.
+-- The value of a C string literal contains no zero byte.
 use Rattle.rl_syntax.proofs.Common.{◌≡◌, ℕ, ◌+◌, ◌/◌, ◌%◌, ◌≤◌, true, false, not, eqb, ltb, List, [], ◌∷◌, ◌++◌, refl, ap, ◌∙◌, inl, inr, arith, encode_utf8, list_all, AllByRecursion, list_all-append, and_parts, and_from, cases_Bool, not-true, not_from_false, ne_eqb, or_parts}
 use Rattle.std.specs.Prelude.{encode_utf8_all}
 use Rattle.rl_syntax.specs.declared.kind.Kind.TheVariants.{CStr}
@@ -9,7 +9,7 @@ use Rattle.rl_syntax.specs.Agreeing.{is_zero, has_no_zero}
 more_than_zero : (n k : ℕ) → 1 ≤ k → eqb (k + n) 0 ≡ false
 more_than_zero n k h = ne_eqb (k + n) 0 (λ e. absurd (omega arith))
 
--- The bytes of a character that isn't zero contain no zero.
+-- The bytes of a character that isn't NUL contain no zero byte.
 encode_no_zero : (c : ℕ) → eqb c 0 ≡ false → has_no_zero (encode_utf8 c) ≡ true
 unfolding lib.Utf8.encode
 encode_no_zero c h =
@@ -59,7 +59,7 @@ units_no_zero (u ∷ us) h = join_no_zero (unit_value CStr u) (values CStr us) (
 bytes_same : (v w : List ℕ) → Bytes v ≡ Bytes w → v ≡ w
 bytes_same v w e = cc
 
--- The value of a C string literal contains no zero.
+-- The value of a C string literal contains no zero byte.
 pub c_string_no_zero : (t v x : List ℕ) → Reads t CStr (Bytes v) x → has_no_zero v ≡ true
 c_string_no_zero t v x r =
     let same : v ≡ r.value = bytes_same v r.value r.contents_is in

@@ -11,7 +11,7 @@ quotient_small n k h = let e = pow-suc 10 k in omega arith
 one_digit : (n : ℕ) → n < 10 ^ 1 → (n / 10 == 0) ≡ true
 one_digit n h = grind (arith, nat_tests)
 
--- More room for digits doesn't change the digits.
+-- If a number has at most the number of digits that there is room for, more room doesn't change the digits that are written.
 pub room : (k j n : ℕ) (acc : List ℕ) → n < 10 ^ suc k → n < 10 ^ suc j → digits_onto (suc k) 10 false n acc
     ≡ digits_onto (suc j) 10 false n acc
 room zero j n acc h l =

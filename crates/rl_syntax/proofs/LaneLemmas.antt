@@ -1,4 +1,4 @@
--- From the mask of a search over sixteen bytes to the sequence of bytes that pass a test.
+-- A search over sixteen bytes computes a mask, from which the leading bytes that pass a test are counted.
 use Rattle.rl_syntax.proofs.Common.{◌≡◌, ℕ, ◌+◌, ◌*◌, ◌%◌, ◌^◌, ◌<◌, ◌≤◌, ◌||◌, ◌&&◌, nat_le, Bool, true, false, not, cond, eqb, List, [], ◌∷◌, map, length, drop, refl, sym, ap, ap₂, ◌∙◌, arith, length-chunk, mask_l-mod, length-map, prefix_len-le-length, eq-eqb, ne_eqb, nat_tests, prefix_len, bit_or, chunk, mask_l, zip2, top, count_trailing_zeros}
 use Rattle.std.proofs.Common.{bit_and, nat_eq, nat_lt}
 use Rattle.std.proofs.lemmas.Simd.{chunk-drop, leading_from_mask_l, trailing_mask_l}
@@ -51,17 +51,17 @@ tops : {X : Type 0} (p : X → Bool) (v : List X) → map (top 7) (map (λ x. la
 tops p [] = refl
 tops p (x ∷ xs) = ap₂ (λ a b. a ∷ b) (lane_top (p x)) (tops p xs)
 
--- The mask of a vector that was computed by a test has the bits of the elements that pass the test.
+-- The mask of a vector, which a test computed for each element of a list, has the bits of the elements that pass the test.
 pub masked : {X : Type 0} (p : X → Bool) (v : List X) {a : List ℕ} → length v ≤ 64 → a ≡ map (λ x. lane (p x)) v
     → mask_l (map (top 7) a) % 2 ^ 64 ≡ mask_l (map p v)
 masked p v few e = ap (λ l. mask_l l % 2 ^ 64) (ap (map (top 7)) e ∙ tops p v)
     ∙ mask_l-mod (map p v) 64 (omega (arith, length-map v p))
 
--- A byte from 128 up isn't ASCII.
+-- A byte is non-ASCII exactly if it is 128 or above.
 past_low : (c : ℕ) → not (nat_lt c 128) ≡ nat_le 128 c
 past_low c = grind (arith, nat_tests)
 
--- Two ways to write that a sequence ends are equal.
+-- A sequence that continues where `a` is true and `d` is false ends exactly where `a` is false or `d` is true.
 ends_either : (a b d : Bool) → not a ≡ b → not (a && not d) ≡ b || d
 ends_either true true d h = absurd (cc)
 ends_either true false true h = refl
@@ -73,7 +73,7 @@ pub not-not : (b : Bool) → b ≡ not (not b)
 not-not true = refl
 not-not false = refl
 
--- The `bool` that a number encodes: `false` for 0.
+-- Returns the `bool` that a number encodes: `false` for 0, and `true` for any other number.
 abbrev pub said : ℕ → Bool
 said n = not (nat_eq n 0)
 
@@ -103,7 +103,7 @@ module _ {X : Type 0} (p q : X → Bool) (opposite : (x : X) → not (q x) ≡ p
       (prefix_len q (chunk i n d))
   split d i n = ap (prefix_len q) (chunk-drop i n d) ∙ prefix_len-append q (chunk i n d) (drop (i + n) d)
 
-  -- If no byte of the chunk fails the test, the sequence continues after the chunk.
+  -- If no byte of a chunk of a list fails a test, the sequence of passing bytes continues after the chunk.
   pub run_through : (d : List X) (i n : ℕ) → i + n ≤ length d → mask_l (map p (chunk i n d)) ≡ 0
       → prefix_len q (drop i d) ≡ n + prefix_len q (drop (i + n) d)
   run_through d i n room none =
@@ -112,7 +112,7 @@ module _ {X : Type 0} (p q : X → Bool) (opposite : (x : X) → not (q x) ≡ p
       (eq-eqb _ _ (same_run c ∙ leading_from_mask_l p c none))
       ∙ ap (λ k. k + prefix_len q (drop (i + n) d)) (length-chunk i n d room)
 
-  -- The lowest bit of the mask is the first byte of the chunk that fails the test.
+  -- The lowest bit of the mask of a chunk is at the first byte of the chunk that fails a test.
   pub run_stops : (d : List X) (i n : ℕ) → i + n ≤ length d → n ≤ 64 → 0 < mask_l (map p (chunk i n d))
       → prefix_len q (drop i d) ≡ count_trailing_zeros 64 (mask_l (map p (chunk i n d)))
   run_stops d i n room short some =
@@ -121,7 +121,7 @@ module _ {X : Type 0} (p q : X → Bool) (opposite : (x : X) → not (q x) ≡ p
       (ne_eqb _ _ (λ (e : prefix_len q c ≡ length c). omega (arith, all_pass c (sym (same_run c) ∙ e))))
       ∙ same_run c ∙ sym (trailing_mask_l p 64 c (omega (arith, length-chunk i n d room)) some)
 
-  -- The first byte that fails the test is in the chunk.
+  -- If the mask of a chunk isn't 0, its lowest bit is within the chunk.
   pub stops_within : (d : List X) (i n : ℕ) → i + n ≤ length d → n ≤ 64 → 0 < mask_l (map p (chunk i n d))
       → count_trailing_zeros 64 (mask_l (map p (chunk i n d))) < n
   stops_within d i n room short some =

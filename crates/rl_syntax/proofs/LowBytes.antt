@@ -1,4 +1,4 @@
--- The bytes of a character: an ASCII character is its own byte, and all bytes of others are non-ASCII.
+-- The bytes of a character: an ASCII character is one byte, its own code. All bytes of other characters are non-ASCII.
 use Rattle.rl_syntax.proofs.Common.{◌≡◌, ℕ, suc, ◌<◌, ◌≤◌, ◌⊎◌, false, ◌==◌, List, [], ◌∷◌, ◌++◌, length, get_or, refl, ap, arith, nat_tests, AllByRecursion, encode_utf8_all, encode_ascii, length-encode, len_utf8_bounds}
 use Rattle.std.specs.Char.{encode_utf8}
 use Rattle.std.proofs.lemmas.Str.{inside_one}

@@ -11,7 +11,7 @@ use Rattle.rl_syntax.proofs.StrictNumbers.{no_part, suffix_no_part, digit_front,
 
 -- ---- signs
 
--- If a text begins with a digit after its sign, it has only one sign.
+-- A text can be split into a sign, perhaps none, and a text that begins with a digit in at most one way.
 pub same_sign : (s z : Sign) (a b : List ℕ) → first_passes is_ascii_digit a ≡ true → first_passes is_ascii_digit b
     ≡ true → sign_text s ++ a ≡ sign_text z ++ b → (s ≡ z) × (a ≡ b)
 same_sign NoSign NoSign a b ha hb e = (refl, e)
@@ -73,7 +73,7 @@ int_once t x y s z m n a b =
 
 -- ---- floats
 
--- A sequence of digits and underscores that contains a digit: underscores, a digit, and more.
+-- A sequence of digits and underscores that contains a digit: leading underscores, then a digit, then the rest.
 pub record DigitIn (run : List ℕ) : Type 0 where
   pub underscores : List ℕ
   pub digit : ℕ
@@ -115,7 +115,7 @@ sign_cases (c ∷ []) h =
     ]
 sign_cases (c ∷ d ∷ s) h = absurd (cc)
 
--- The text after the letter of an exponent has one sequence of digits and one suffix.
+-- The text after the letter of an exponent can be split into digits and a suffix in only one way.
 same_power : (us s run vs z sow x y : List ℕ) → list_all is_underscore us ≡ true → is_power_sign s ≡ true
     → list_all (is_run_part (is_digit Decimal)) run ≡ true → list_all is_underscore vs ≡ true → is_power_sign z ≡ true
     → list_all (is_run_part (is_digit Decimal)) sow ≡ true → IsSuffix x → IsSuffix y → (us ++ (s ++ run)) ++ x
@@ -166,7 +166,7 @@ same_power us s run vs z sow x y hu hs hr hv hz hw sx sy e =
       ]
     ]
 
--- A suffix that doesn't begin like an exponent doesn't begin with an exponent's text.
+-- A suffix that doesn't begin like an exponent isn't an exponent that is followed by another text.
 no_power : (letter : ℕ) (us s run x y : List ℕ) → IsExponent (Power letter us s run) x → IsSuffix y
     → (BeginsExponent y → ⊥) → y ≡ (letter ∷ (us ++ (s ++ run))) ++ x → ⊥
 no_power letter us s run x y p sy none e =
@@ -274,7 +274,7 @@ float_once t n m x y a b =
       e.1,
     )
 
--- The text is an integer literal of any magnitude.
+-- The text is an integer literal with the given value and suffix. Its magnitude may be above 128 bits.
 pub record AnyInt (t : List ℕ) (v : Contents) (x : List ℕ) : Type 0 where
   pub sign : Sign
   pub magnitude : ℕ
@@ -297,7 +297,7 @@ reads_float_once t x y v w a b =
     let p = float_once t a.numeral b.numeral x y a.reads b.reads in
     (a.contents_is ∙ ap (λ z. Digits (float_digits z)) p.0 ∙ sym b.contents_is, p.1)
 
--- A number's text begins with a digit or a minus.
+-- Whether a text begins with a minus or a digit, as each number does.
 abbrev pub begins_number : List ℕ → Bool
 begins_number t = first_passes (λ c. is_ascii_digit c || eqb c 45) t
 

@@ -12,7 +12,7 @@ use Rattle.rl_syntax.proofs.StrictNumbers.{strict_int}
 use Rattle.rl_syntax.proofs.OneQuoted.{cooked_once, raw_once, single_once}
 use Rattle.rl_syntax.proofs.OneNumber.{begins_number, int_front, float_front, AnyInt, any_int, any_int_once, reads_float_once}
 
--- The class of a text, which its start decides: a quoted literal of a kind and a form, a number, or a `bool`.
+-- The class of a text, which the text's start decides: a quoted literal of a kind and a form, a number, or a `bool`.
 data Front : Type 0 where
   CookedFront : (k : Kind) → Front
   RawFront : (k : Kind) → Front
@@ -71,7 +71,7 @@ unfolding front_at
 truth_front true = refl
 truth_front false = refl
 
--- The text has this parse result, which its start allows.
+-- The text has the given kind, value and suffix, and a class that texts of the kind may have.
 abbrev Shown : List ℕ → Kind → Contents → List ℕ → Front → Type 0
 Shown t k v x (CookedFront j) = (k ≡ j) × (w : List ℕ) × Cooked j t w x × (v ≡ quoted_contents j w)
 Shown t k v x (RawFront j) = (k ≡ j) × (w : List ℕ) × Raw j t w x × (v ≡ quoted_contents j w)

@@ -1,4 +1,4 @@
--- Ends of a text: their lengths, and the end from an offset on.
+-- Ends of a text: their lengths, and the end of the text from an offset on.
 use Rattle.rl_syntax.proofs.Common.{◌≡◌, ℕ, ◌≤◌, List, ◌++◌, length, take, drop, sym, ◌∙◌, ap, arith, length-append, take-append-drop, IsUtf8}
 use Rattle.rl_syntax.specs.Texts.{IsTail}
 

@@ -1,4 +1,4 @@
--- One more character of a sequence, for loops over the sequence.
+-- One more character at the start of a sequence of characters that pass a test, for loops over the sequence.
 use Rattle.rl_syntax.proofs.Common.{◌≡◌, ℕ, Bool, true, cond, List, ◌∷◌, sym, ◌∙◌, ap}
 use Rattle.rl_syntax.specs.Classes.{after_run}
 

@@ -1,10 +1,10 @@
--- From vectors of sixteen bytes to the sequence of ASCII characters that the bytes contain.
+-- Vectors of sixteen bytes and their masks, from which the leading ASCII characters of a text that pass a test are counted.
 use Rattle.rl_syntax.proofs.Common.{◌≡◌, ℕ, suc, ◌+◌, ◌%◌, ◌^◌, ◌<◌, ◌≤◌, Bool, true, not, List, [], ◌∷◌, map, length, get_or, replicate, refl, sym, ap, ap₂, ◌∙◌, arith, agree_below, agree_below_at, map-map, mask_l-mod, length-chunk, length-map, chunk, zip2, mask_l, top}
 use Rattle.std.proofs.Common.{Fits, w8}
 use Rattle.std.proofs.lemmas.Simd.{zip2-map, get_or-chunk}
 use Rattle.rl_syntax.specs.Mirrors.RunsAt.{is_run_byte, ends_run}
 
--- If two vectors are computed from the vector `v` element by element, so is the result of an operation on the two.
+-- If two vectors are computed from the vector `v`, element by element, so is their combination by an operation on elements.
 pub joined : (h : ℕ → ℕ → ℕ) (f g : ℕ → ℕ) (v : List ℕ) {a b : List ℕ} → a ≡ map f v → b ≡ map g v → zip2 h a b
     ≡ map (λ x. h (f x) (g x)) v
 joined h f g v p q = ap₂ (zip2 h) p q ∙ zip2-map h f g v
@@ -13,14 +13,14 @@ pub splat_is : (v : List ℕ) (n y : ℕ) → length v ≡ n → replicate n y �
 splat_is [] n y e = ap (λ k. replicate k y) (sym e)
 splat_is (x ∷ xs) n y e = ap (λ k. replicate k y) (sym e) ∙ ap (λ r. y ∷ r) (splat_is xs (length xs) y refl)
 
--- Two tests that agree on all bytes give equal lists.
+-- Two tests that agree on all bytes give equal results for each element of a list of bytes.
 same_tests : (p q : ℕ → Bool) → agree_below p q 256 ≡ true → (v : List ℕ)
     → ((k : ℕ) → k < length v → get_or v k 0 < 256) → map p v ≡ map q v
 same_tests p q all [] fits = refl
 same_tests p q all (x ∷ xs) fits = ap₂ (λ a b. a ∷ b) (agree_below_at p q 256 x all (fits 0 (omega arith)))
     (same_tests p q all xs (λ k short. fits (suc k) (omega arith)))
 
--- The mask of a vector that was computed by a test has the bits of the elements that pass the test.
+-- The mask of a vector, which a test computed for each element of a list, has the bits of the elements that pass the test.
 pub masked_as : (q : ℕ → Bool) (d : List ℕ) (i n : ℕ) (f : ℕ → ℕ) {z : List ℕ} → i + n ≤ length d → n ≤ 64
     → ((k : ℕ) → Fits w8 (get_or d k 0)) → z ≡ map f (chunk i n d) → agree_below (λ x. top 7 (f x)) q 256 ≡ true
     → mask_l (map (top 7) z) % 2 ^ 64 ≡ mask_l (map q (chunk i n d))
@@ -32,6 +32,6 @@ masked_as q d i n f room few fits lanes all =
     ∙ ap mask_l (same_tests (λ x. top 7 (f x)) q all v (λ k short. omega
     (arith, (fits (i + k)).fits, get_or-chunk i n d k 0 (omega (arith, long)))))
 
--- A byte ends the sequence exactly if it doesn't belong to the sequence.
+-- A byte ends a sequence of identifier characters or white space exactly if it doesn't belong to the sequence.
 pub ends_opposite : (word : Bool) (c : ℕ) → not (is_run_byte word c) ≡ ends_run word c
 ends_opposite word c = refl

@@ -1,4 +1,4 @@
--- Sequences of bytes that pass a test, as sequences of characters.
+-- The leading bytes of a text that pass a test are its leading characters that pass the test.
 use Rattle.rl_syntax.proofs.Common.{◌≡◌, ◌≢◌, ◌==◌, ℕ, suc, ◌+◌, ◌<◌, ◌≤◌, ◌⊎◌, inl, inr, ◌||◌, Bool, true, false, not, cond, List, [], ◌∷◌, ◌++◌, length, take, drop, get_or, refl, sym, ap, subst, ◌∙◌, arith, and_from, and_parts, both_ways, eq-eqb, ltb-true, prefix_len-le-length, take-append-drop, encodes-chars, chars-append, IsUtf8-take, IsUtf8-drop, chars_past_char, encode_ascii, list_all, prefix_len, is_ascii, chars, encode_utf8_all, IsUtf8, IsCharBoundary}
 use Rattle.std.proofs.lemmas.Bool.{cond-false}
 use Rattle.std.proofs.lemmas.List.Sums.{prefix_len_stops}
@@ -10,11 +10,11 @@ use Rattle.rl_syntax.specs.Scanning.{is_other, AreAscii}
 use Rattle.rl_syntax.proofs.LowBytes.{not_equal, cases128, low_front, encode_is_high}
 use Rattle.rl_syntax.proofs.Basics.{false_unless}
 
--- Each non-ASCII byte passes the test.
+-- Whether all non-ASCII bytes pass a test.
 abbrev pub PassesHigh : (ℕ → Bool) → Type 0
 PassesHigh q = (b : ℕ) → 128 ≤ b → q b ≡ true
 
--- A non-ASCII byte isn't a delimiter.
+-- Non-ASCII bytes aren't delimiters, so they pass the test of the characters that aren't delimiters.
 pub other_high : (m : Marks) → AreAscii m → PassesHigh (is_other m)
 other_high m h b high = rw (
   not_equal b m.first h.0 high,
@@ -81,7 +81,7 @@ module _ (q : ℕ → Bool) (high : PassesHigh q) where
           let (b, bs, same, is, _) = encode_is_high c past in
           absurd (both_ways (q b) (ap (λ x. first_passes q (x ++ encode_utf8_all cs)) (sym same) ∙ h) (high b is))
 
-  -- The sequence of bytes that pass the test ends where a character ends.
+  -- If all non-ASCII bytes pass a test, the leading bytes that pass it end where a character ends.
   pub run_boundary : (bs : List ℕ) → IsCharBoundary bs (prefix_len q bs)
   run_boundary bs =
       let n = prefix_len q bs in
@@ -96,14 +96,14 @@ module _ (q : ℕ → Bool) (high : PassesHigh q) where
       low : (b : ℕ) → q b ≡ false → b < 128
       low b fails = elim (cases128 b) [ inl is ↦ is | inr past ↦ absurd (both_ways (q b) fails (high b past)) ]
 
-  -- All characters of the sequence of passing bytes pass the test.
+  -- If all non-ASCII bytes pass a test, the leading bytes that pass it encode only characters that pass it.
   pub run_plain : (bs : List ℕ) → IsUtf8 bs → list_all q (chars (take (prefix_len q bs) bs)) ≡ true
   run_plain bs u =
       let front = take (prefix_len q bs) bs in
       all_encoded (chars front) (ap (list_all q) (encodes-chars front
       (IsUtf8-take bs (prefix_len q bs) u (run_boundary bs))) ∙ prefix_passes q bs)
 
-  -- The character after the sequence fails the test.
+  -- If all non-ASCII bytes pass a test, the next character after the leading bytes that pass the test fails it.
   pub run_stop : (bs : List ℕ) → IsUtf8 bs → first_passes q (chars (drop (prefix_len q bs) bs)) ≡ false
   run_stop bs u =
       let rest = drop (prefix_len q bs) bs in

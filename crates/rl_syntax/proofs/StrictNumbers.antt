@@ -157,7 +157,7 @@ without_minus t x Minus m r = (
   refl,
 )
 
--- A character that no integer literal contains directly after its sign.
+-- An ASCII character that no integer literal contains directly after its sign.
 pub record IsForeign (k : ℕ) : Type 0 where
   pub small : k < 128
   pub no_word : (is_ascii_alphanumeric k || eqb k 95) ≡ false
@@ -277,7 +277,7 @@ other_base Hexadecimal t r h e =
     let p = or_parts _ _ h in
     absurd (both_ways _ p.1 (ap (begins (prefix Hexadecimal)) e ∙ begins_front (prefix Hexadecimal) r))
 
--- If an exponent follows a float's first digits, the text isn't an integer.
+-- If an exponent follows the first digits of a float, the text isn't an integer.
 none_at_base : (b : Base) (t d row x digits y : List ℕ) (letter : ℕ) → b ≡ Decimal
     → list_all (is_run_part (is_digit Decimal)) d ≡ true → is_exponent_letter letter ≡ true
     → list_all (is_run_part (is_digit Decimal)) row ≡ true → list_any is_ascii_digit row ≡ true → IsSuffix x
@@ -463,7 +463,7 @@ signed_float sign t x v f =
 
 -- ---- the laws
 
--- Each integer that the text is parsed as is within 128 bits.
+-- Whether each integer that the text is parsed as is within 128 bits.
 abbrev pub IsWithin : List ℕ → Type 0
 IsWithin t = (sign : Sign) (magnitude : ℕ) (suffix : List ℕ) → IntReads t sign magnitude suffix → magnitude ≤ limit
 

@@ -13,12 +13,12 @@ use Rattle.rl_syntax.specs.Reading.{Contents, Reads, quoted_contents}
 use Rattle.rl_syntax.specs.Strict.{StrictUnit, Itself, QuoteEscape, PlainEscape, AsciiEscape, ByteEscape, UnicodeEscape, LineBreak, spaced_digit, strict_text, strict_contents, is_plain_letter, is_octal, is_unicode_escape, is_allowed_in_single_quotes, is_bare_in_string, is_strict_unit, BlanksEnd, strict_opener, strict_closer, strict_content_of, StrictCooked, StrictRaw, strict_raw_opener, IsStrictSuffix}
 use Rattle.rl_syntax.proofs.Basics.{apart, all_weaker, hex_is_sixteen, word_without}
 
--- The text may follow the character or escape: no white space follows an escaped line end.
+-- Whether a text may follow a character or escape of Rust's grammar: white space can't follow an escaped line end.
 abbrev pub MayFollow : StrictUnit → List ℕ → Type 0
 MayFollow (LineBreak blanks) t = IsFalse (first_passes is_blank t)
 MayFollow _ t = ⊤
 
--- The character or escape of `syn`'s grammar that equals one of Rust's grammar.
+-- The character or escape of `syn`'s grammar with the text and the value of one of Rust's grammar.
 pub record Stands (k : Kind) (s : StrictUnit) : Type 0 where
   pub unit : QuotedUnit
   pub is_unit : IsUnit k unit

@@ -1,4 +1,4 @@
--- The end of an end of a text is an end of the text.
+-- Ends of a text: an end of an end of a text is an end of the text.
 use Rattle.rl_syntax.proofs.Common.{◌≡◌, ℕ, ◌-◌, ◌<◌, List, [], ◌++◌, length, take, drop, refl, sym, ap, subst, ◌∙◌, arith, append_assoc, length-append, Option, Some, None, take-append_seam, IsCharBoundary, chars, IsUtf8, chars-append, IfSome, IfNone, option_map}
 use Rattle.std.proofs.Math.Seq.{drop-append_seam}
 use Rattle.std.proofs.lemmas.Str.{IsCharBoundary-at_seam}
@@ -20,7 +20,7 @@ pub some_tail : {I : Type 0} (rest : I → List ℕ) (a b : List ℕ) (r : Optio
 some_tail rest a b None p q = tt
 some_tail rest a b (Some i) p q = tail_step a b (rest i) p q
 
--- A property holds for a mapped option's value if it holds for the function's result.
+-- If a property holds for the function's result on an option's value, it holds for the value of the mapped option.
 pub mapped : {I J : Type 0} (P : J → Type 0) (f : I → J) (r : Option I) (result : Option J) → result ≡ option_map f r
     → IfSome r (λ i. P (f i)) → IfSome result P
 mapped P f None result e q = subst (λ z. IfSome z P) (sym e) tt
@@ -31,7 +31,7 @@ pub mapped_tail : {I J : Type 0} (rest : J → List ℕ) (f : I → J) (a b : Li
     → IfSome result (λ p. IsTail a (rest p))
 mapped_tail rest f a b r result e p q = some_tail rest a b result p (mapped (λ j. IsTail b (rest j)) f r result e q)
 
--- The length of a text's start, from the lengths of the text and of its end.
+-- If a text is split in two, the length of the first part is that of the text minus that of the second part.
 front_len : (bs xs ys : List ℕ) → bs ≡ xs ++ ys → length xs ≡ length bs - length ys
 front_len bs xs ys e = omega (arith, length-append {A = ℕ}, ap length e)
 
@@ -49,7 +49,7 @@ cut_join bs ys b =
     ∙ take-append_seam xs ys in
     b.text_is ∙ ap (λ z. z ++ ys) (sym taken)
 
--- Dropping the start of a text leaves its end.
+-- If a text has an end, dropping the part before the end leaves the end.
 pub cut_drop : (bs ys : List ℕ) → IsTail bs ys → drop (length bs - length ys) bs ≡ ys
 cut_drop bs ys b =
     let f : List ℕ → List ℕ = λ z. drop (length bs - length ys) z in
@@ -64,7 +64,7 @@ pub cut_chars : (bs xs ys : List ℕ) → IsUtf8 xs → IsTail bs ys → xs ≡ 
     ≡ chars xs ++ chars ys
 cut_chars bs xs ys u b e = ap chars (cut_join bs ys b ∙ ap (λ z. z ++ ys) (sym e)) ∙ chars-append xs ys u
 
--- An end of a text isn't longer than the text, so an end of a shorter text is shorter.
+-- If one text is shorter than another, so is each end of the shorter text.
 pub nearer : (a b d : List ℕ) → length b < length a → IsTail b d → length d < length a
 nearer a b d s p = omega (arith, s, length-append p.front d, ap length p.text_is)
 
@@ -73,7 +73,7 @@ pub some_nearer : {I : Type 0} (rest : I → List ℕ) (a b : List ℕ) (r : Opt
 some_nearer rest a b None s p = tt
 some_nearer rest a b (Some i) s p = nearer a b (rest i) s p
 
--- If a function returns an end of an end of a text, the result is an end of the text.
+-- If a function returns, on success, an end of an end of a text, the result is an end of the text.
 pub ok_tail : {X E : Type 0} (rest : X → List ℕ) (a b : List ℕ) (r : Result X E) → IsTail a b
     → IfOk r (λ x. IsTail b (rest x)) → IfOk r (λ x. IsTail a (rest x))
 ok_tail rest a b (Ok x) p q = tail_step a b (rest x) p q

@@ -1,11 +1,11 @@
--- From vectors of sixteen bytes to the bytes at which a literal or a comment may begin.
+-- Vectors of sixteen bytes and their masks, from which the bytes are found at which a literal or a comment may begin.
 use Rattle.rl_syntax.proofs.Common.{◌≡◌, ℕ, zero, suc, ◌+◌, ◌-◌, ◌%◌, ◌^◌, ◌<◌, ◌≤◌, ◌==◌, nat_le, ◌||◌, ◌&&◌, Bool, true, false, not, cond, eqb, List, [], ◌∷◌, map, length, take, drop, refl, sym, ap, ap₂, ◌∙◌, arith, lit<, agree_below, agree_below_at, and_parts, eqb-true, nat_tests, map-map, chunk, is_ascii_digit, mask_l, top, get_or, length-chunk, ⊤}
 use Rattle.std.proofs.Common.{Fits, w8}
 use Rattle.std.specs.Bool.{beq}
 use Rattle.std.proofs.lemmas.List.{drop-drop, drop-take, take-take}
 use Rattle.std.proofs.lemmas.Simd.{get_or-chunk}
 use Rattle.rl_syntax.proofs.LaneLemmas.{lane, masked, not-not}
-use Rattle.rl_syntax.specs.Mirrors.RunsAt.{has_bit, is_word_byte}
+use Rattle.rl_syntax.specs.Mirrors.RunsAt.{has_bit, is_ascii_id_continue}
 use Rattle.rl_syntax.specs.Mirrors.UnlikelyAt.{around, is_likely_mark, is_likely_head, may_begin_at, last_of, byte_before}
 
 -- ---- each byte with the byte before it and the next byte
@@ -46,7 +46,7 @@ pub around-length : (p : ℕ) (bs : List ℕ) → length (around p bs) ≡ lengt
 around-length p [] = refl
 around-length p (b ∷ bs) = ap suc (around-length b bs)
 
--- A chunk of a part of a list is a chunk of the list.
+-- A chunk of a part of a list is a chunk of the whole list, at an offset that is larger by the offset of the part.
 part_of : (j m r k n : ℕ) (bs : List ℕ) → m ≡ j + r → n ≤ r → chunk j n (take m (drop k bs)) ≡ chunk (k + j) n bs
 part_of j m r k n bs is room =
     ap (λ z. take n (drop j (take z (drop k bs)))) is ∙ ap (take n) (drop-take j r (drop k bs))
@@ -57,7 +57,7 @@ part_of j m r k n bs is room =
 abbrev pub AreLow : List ℕ → Type 0
 AreLow v = (k : ℕ) → k < length v → get_or v k 0 < 256
 
--- Two functions that agree on all bytes give equal vectors.
+-- If two functions agree on all bytes, they give equal vectors for equal bytes.
 pub same_lanes : (f g : ℕ → ℕ) → agree_below (λ c. eqb (f c) (g c)) (λ _. true) 256 ≡ true → (v : List ℕ) → AreLow v
     → map f v ≡ map g v
 same_lanes f g all [] low = refl
@@ -65,7 +65,7 @@ same_lanes f g all (x ∷ xs) low = ap₂ (λ a b. a ∷ b)
     (eqb-true (f x) (g x) (agree_below_at (λ c. eqb (f c) (g c)) (λ _. true) 256 x all (low 0 (omega arith))))
     (same_lanes f g all xs (λ k short. low (suc k) (omega arith)))
 
--- The vector for a test of one part of each element is the vector of that part, tested element by element.
+-- A vector for a test of one part of each element can be computed from the list of these parts.
 pub lanes_of : {X : Type 0} (g : ℕ → Bool) (part : X → ℕ) (xs : List X) {v z : List ℕ} → map part xs ≡ v
     → z ≡ map (λ c. lane (g c)) v → z ≡ map (λ x. lane (g (part x))) xs
 lanes_of g part xs is lanes = lanes ∙ ap (map (λ c. lane (g c))) (sym is) ∙ map-map (λ c. lane (g c)) part xs
@@ -99,13 +99,14 @@ at_each : (f : Bool → Bool) → for_all f ≡ true → (b : Bool) → f b ≡ 
 at_each f all true = (and_parts (f true) (f false) all).0
 at_each f all false = (and_parts (f true) (f false) all).1
 
--- The condition that a prefix continues, from the tests of the next byte.
+-- Whether a letter that may begin the prefix of a literal is followed by a byte that continues the prefix, from tests of this
+-- byte.
 abbrev pub goes_on : ℕ → Bool → Bool → Bool → Bool → Bool → Bool
 goes_on c q t r h a =
     cond (c == 98) (q || t || r) (cond (c == 99) (q || r) (cond (c == 114) (q || h) (cond (c == 116) r
     (cond (c == 102) a true))))
 
--- The condition that a literal or a comment may begin, as it is computed for vectors.
+-- Whether a literal or a comment may begin at a byte, as the code computes it with vectors.
 abbrev pub by_lanes : ℕ → Bool → Bool → Bool → Bool → Bool → Bool → Bool
 by_lanes c w q t r h a =
     is_likely_mark c || (w && ((((is_ascii_digit c || (c == 98 && ((q || r) || t))) || (c == 99 && (q || r)))
@@ -136,14 +137,14 @@ agree_at c low w q t r h a =
     same_Bool false true e = absurd (cc)
     same_Bool false false e = refl
 
--- The condition that a literal or a comment may begin, from three bytes: the one before, the byte itself, and the next.
+-- Whether a literal or a comment may begin at a byte, from the byte before it, the byte itself, and the byte after it.
 abbrev pub by_bytes : ℕ × ℕ × ℕ → Bool
-by_bytes x = by_lanes x.1 (not (is_word_byte x.0)) (x.2 == 34) (x.2 == 39) (x.2 == 114) (x.2 == 35) (x.2 == 97)
+by_bytes x = by_lanes x.1 (not (is_ascii_id_continue x.0)) (x.2 == 34) (x.2 == 39) (x.2 == 114) (x.2 == 35) (x.2 == 97)
 
 same_places : (xs : List (ℕ × ℕ × ℕ)) → AreBytes xs → map by_bytes xs ≡ map may_begin_at xs
 same_places [] h = refl
-same_places (x ∷ xs) h = ap₂ (λ a b. a ∷ b) (agree_at x.1 h.0 (not (is_word_byte x.0)) (x.2 == 34) (x.2 == 39)
-    (x.2 == 114) (x.2 == 35) (x.2 == 97) ∙ not-not (by_definition x.1 (not (is_word_byte x.0)) (x.2 == 34) (x.2 == 39)
+same_places (x ∷ xs) h = ap₂ (λ a b. a ∷ b) (agree_at x.1 h.0 (not (is_ascii_id_continue x.0)) (x.2 == 34) (x.2 == 39)
+    (x.2 == 114) (x.2 == 35) (x.2 == 97) ∙ not-not (by_definition x.1 (not (is_ascii_id_continue x.0)) (x.2 == 34) (x.2 == 39)
     (x.2 == 114) (x.2 == 35) (x.2 == 97))) (same_places xs h.1)
 
 -- ---- the mask
@@ -199,7 +200,7 @@ likely_mask at bs room fits lanes =
 
 -- ---- masks for the test of one byte
 
--- A mask has a bit for each byte below 64 at which a literal or a comment may begin.
+-- In a mask, a bit is set for exactly those bytes below 64 at which a literal or a comment may begin.
 pub likely_low : (c : ℕ) → c < 64 → has_bit 288090205599039488 c ≡ (is_likely_mark c || is_likely_head c)
 likely_low c low = agree_below_at (has_bit 288090205599039488) (λ k. is_likely_mark k || is_likely_head k) 64 c refl low
 

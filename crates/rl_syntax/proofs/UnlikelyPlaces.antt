@@ -1,10 +1,10 @@
--- Offsets before which neither a literal nor a comment begins.
+-- Byte offsets before which neither a literal nor a comment begins.
 use Rattle.rl_syntax.proofs.Common.{◌≡◌, ℕ, zero, suc, ◌+◌, ◌≤◌, ◌≢◌, Bool, true, false, not, cond, List, [], ◌∷◌, map, length, drop, refl, sym, ap, ◌∙◌, arith, prefix_len, mask_l, chunk, count_trailing_zeros}
 use Rattle.rl_syntax.proofs.LaneLemmas.{run_stops, run_through}
 use Rattle.rl_syntax.proofs.UnlikelyLanes.{around-length}
-use Rattle.rl_syntax.specs.Mirrors.UnlikelyAt.{around, begins_none, first_or, may_begin, may_begin_at, unlikely_after, skippable_len}
+use Rattle.rl_syntax.specs.Mirrors.UnlikelyAt.{around, begins_none, first_or, may_begin, may_begin_at, unlikely_after, literal_free_prefix_len}
 
--- Neither a literal nor a comment begins at the second byte of a pair, where the first precedes it.
+-- Whether neither a literal nor a comment begins at the second byte of a pair, if the first byte of the pair precedes it.
 abbrev pub is_past : ℕ × ℕ → Bool
 is_past x = not (may_begin x)
 
@@ -23,7 +23,8 @@ unlikely_run p (c ∷ cs) = ap (λ n. cond (begins_none p c (first_or 0 cs)) (su
     more true n = omega arith
     more false n = refl
 
--- A sequence of elements that pass a test continues after a part of the sequence.
+-- If a part of a leading sequence of elements that pass a test is dropped, the sequence after the part is shorter by the part's
+-- length.
 on_from : {X : Type 0} (q : X → Bool) (n : ℕ) (xs : List X) → n ≤ prefix_len q xs → prefix_len q xs
     ≡ n + prefix_len q (drop n xs)
 on_from q zero xs h = omega arith
@@ -38,10 +39,10 @@ on_from q (suc n) (x ∷ xs) h = go (q x) refl h (on_from q n xs)
         omega (arith, here, more (omega arith))
     go false e h more = absurd (omega arith)
 
--- The lowest bit of the mask is the first offset at which a literal or a comment may begin.
-pub first_place : (bs : List ℕ) (at m : ℕ) → at ≤ skippable_len bs → at + 16 ≤ length bs
+-- The lowest bit of the mask of sixteen bytes is at the first of these bytes at which a literal or a comment may begin.
+pub first_place : (bs : List ℕ) (at m : ℕ) → at ≤ literal_free_prefix_len bs → at + 16 ≤ length bs
     → m ≡ mask_l (map may_begin_at (chunk at 16 (around 0 bs))) → m ≢ 0 → at + count_trailing_zeros 64 m
-    ≡ skippable_len bs
+    ≡ literal_free_prefix_len bs
 first_place bs at m front room bits some =
     let xs = around 0 bs in
     let whole = unlikely_run 0 bs in
@@ -51,9 +52,9 @@ first_place bs at m front room bits some =
     let same = ap (count_trailing_zeros 64) bits in
     omega (arith, whole, on, run, same)
 
--- If no bit of the mask is set, neither a literal nor a comment begins at these bytes.
-pub none_among : (bs : List ℕ) (at m : ℕ) → at ≤ skippable_len bs → at + 16 ≤ length bs
-    → m ≡ mask_l (map may_begin_at (chunk at 16 (around 0 bs))) → m ≡ 0 → at + 16 ≤ skippable_len bs
+-- If no bit of the mask of sixteen bytes is set, neither a literal nor a comment begins at any of these bytes.
+pub none_among : (bs : List ℕ) (at m : ℕ) → at ≤ literal_free_prefix_len bs → at + 16 ≤ length bs
+    → m ≡ mask_l (map may_begin_at (chunk at 16 (around 0 bs))) → m ≡ 0 → at + 16 ≤ literal_free_prefix_len bs
 none_among bs at m front room bits none =
     let xs = around 0 bs in
     let whole = unlikely_run 0 bs in

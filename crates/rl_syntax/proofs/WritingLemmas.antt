@@ -1,4 +1,4 @@
--- The text that a writer has written, from the literal's opening delimiter on.
+-- The text that a writer of a quoted literal has written so far, from the literal's opening delimiter on.
 use Rattle.rl_syntax.proofs.Common.{◌≡◌, ◌<◌, ℕ, zero, suc, arith, List, [], ◌∷◌, ◌++◌, map, length, take, refl, sym, ap, subst, ◌≤◌, ◌∙◌, append_assoc, append-nil, encode_utf8, chars, IsAscii, IsUtf8, take-append_seam, encodes-append, encodes-chars, chars_from_encodes, chars_past_char, chars-nil, IsUtf8-nil}
 use Rattle.std.proofs.Common.{length-take}
 use Rattle.std.specs.Prelude.{encode_utf8_all}
@@ -21,11 +21,11 @@ pub one_character : (c : ℕ) (bytes : List ℕ) → IsUtf8 bytes → bytes ≡ 
 one_character c bytes u e = chars_past_char bytes [] c u (e ∙ sym (append-nil (encode_utf8 c)))
     ∙ ap (λ z. c ∷ z) chars-nil
 
--- The bytes of the opening delimiter and of the written forms of these characters.
+-- Returns the bytes of a literal's opening delimiter and of the written forms of the given characters.
 abbrev pub begun : Kind → List ℕ → List ℕ
 begun k xs = encode_utf8_all (opener k ++ texts (map (written_unit k) xs))
 
--- Only the opening delimiter is written, and no character yet.
+-- The opening delimiter of a literal is the start of the written literal before any character is written.
 pub begun_start : (k : Kind) (s : List ℕ) → s ≡ opener k → s ≡ begun k []
 unfolding lib.Utf8.encode
 begun_start Str s h = h
@@ -43,7 +43,8 @@ texts_more k [] c = append-nil (unit_text (written_unit k c))
 texts_more k (x ∷ xs) c = ap (λ z. unit_text (written_unit k x) ++ z) (texts_more k xs c)
     ∙ sym (append_assoc (unit_text (written_unit k x)) (texts (map (written_unit k) xs)) (unit_text (written_unit k c)))
 
--- If the written form of one more character is appended, the written bytes are those for one more character.
+-- If the written bytes are the start of a literal up to some character, and the written form of the next character is appended,
+-- they are the start of the literal up to the next character.
 pub begun_more : (k : Kind) (a b xs : List ℕ) (c : ℕ) → a ≡ begun k xs → b ≡ a
     ++ encode_utf8_all (unit_text (written_unit k c)) → b ≡ begun k (xs ++ (c ∷ []))
 begun_more k a b xs c e h =
@@ -54,7 +55,8 @@ begun_more k a b xs c e h =
     h ∙ ap (λ z. z ++ encode_utf8_all (unit_text (written_unit k c))) e
     ∙ sym (encodes-append (opener k ++ inner) (unit_text (written_unit k c))) ∙ ap encode_utf8_all all
 
--- If the written form of one more character is appended, the bytes written after the text `p` are those for one more character.
+-- If the bytes written after a text `p` are the start of a literal up to some character, and the written form of the next
+-- character is appended, they are the start of the literal up to the next character.
 pub begun_more_after : (k : Kind) (p a b xs : List ℕ) (c : ℕ) → a ≡ p ++ begun k xs → b ≡ a
     ++ encode_utf8_all (unit_text (written_unit k c)) → b ≡ p ++ begun k (xs ++ (c ∷ []))
 begun_more_after k p a b xs c e h =
@@ -62,16 +64,16 @@ begun_more_after k p a b xs c e h =
     h ∙ ap (λ z. z ++ one) e ∙ append_assoc p (begun k xs) one
     ∙ ap (λ z. p ++ z) (begun_more k (begun k xs) (begun k xs ++ one) xs c refl refl)
 
--- The text before the written bytes is unchanged.
+-- Writing a literal after a text `p` leaves `p` unchanged.
 pub begun_front : (k : Kind) (p a b xs : List ℕ) → a ≡ p ++ begun k xs → b ≡ a → take (length p) b ≡ p
 begun_front k p a b xs e same = ap (take (length p)) (same ∙ e) ∙ take-append_seam p (begun k xs)
 
--- If encoded characters are appended to a text, they are appended to its characters.
+-- If the encoding of characters is appended to a text, the characters are appended to the text's characters.
 appended : (p b w : List ℕ) → IsUtf8 p → IsUtf8 b → b ≡ p ++ encode_utf8_all w → chars b ≡ chars p ++ w
 appended p b w u v e = sym (chars_from_encodes (chars p ++ w) b v
     (encodes-append (chars p) w ∙ ap (λ z. z ++ encode_utf8_all w) (encodes-chars p u) ∙ sym e))
 
--- With the closing delimiter, the written bytes are the whole literal, after another text.
+-- If a literal is written after a text, the bytes with the closing delimiter are the text and then the whole literal.
 pub begun_whole_after : (k : Kind) (p a b xs ys : List ℕ) → a ≡ p ++ begun k xs → b ≡ a ++ encode_utf8 (closer k) → xs
     ≡ ys → IsUtf8 p → IsUtf8 b → chars b ≡ chars p ++ written_text k ys
 begun_whole_after k p a b xs ys e h same u v =
@@ -85,7 +87,7 @@ begun_whole_after k p a b xs ys e h same u v =
     ∙ append_assoc p (begun k xs) (encode_utf8 (closer k)) ∙ ap (λ z. p ++ z) (sym all))
     ∙ ap (λ z. chars p ++ written_text k z) same
 
--- With the closing delimiter, the written bytes are the whole literal.
+-- After the closing delimiter is written, the written bytes are the whole literal.
 pub begun_whole : (k : Kind) (a b xs ys : List ℕ) → a ≡ begun k xs → b ≡ a ++ encode_utf8 (closer k) → xs ≡ ys
     → IsUtf8 b → chars b ≡ written_text k ys
 begun_whole k a b xs ys e h same u = begun_whole_after k [] a b xs ys e h same IsUtf8-nil u

@@ -1,4 +1,4 @@
--- The written text of a value is its written form.
+-- The text that is written for a value is the value's written form.
 use Rattle.rl_syntax.proofs.Common.{◌≡◌, ℕ, suc, ◌<◌, ◌&&◌, true, not, eqb, List, [], ◌∷◌, length, refl, sym, subst, get_or, arith, nat_lt, list_all, and_from, and_parts, lt-ltb}
 use Rattle.rl_syntax.specs.declared.kind.Kind.{Kind}
 use Rattle.rl_syntax.specs.declared.kind.Kind.TheVariants.{ByteStr, CStr, Byte}
@@ -8,7 +8,7 @@ use Rattle.rl_syntax.specs.Written.{written_text, IsWrittenForm}
 use Rattle.rl_syntax.specs.Agreeing.{has_no_zero, IsQuotedValue, AreBytesOf}
 use Rattle.rl_syntax.proofs.WrittenLaws.{written_reads, written_strict}
 
--- The written text of a value is its literal, by the definition `IsWrittenForm`.
+-- The text that is written for a value is the literal that the definition `IsWrittenForm` describes.
 pub written_form : (k : Kind) (v t : List ℕ) → IsQuotedValue k v → t ≡ written_text k v → IsWrittenForm k v t
 written_form k v t h e = record {
   text_is = e;
@@ -16,7 +16,7 @@ written_form k v t h e = record {
   strict = subst (λ z. Strict z k (quoted_contents k v) []) (sym e) (written_strict k v h);
 }
 
--- Each byte is below 256.
+-- If each element of a list is below 256, the list consists of bytes.
 pub all_bytes : (v : List ℕ) → ((i : ℕ) → i < length v → get_or v i 0 < 256) → list_all (λ c. nat_lt c 256) v ≡ true
 all_bytes [] h = refl
 all_bytes (c ∷ v) h = and_from _ _ (lt-ltb c 256 (h 0 (omega arith))) (all_bytes v (λ i l. h (suc i) (omega arith)))
@@ -29,7 +29,7 @@ both_tests (c ∷ v) h n =
     let q = and_parts _ _ n in
     and_from _ _ (and_from _ _ p.0 q.0) (both_tests v p.1 q.1)
 
--- Bytes that a literal of the kind can have are a value of the kind.
+-- If bytes can be the value of a literal of the kind, they are a value that a literal of the kind can represent.
 pub bytes_value : (k : Kind) (v : List ℕ) → AreBytesOf k v → list_all (λ c. nat_lt c 256) v ≡ true → IsQuotedValue k v
 bytes_value ByteStr v h b = b
 bytes_value Byte v h b = (h, b)

@@ -1,4 +1,4 @@
--- The written text of a value is a literal of both grammars, with that value.
+-- The text that is written for a value is a literal of both grammars with this value.
 use Rattle.rl_syntax.proofs.Common.{◌≡◌, ℕ, suc, ◌+◌, ◌*◌, ◌^◌, ◌/◌, ◌%◌, ◌<◌, ◌||◌, ◌&&◌, Bool, true, false, not, eqb, List, [], ◌∷◌, ◌++◌, length, map, refl, sym, ap, subst, ◌∙◌, inl, inr, arith, append_assoc, append-nil, nat_lt, digit_value, is_ascii_hexdigit, list_all, flat_map, encode_ascii, eqb-true, both_ways, and_parts, and_from, or_parts, or_cases, or_from, cases_Bool, ltb-true, ltb-false, lt-ltb, not-true, not_from_false, agree_below_at}
 use Rattle.std.proofs.lemmas.Nat.{div-add-mod'}
 use Rattle.std.proofs.lemmas.Bool.{eqb-false}
@@ -11,7 +11,7 @@ use Rattle.rl_syntax.specs.Strict.{StrictUnit, Itself, QuoteEscape, PlainEscape,
 use Rattle.rl_syntax.specs.Agreeing.{IsQuotedValue}
 use Rattle.rl_syntax.proofs.Agreeing.{strict_reads}
 
--- A property that holds for each way to write a character holds for the chosen one.
+-- If a property holds for each way to write a character in a literal, it holds for the way that the writer chooses.
 written_by : (k : Kind) (P : QuotedUnit → Type 0) (c : ℕ) →
     (c ≡ 0 → P (Named Zero)) → (c ≡ 9 → P (Named LowerT)) → (c ≡ 10 → P (Named LowerN)) → (c ≡ 13 → P (Named LowerR))
     → (c ≡ 92 → P (Named Backslash)) → (c ≡ closer k → P (own_quote k)) →

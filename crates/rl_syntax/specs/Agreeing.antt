@@ -8,7 +8,7 @@ use Rattle.rl_syntax.specs.Numbers.{Sign, IntReads, limit}
 abbrev pub is_zero : ℕ → Bool
 is_zero b = b == 0
 
--- No byte is zero.
+-- Whether no byte of a list is zero.
 abbrev pub has_no_zero : List ℕ → Bool
 has_no_zero bytes = list_all (λ b. not (is_zero b)) bytes
 

@@ -37,7 +37,7 @@ abbrev pub sign_text : Sign → List ℕ
 sign_text NoSign = []
 sign_text Minus = codes "-"
 
--- The text begins with the prefix of a base other than ten: `0b`, `0o` or `0x`.
+-- Whether a text begins with the prefix of a base other than ten: `0b`, `0o` or `0x`.
 abbrev pub begins_base : List ℕ → Bool
 begins_base t = begins (prefix Binary) t || begins (prefix Octal) t || begins (prefix Hexadecimal) t
 
@@ -74,7 +74,7 @@ AllowsSuffix Decimal x = IsExponentSuffix x → ⊥
 AllowsSuffix Hexadecimal x = IsFalse (first_passes (is_digit Hexadecimal) x)
 AllowsSuffix _ x = ⊤
 
--- The text is an integer literal with this sign, magnitude and suffix. In `syn`: `parse_lit_int`.
+-- The text is an integer literal with the given sign, magnitude and suffix. In `syn`: `parse_lit_int`.
 pub record IntReads (text : List ℕ) (sign : Sign) (magnitude : ℕ) (suffix : List ℕ) : Type 0 where
   pub base : Base
   pub digits : List ℕ
@@ -86,7 +86,7 @@ pub record IntReads (text : List ℕ) (sign : Sign) (magnitude : ℕ) (suffix : 
   pub text_is : text ≡ sign_text sign ++ (prefix base ++ (digits ++ suffix))
   pub magnitude_is : magnitude ≡ place_value (radix base) (without_underscores digits)
 
--- The greatest number of an integer literal that is parsed: it fits 128 bits.
+-- The greatest magnitude of an integer literal that is parsed, 2^128 - 1. It fits 128 bits.
 abbrev pub limit : ℕ
 limit = 2 ^ 128 - 1
 

@@ -62,15 +62,15 @@ unit_text (Hex high low) = code "\\" ∷ code "x" ∷ high ∷ low ∷ []
 unit_text (Unicode first more) = code "\\" ∷ code "u" ∷ code "{" ∷ first ∷ (more ++ (code "}" ∷ []))
 unit_text (Continuation line_end run) = code "\\" ∷ line_end ∷ run
 
--- The value of a literal of the kind consists of characters. This is so for strings and characters. The values of the
--- other quoted kinds consist of bytes.
-abbrev pub holds_characters : Kind → Bool
-holds_characters Str = true
-holds_characters Char = true
-holds_characters _ = false
+-- Whether the value of a literal of the kind consists of characters, as for strings and characters. The values of the other
+-- quoted kinds consist of bytes.
+abbrev pub decodes_to_chars : Kind → Bool
+decodes_to_chars Str = true
+decodes_to_chars Char = true
+decodes_to_chars _ = false
 
 abbrev pub content_of : Kind → List ℕ → List ℕ
-content_of kind cs = if holds_characters kind then cs else encode_utf8_all cs
+content_of kind cs = if decodes_to_chars kind then cs else encode_utf8_all cs
 
 abbrev pub hex_value : ℕ → ℕ → ℕ
 hex_value high low = place_value 16 (high ∷ low ∷ [])
@@ -104,7 +104,7 @@ is_single Byte = true
 is_single Char = true
 is_single _ = false
 
--- A literal of the kind may contain the character unescaped.
+-- Whether a literal of the kind may contain the character unescaped.
 abbrev pub is_plain : Kind → ℕ → Bool
 is_plain Str c = not (c == code "\"" || c == code "\\" || c == code "\r")
 is_plain ByteStr c = nat_lt c 128 && not (c == code "\"" || c == code "\\" || c == code "\r")
@@ -115,20 +115,21 @@ is_plain Byte c =
     && not (c == code "'" || c == code "\\" || c == code "\n" || c == code "\r" || c == code "\t")
 is_plain _ c = false
 
--- A literal of the kind may contain a character or byte with this number. Only a C string excludes one, which is 0.
+-- Whether a literal of the kind may contain a character or byte with the given number. Only a C string excludes a number, which
+-- is 0.
 abbrev pub allows_code : Kind → ℕ → Bool
 allows_code CStr n = not (n == 0)
 allows_code _ n = true
 
--- A raw string of the kind may contain the character.
+-- Whether a raw string of the kind may contain the character.
 abbrev pub is_raw : Kind → ℕ → Bool
 is_raw ByteStr c = nat_lt c 128
 is_raw kind c = allows_code kind c
 
--- The escape `\xHH` in a literal of the kind may have this number: below 128 in a literal of characters, and not 0 in a
--- C string. `allows_unicode_escapes` says whether literals of the kind may contain escapes `\u{..}`.
+-- Whether the escape `\xHH` in a literal of the kind may have the given number: below 128 in a literal of characters, and not 0
+-- in a C string. `allows_unicode_escapes` says whether literals of the kind may contain escapes `\u{..}`.
 abbrev pub may_be_hex : Kind → ℕ → Bool
-may_be_hex kind n = allows_code kind n && (not (holds_characters kind) || nat_lt n 128)
+may_be_hex kind n = allows_code kind n && (not (decodes_to_chars kind) || nat_lt n 128)
 
 abbrev pub allows_unicode_escapes : Kind → Bool
 allows_unicode_escapes ByteStr = false
@@ -182,7 +183,7 @@ raw_opener ByteStr = codes "br"
 raw_opener CStr = codes "cr"
 raw_opener _ = []
 
--- The text is a string literal with escapes, with this value and suffix: characters and escapes between quotes, and the
+-- The text is a string literal with escapes, with the given value and suffix: characters and escapes between quotes, and the
 -- suffix. In `syn`: `parse_lit_str_cooked`, `parse_lit_byte_str_cooked`, `parse_lit_c_str_cooked`.
 pub record Cooked (kind : Kind) (text value suffix : List ℕ) : Type 0 where
   pub units : List QuotedUnit
@@ -192,9 +193,8 @@ pub record Cooked (kind : Kind) (text value suffix : List ℕ) : Type 0 where
   pub text_is : text ≡ opener kind ++ (texts units ++ (code "\"" ∷ suffix))
   pub value_is : value ≡ values kind units
 
--- The text is a raw string literal with this value and suffix. Its body is the text between its first and its last
--- quote, since the suffix contains no quote. In `syn`: `parse_lit_str_raw`, `parse_lit_byte_str_raw`,
--- `parse_lit_c_str_raw`.
+-- The text is a raw string literal with the given value and suffix. Its body is the text between its first and its last quote,
+-- since the suffix contains no quote. In `syn`: `parse_lit_str_raw`, `parse_lit_byte_str_raw`, `parse_lit_c_str_raw`.
 pub record Raw (kind : Kind) (text value suffix : List ℕ) : Type 0 where
   pub hashes : ℕ
   pub inside : List ℕ
@@ -206,7 +206,7 @@ pub record Raw (kind : Kind) (text value suffix : List ℕ) : Type 0 where
       ++ (code "\"" ∷ (inside ++ (code "\"" ∷ (replicate hashes (code "#") ++ suffix)))))
   pub value_is : value ≡ content_of kind inside
 
--- The text is a character or byte literal with this value and suffix: one character or escape between single quotes. In
+-- The text is a character or byte literal with the given value and suffix: one character or escape between single quotes. In
 -- `syn`: `parse_lit_char`, `parse_lit_byte`.
 pub record Single (kind : Kind) (text value suffix : List ℕ) : Type 0 where
   pub unit : QuotedUnit

@@ -57,7 +57,7 @@ pub record ReadsBool (text : List ℕ) (contents : Contents) (suffix : List ℕ)
   pub suffix_is : suffix ≡ []
   pub contents_is : contents ≡ Truth truth
 
--- The text is parsed as a literal of the kind, with this value and this suffix.
+-- The text is parsed as a literal of the kind, with the given value and suffix.
 abbrev pub Reads : List ℕ → Kind → Contents → List ℕ → Type 0
 Reads text Int contents suffix = ReadsInt text contents suffix
 Reads text Float contents suffix = ReadsFloat text contents suffix
@@ -68,11 +68,11 @@ Reads text kind contents suffix = ReadsQuoted text kind contents suffix
 abbrev pub ReadsAs : Kind → List ℕ → Type 0
 ReadsAs kind text = (contents : Contents) × (suffix : List ℕ) × Reads text kind contents suffix
 
--- The text is parsed as a literal of the kind with this value.
+-- The text is parsed as a literal of the kind with the given value.
 abbrev pub HasContents : Kind → List ℕ → Contents → Type 0
 HasContents kind text contents = (suffix : List ℕ) × Reads text kind contents suffix
 
--- The text is parsed as a literal of the kind with this suffix.
+-- The text is parsed as a literal of the kind with the given suffix.
 abbrev pub HasSuffix : Kind → List ℕ → List ℕ → Type 0
 HasSuffix kind text suffix = (contents : Contents) × Reads text kind contents suffix
 

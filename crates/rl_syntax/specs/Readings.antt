@@ -11,10 +11,10 @@ pub record Reading : Type 0 where
   pub contents : Contents
   pub suffix : List ℕ
 
--- By `syn`'s grammar, the text has this parse result.
+-- By `syn`'s grammar, the text has the given parse result.
 pub record IsReading (text : List ℕ) (reading : Reading) : Type 0 where
   pub reads : Reads text reading.kind reading.contents reading.suffix
 
--- By Rust's grammar, the text has this parse result.
+-- By Rust's grammar, the text has the given parse result.
 pub record ReadsStrictly (text : List ℕ) (reading : Reading) : Type 0 where
   pub strict : Strict text reading.kind reading.contents reading.suffix

@@ -3,14 +3,14 @@ use Rattle.std.specs.Prelude.{◌≡◌, ℕ, Bool, not, ◌||◌, ◌&&◌, ◌
 use Rattle.std.specs.List.{list_all}
 use Rattle.rl_syntax.specs.declared.scan.Marks.{Marks}
 
--- The byte is one of the delimiters.
+-- Whether a byte is one of the delimiters.
 abbrev pub is_one_of : Marks → ℕ → Bool
 is_one_of marks c = c == marks.first || c == marks.second || c == marks.third || c == marks.fourth
 
 abbrev pub is_other : Marks → ℕ → Bool
 is_other marks c = not (is_one_of marks c)
 
--- The byte is ASCII and isn't one of the delimiters.
+-- Whether a byte is ASCII and isn't one of the delimiters.
 abbrev pub is_ascii_other : Marks → ℕ → Bool
 is_ascii_other marks c = nat_lt c 128 && is_other marks c
 

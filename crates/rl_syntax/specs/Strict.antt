@@ -62,8 +62,8 @@ abbrev pub plain_value_in : List (ℕ × ℕ) → ℕ → List ℕ
 plain_value_in [] c = []
 plain_value_in (e ∷ es) c = if e.0 == c then e.1 ∷ [] else plain_value_in es c
 
--- The value of a character or escape. `as_kind` maps characters to the value: to themselves for strings, characters and
--- C strings' characters, or to bytes.
+-- The value of a character or escape. In C string literals, `as_kind` encodes characters as UTF-8 bytes. In other literals, it
+-- returns the characters unchanged.
 abbrev pub strict_contents : (List ℕ → List ℕ) → StrictUnit → List ℕ
 strict_contents as_kind (Itself c) = as_kind (c ∷ [])
 strict_contents as_kind (QuoteEscape c) = c ∷ []
@@ -84,7 +84,7 @@ is_unicode_escape digits =
     nat_le 1 (length digits) && nat_le (length digits) 6
     && list_all (λ d. is_ascii_hexdigit d.0) digits && all_scalars (spaced_value digits ∷ [])
 
--- A character or byte literal may contain the character unescaped.
+-- Whether a character or byte literal may contain the character unescaped.
 abbrev pub is_allowed_in_single_quotes : ℕ → Bool
 is_allowed_in_single_quotes c =
     not (c == code "'" || c == code "\\" || c == code "\n" || c == code "\r" || c == code "\t")
@@ -121,14 +121,15 @@ is_strict_unit ByteStr (LineBreak blanks) = list_all is_dropped_blank blanks
 is_strict_unit CStr (LineBreak blanks) = list_all is_dropped_blank blanks
 is_strict_unit _ (LineBreak blanks) = false
 
--- No white space follows an escaped line end: it includes all white space after it.
+-- Each escaped line end of a sequence of characters and escapes includes all white space after it.
 abbrev pub BlanksEnd : List StrictUnit → Type 0
 BlanksEnd [] = ⊤
 BlanksEnd (LineBreak blanks ∷ us) =
     IsFalse (first_passes is_dropped_blank (flat_map strict_text us)) × BlanksEnd us
 BlanksEnd (_ ∷ us) = BlanksEnd us
 
--- The texts that begin and end a quoted literal of the kind, and the value of its characters.
+-- The text that begins a quoted literal of the kind. `strict_closer` is the text that ends it, and `strict_content_of` is the
+-- value of its characters.
 abbrev pub strict_opener : Kind → List ℕ
 strict_opener Str = codes "\""
 strict_opener ByteStr = codes "b\""
@@ -277,8 +278,8 @@ pub record StrictBool (t : List ℕ) (v : Contents) (x : List ℕ) : Type 0 wher
   pub contents : v ≡ Truth truth
   pub suffix : x ≡ []
 
--- By Rust's grammar, the text is a literal of the kind, with this value and this suffix. It contains no CR, and its
--- suffix contains no white space.
+-- By Rust's grammar, the text is a literal of the kind, with the given value and suffix. It contains no CR, and its suffix
+-- contains no white space.
 abbrev pub Strict : List ℕ → Kind → Contents → List ℕ → Type 0
 Strict t Int v x = StrictInt t v x
 Strict t Float v x = StrictFloat t v x

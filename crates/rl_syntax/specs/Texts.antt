@@ -9,12 +9,12 @@ use Rattle.unicode_ident.specs.Ident.{is_xid_start, is_xid_continue}
 use Rattle.rl_syntax.specs.declared.span.Span.{Span}
 use Prim.Native.Char.{code}
 
--- The character is white space: it has Unicode's property White_Space, or is the direction mark U+200E or U+200F. This
--- is `is_whitespace` of `syn` 3.0.9, src/whitespace.rs.
+-- Whether a character is white space: it has Unicode's property White_Space, or is the direction mark U+200E or U+200F. This is
+-- `is_whitespace` of `syn` 3.0.9, src/whitespace.rs.
 abbrev pub is_white : ℕ → Bool
 is_white c = is_whitespace c || c == 0x200e || c == 0x200f
 
--- The text is an identifier, and so a suffix of the lenient grammar. `_` is one too. White space isn't excluded
+-- Whether a text is an identifier, and so a suffix of the lenient grammar. The text `_` is one too. White space isn't excluded
 -- separately.
 abbrev pub xid_ok : List ℕ → Bool
 xid_ok [] = false
@@ -26,19 +26,19 @@ pub record IsWord (x : List ℕ) : Type 0 where
   pub not_underscore : x ≢ code "_" ∷ []
   pub no_white : IsTrue (list_all (λ c. not (is_white c)) x)
 
--- The text begins with a character that passes the test.
+-- Whether a text begins with a character that passes the test.
 abbrev pub first_passes : (ℕ → Bool) → List ℕ → Bool
 first_passes test [] = false
 first_passes test (c ∷ cs) = test c
 
--- The text begins with this character.
+-- Whether a text begins with the given character.
 abbrev pub begins_char : ℕ → List ℕ → Bool
 begins_char k t = first_passes (λ c. c == k) t
 
 abbrev pub is_among : List ℕ → ℕ → Bool
 is_among codes c = list_any (λ k. c == k) codes
 
--- The text begins with these characters.
+-- Whether a text begins with the given characters.
 abbrev pub begins : List ℕ → List ℕ → Bool
 begins [] t = true
 begins (p ∷ ps) [] = false
@@ -47,7 +47,7 @@ begins (p ∷ ps) (c ∷ cs) = c == p && begins ps cs
 abbrev pub is_underscore : ℕ → Bool
 is_underscore c = c == code "_"
 
--- The character passes the test `digit`, or is an underscore.
+-- Whether a character passes the test `digit`, or is an underscore.
 abbrev pub is_run_part : (ℕ → Bool) → ℕ → Bool
 is_run_part digit c = digit c || is_underscore c
 
@@ -65,15 +65,15 @@ pub record SpannedText : Type 0 where
   pub text : List ℕ
   pub span : Span
 
--- The character may begin an identifier token (the Rust Reference, chapter Identifiers). `is_continue` says whether it
--- may continue one.
+-- Whether a character may begin an identifier token (the Rust Reference, chapter Identifiers). `is_continue` says whether it may
+-- continue one.
 abbrev pub is_start : ℕ → Bool
 is_start c = (c == code "_" || is_xid_start c) && not (is_white c)
 
 abbrev pub is_continue : ℕ → Bool
 is_continue c = is_xid_continue c && not (is_white c)
 
--- The character is space, TAB, LF or CR.
+-- Whether a character is space, TAB, LF or CR.
 abbrev pub is_blank : ℕ → Bool
 is_blank c = c == code " " || c == code "\t" || c == code "\n" || c == code "\r"
 

@@ -22,22 +22,22 @@ pub record BeginsNoMark (t : List ℕ) : Type 0 where
   pub no_opener : (rest : List ℕ) → t ≡ code "/" ∷ code "*" ∷ rest → ⊥
   pub no_closer : (rest : List ℕ) → t ≡ code "*" ∷ code "/" ∷ rest → ⊥
 
--- The text of a block comment is well formed: neither `/*` nor `*/` begins at one of its single characters (`Other`). The same
--- holds for the block comments inside it.
+-- The text of a block comment is well formed: neither `/*` nor `*/` begins at one of its single characters (`Other`). Each block
+-- comment inside it is well formed too.
 abbrev pub IsInside : Inside → Type 0
 IsInside End = ⊤
 IsInside (Other c rest) = BeginsNoMark (c ∷ inside_text rest) × IsInside rest
 IsInside (Nested inner rest) = IsInside inner × IsInside rest
 
--- A line comment is plain, and not a doc comment. `body` is the text after its `//`. Doc comments begin with `//!`, or
+-- Whether a line comment is plain, and not a doc comment. `body` is the text after its `//`. Doc comments begin with `//!`, or
 -- with `///` but not with `////`.
 abbrev pub is_comment_line : List ℕ → Bool
 is_comment_line body =
     not (begins_char (code "!") body
     || (begins_char (code "/") body && not (begins_char (code "/") (drop 1 body))))
 
--- A block comment is plain, and not a doc comment. `inside` is the text after its `/*`. Doc comments begin with `/*!`,
--- or with `/**`, but with neither `/**/` nor `/***`.
+-- Whether a block comment is plain, and not a doc comment. `inside` is the text after its `/*`. Doc comments begin with `/*!`, or
+-- with `/**`, but with neither `/**/` nor `/***`.
 abbrev pub is_comment_block : List ℕ → Bool
 is_comment_block inside =
     not (begins_char (code "!") inside

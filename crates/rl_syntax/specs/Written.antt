@@ -1,9 +1,9 @@
--- The literals that are written for values, by a table of this project's own.
+-- The literals that are written for values. The table of escapes is this project's own choice.
 use Rattle.std.specs.Prelude.{ℕ, ◌+◌, ◌-◌, ◌/◌, ◌%◌, Bool, not, ◌&&◌, ◌||◌, ◌==◌, nat_lt, List, [], ◌∷◌, ◌++◌, map, if◌then◌else◌, ◌≡◌}
 use Prim.Native.Char.{code}
 use Rattle.rl_syntax.specs.declared.kind.Kind.{Kind}
 use Rattle.rl_syntax.specs.declared.kind.Kind.TheVariants.{Byte, Char}
-use Rattle.rl_syntax.specs.Quoted.{QuotedUnit, Plain, Named, Hex, Zero, LowerT, LowerN, LowerR, Backslash, Quote, Apostrophe, holds_characters, opener, texts}
+use Rattle.rl_syntax.specs.Quoted.{QuotedUnit, Plain, Named, Hex, Zero, LowerT, LowerN, LowerR, Backslash, Quote, Apostrophe, decodes_to_chars, opener, texts}
 use Rattle.rl_syntax.specs.Reading.{Reads, quoted_contents}
 use Rattle.rl_syntax.specs.Strict.{Strict}
 
@@ -22,12 +22,12 @@ own_quote Byte = Named Apostrophe
 own_quote Char = Named Apostrophe
 own_quote _ = Named Quote
 
--- The character or byte is written by its number, as `\x7F`, unless it has a shorter escape: characters below the
--- space, DEL (which is 127), and in literals of bytes the bytes from 128 up.
+-- Whether a character or byte is written by its number, as `\x7F`, unless it has a shorter escape: characters below the space,
+-- DEL (which is 127), and in literals of bytes the bytes from 128 up.
 abbrev pub is_written_as_number : Kind → ℕ → Bool
 is_written_as_number kind c =
     nat_lt c (code " ") || c == 127
-    || (nat_lt 127 c && not (holds_characters kind))
+    || (nat_lt 127 c && not (decodes_to_chars kind))
 
 -- The written form of a character or byte in a literal of the kind: itself or an escape.
 unfoldable pub written_unit : Kind → ℕ → QuotedUnit

@@ -14,14 +14,14 @@ pub(crate) fn is_white(c: char) -> bool
 }
 
 /// Returns `true` if the character may begin an identifier token. For an ASCII character, no Unicode table is read.
-pub fn is_start(c: char) -> bool
+pub fn is_id_start(c: char) -> bool
     ensures { result ≡ is_start c }
 {
     c == '_' || (is_xid_start(c) && (c.is_ascii() || !is_white(c)))
 }
 
 /// Returns `true` if the character may continue an identifier token. For an ASCII character, no Unicode table is read.
-pub fn is_continue(c: char) -> bool
+pub fn is_id_continue(c: char) -> bool
     ensures { result ≡ is_continue c }
 {
     is_xid_continue(c) && (c.is_ascii() || !is_white(c))

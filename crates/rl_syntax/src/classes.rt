@@ -7,7 +7,7 @@ ghost use Rattle.rl_syntax.specs.Texts.{IsTail, first_passes, is_continue, is_wh
 ghost use Rattle.rl_syntax.specs.Classes.{after_run, class_test, is_hash};
 ghost use Rattle.rl_syntax.specs.Mirrors.RunsAt.{run_class};
 
-use crate::characters::{is_continue, is_white, is_xid_continue};
+use crate::characters::{is_id_continue, is_white, is_xid_continue};
 use crate::lanes::run_len;
 use crate::text::{split_ascii, split_char, strip_byte};
 
@@ -45,7 +45,7 @@ fn is_in_class(class: CharClass, c: char) -> bool
     ensures { result ≡ class_test class c }
 {
     match class {
-        CharClass::Continue => is_continue(c),
+        CharClass::Continue => is_id_continue(c),
         CharClass::Numeral => c.is_ascii_digit() || c == '_',
         CharClass::Underscore => c == '_',
         CharClass::White => is_white(c),
@@ -118,7 +118,7 @@ fn skip_run<const WORD: bool>(text: &str) -> &str
 
 /// Returns the text after the identifier characters at its start.
 #[inline(always)]
-pub fn skip_word(text: &str) -> &str
+pub fn skip_id_continue(text: &str) -> &str
     ensures rest { chars result.now ≡ after_run is_continue (chars text.now) }
     ensures following { IsTail text.now result.now }
     ensures shorter { length result.now ≤ length text.now }

@@ -17,10 +17,10 @@ use crate::text::split_char;
 /// ```
 /// use rl_tokens::ident::xid_ok;
 ///
-/// pub fn is_name(text: &str) -> bool {
+/// pub fn is_identifier(text: &str) -> bool {
 ///     xid_ok(text)
 /// }
-/// // is_name("port") == true
+/// // is_identifier("port") == true
 /// ```
 #[inline(always)]
 pub fn xid_ok(text: &str) -> bool

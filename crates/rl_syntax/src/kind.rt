@@ -1,13 +1,13 @@
 //! The kinds of literals, and their names in messages.
 
 ghost use Rattle.std.specs.Prelude.{◌≡◌, ◌<◌};
-ghost use Rattle.rl_syntax.specs.Quoted.{holds_characters, is_string, opener};
+ghost use Rattle.rl_syntax.specs.Quoted.{decodes_to_chars, is_string, opener};
 ghost use Rattle.rl_syntax.specs.Words.{kind_name, kind_shown, kind_word};
 ghost use Rattle.rl_syntax.specs.Written.{closer};
 
-// These constants are the opening texts of quoted literals, prefix and quote. `Kind::opener` returns one of them for a
-// kind. The lexer uses the constants, because the compiler makes a test of a text's start from a constant, but not from
-// the result of a call.
+// The constants whose names end with `_OPENER` are the opening texts of quoted literals, prefix and quote.
+// `Kind::opener` returns one of them for a kind. The lexer uses the constants, because the compiler makes a test of a
+// text's start from a constant, but not from the result of a call.
 pub const STR_OPENER: &str = "\"";
 
 pub const BYTE_STR_OPENER: &str = "b\"";
@@ -18,7 +18,7 @@ pub const BYTE_OPENER: &str = "b'";
 
 pub const CHAR_OPENER: &str = "'";
 
-/// The kind of a literal. Error messages name a kind by its [`word`](Kind::word).
+/// The kind of a literal. Error messages name a kind by its [`description`](Kind::description).
 ///
 /// # Example
 ///
@@ -26,13 +26,13 @@ pub const CHAR_OPENER: &str = "'";
 /// use rl_grammar::{Kind, shape, str_of};
 /// use std::alloc::Global;
 ///
-/// pub fn contents(alloc: Global, text: &str) -> Option<String> {
+/// pub fn decoded_string(alloc: Global, text: &str) -> Option<String> {
 ///     match shape(text)?.kind {
 ///         Kind::Str => str_of(alloc, text).ok(),
 ///         _ => None,
 ///     }
 /// }
-/// // contents(alloc, "\"a\\x41\"") == Some("aA")
+/// // decoded_string(alloc, "\"a\\x41\"") == Some("aA")
 /// ```
 #[derive(Clone, Copy, PartialEq, Eq, Debug)]
 pub enum Kind {
@@ -64,8 +64,8 @@ impl Kind {
 
     /// Returns `true` if the values of the kind's literals are characters: for `Str` and `Char`. The values of the
     /// other quoted kinds are bytes.
-    pub fn holds_characters(self) -> bool
-        ensures { result ≡ holds_characters self }
+    pub fn decodes_to_chars(self) -> bool
+        ensures { result ≡ decodes_to_chars self }
     {
         matches!(self, Kind::Str | Kind::Char)
     }
@@ -103,7 +103,7 @@ impl Kind {
     }
 
     /// Returns the name of the kind in error messages, as `string literal`.
-    pub fn word(self) -> &'static str
+    pub fn description(self) -> &'static str
         ensures { result.now ≡ kind_word self }
     {
         match self {
@@ -118,13 +118,13 @@ impl Kind {
         }
     }
 
-    /// Returns the name of the kind in the `display` of its tokens: its [`word`](Kind::word), except for `C-string literal`.
-    pub fn shown(self) -> &'static str
+    /// Returns the name of the kind in the `display` of its tokens: its [`description`](Kind::description), except for `C-string literal`.
+    pub fn display_name(self) -> &'static str
         ensures { result.now ≡ kind_shown self }
     {
         match self {
             Kind::CStr => "C-string literal",
-            _ => self.word(),
+            _ => self.description(),
         }
     }
 

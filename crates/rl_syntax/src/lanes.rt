@@ -5,9 +5,9 @@ ghost use Rattle.std.specs.Prelude.{◌≡◌, ◌||◌, ◌+◌, ◌<◌, ◌�
 ghost use Rattle.std.specs.List.{prefix_len};
 ghost use Rattle.std.specs.Simd.Lanes.{chunk, mask_l};
 ghost use Rattle.rl_syntax.specs.Scanning.{is_one_of, is_other, line_ends};
-ghost use Rattle.rl_syntax.specs.Mirrors.RunsAt.{is_run_byte, is_word_byte, ends_run};
+ghost use Rattle.rl_syntax.specs.Mirrors.RunsAt.{is_run_byte, is_ascii_id_continue, ends_run};
 ghost use Rattle.rl_syntax.specs.Mirrors.RunsAt.{has_bit};
-ghost use Rattle.rl_syntax.specs.Mirrors.UnlikelyAt.{is_likely_mark, is_likely_head, may_begin_at, around, skippable_len, byte_before};
+ghost use Rattle.rl_syntax.specs.Mirrors.UnlikelyAt.{is_likely_mark, is_likely_head, may_begin_at, around, literal_free_prefix_len, byte_before};
 
 use crate::scan::{Marks, stop_by_eight};
 use std::simd::prelude::*;
@@ -40,8 +40,8 @@ fn ends_among<const WORD: bool>(bytes: &[u8], at: usize) -> u64
 
 /// Returns `true` if the byte is an ASCII character that continues an identifier.
 #[inline(always)]
-pub fn is_word_byte(byte: u8) -> bool
-    ensures { result ≡ is_word_byte byte }
+pub fn is_ascii_id_continue(byte: u8) -> bool
+    ensures { result ≡ is_ascii_id_continue byte }
 {
     byte.is_ascii_alphanumeric() || byte == b'_'
 }
@@ -52,7 +52,7 @@ fn is_run_byte<const WORD: bool>(byte: u8) -> bool
     ensures { result ≡ is_run_byte WORD byte }
 {
     if WORD {
-        is_word_byte(byte)
+        is_ascii_id_continue(byte)
     } else {
         byte == b' ' || 8 < byte && byte < 14
     }
@@ -166,8 +166,8 @@ fn likely_among(bytes: &[u8], at: usize) -> u64
 /// Returns a number of leading bytes that can be skipped in a search for literals: neither a literal nor a comment
 /// begins at one of them. Sixteen bytes are tested at once. The search stops where sixteen bytes or fewer are left.
 #[inline(never)]
-pub fn skippable_len(bytes: &[u8]) -> usize
-    ensures { result ≤ skippable_len bytes.now }
+pub fn literal_free_prefix_len(bytes: &[u8]) -> usize
+    ensures { result ≤ literal_free_prefix_len bytes.now }
 {
     if bytes.is_empty() || is_likely(bytes[0]) {
         return 0;
@@ -208,7 +208,7 @@ pub fn line_len(bytes: &[u8]) -> usize
         }
         at += LANES;
     }
-    stop_by_eight::<false>(Marks::two(b'\n', b'\n'), bytes, at)
+    stop_by_eight::<false>(Marks::from_two_bytes(b'\n', b'\n'), bytes, at)
 }
 
 /// Returns the byte at the offset `at`, or 0 if `at` isn't below the length.

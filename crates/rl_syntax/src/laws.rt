@@ -3,44 +3,44 @@
 ghost use Rattle.rl_syntax.specs.Laws.{ATextHasOneReading, ATextIsStrictInOneWay, AStrictTextHasNoReturn, TheTruthWordsAreStrict, AStrictTextReads, AStrictNumberReadsAfterAMinus, AWrittenValueIsStrict, AWrittenValueReads, AMinusTellsTheSign, BothGrammarsAgree, ReadingsOfATextAreOne, StrictReadingsOfATextAreOne, AReadingIsTheStrictOne};
 
 /// By `syn`'s grammar, a text has at most one parse result: one kind, one value and one suffix.
-pub fn one_reading()
+pub fn a_text_has_one_reading()
     ensures { ATextHasOneReading }
 {}
 
 /// By Rust's grammar, a text is a literal with one kind, one value and one suffix, if it is one at all.
-pub fn one_strict()
+pub fn a_text_has_one_strict_reading()
     ensures { ATextIsStrictInOneWay }
 {}
 
 /// A literal of Rust's grammar contains no CR, neither in its body nor in its suffix.
-pub fn strict_holds_no_return()
+pub fn a_strict_literal_contains_no_cr()
     ensures { AStrictTextHasNoReturn }
 {}
 
 /// The texts `true` and `false` are literals of Rust's grammar. Each has its `bool` as its value, and no suffix.
-pub fn words_strict()
+pub fn true_and_false_are_strict_literals()
     ensures { TheTruthWordsAreStrict }
 {}
 
 /// A literal of Rust's grammar is a literal of `syn`'s grammar too, with the same kind, value and suffix. An integer
 /// must be within 128 bits.
-pub fn strict_reads()
+pub fn a_strict_literal_is_a_syn_literal()
     ensures { AStrictTextReads }
 {}
 
 /// By `syn`'s grammar, a minus directly before a number of Rust's grammar is a number too. The digits of its value
 /// begin with `-`, and its suffix is that of the number. An integer must be within 128 bits.
-pub fn strict_minus()
+pub fn a_negated_strict_number_is_a_syn_literal()
     ensures { AStrictNumberReadsAfterAMinus }
 {}
 
 /// The written form of a value is a literal of Rust's grammar. It has that value and no suffix.
-pub fn written_strict()
+pub fn a_written_value_is_a_strict_literal()
     ensures { AWrittenValueIsStrict }
 {}
 
 /// By `syn`'s grammar, the written form of a value is a literal with that value and no suffix.
-pub fn written_reads()
+pub fn a_written_value_is_a_syn_literal()
     ensures { AWrittenValueReads }
 {}
 
@@ -57,7 +57,7 @@ pub fn both_grammars_agree()
 
 /// Two parse results of a text are equal as records of a kind, a value and a suffix, whether each is by `syn`'s or by
 /// Rust's grammar.
-pub fn readings_are_one()
+pub fn readings_of_a_text_are_equal()
     ensures readings { ReadingsOfATextAreOne }
     ensures strict { StrictReadingsOfATextAreOne }
     ensures both { AReadingIsTheStrictOne }

@@ -23,7 +23,7 @@ pub fn split_line(text: &str) -> (&str, &str)
 
 /// Returns the text after its first line feed, or `None` if it has no line feed.
 #[inline(always)]
-pub fn after_line_feed(text: &str) -> Option<&str>
+pub fn after_first_line_feed(text: &str) -> Option<&str>
     ensures some { IfSome result (λ rest. IsNextMark line_ends (chars text.now) 10 (chars rest.now)) }
     ensures none { IfNone result (IsTrue (list_all (is_other line_ends) (chars text.now))) }
     ensures following { IfSome result (λ rest. IsTail text.now rest.now) }

@@ -29,7 +29,7 @@ pub struct Marks {
 impl Marks {
     /// Creates the delimiters for a search that looks for `first` and `second`.
     #[inline(always)]
-    pub fn two(first: u8, second: u8) -> Marks
+    pub fn from_two_bytes(first: u8, second: u8) -> Marks
         ensures { result
             ≡ record { first = first; second = second; third = second; fourth = second } }
     {
@@ -162,7 +162,7 @@ fn stop<const HIGH: bool>(marks: Marks, bytes: &[u8]) -> usize
 /// Returns the number of bytes before the first delimiter, or the number of all bytes if there is no delimiter. The
 /// function is inlined, so `marks` is a constant in each caller.
 #[inline(always)]
-pub fn len_before(marks: Marks, bytes: &[u8]) -> usize
+pub fn len_before_mark(marks: Marks, bytes: &[u8]) -> usize
     ensures { result ≡ prefix_len (is_other marks) bytes.now }
 {
     stop::<false>(marks, bytes)
@@ -170,7 +170,7 @@ pub fn len_before(marks: Marks, bytes: &[u8]) -> usize
 
 /// Returns the number of bytes before the first delimiter, or the number of all bytes if there is no delimiter. It is
 /// for a delimiter that is probably near the start, as in the tokens of a source: sixteen bytes are tested at once,
-/// where [`len_before`] tests sixty-four.
+/// where [`len_before_mark`] tests sixty-four.
 #[inline(always)]
 pub fn len_before_near_mark(marks: Marks, bytes: &[u8]) -> usize
     ensures { result ≡ prefix_len (is_other marks) bytes.now }
@@ -181,7 +181,7 @@ pub fn len_before_near_mark(marks: Marks, bytes: &[u8]) -> usize
 /// Returns the number of bytes before the first delimiter or non-ASCII byte, or the number of all bytes if there is
 /// neither. The function is inlined, so `marks` is a constant in each caller.
 #[inline(always)]
-pub fn ascii_len_before(marks: Marks, bytes: &[u8]) -> usize
+pub fn ascii_len_before_mark(marks: Marks, bytes: &[u8]) -> usize
     ensures { result ≡ prefix_len (is_ascii_other marks) bytes.now }
 {
     stop::<true>(marks, bytes)
@@ -189,7 +189,7 @@ pub fn ascii_len_before(marks: Marks, bytes: &[u8]) -> usize
 
 /// Splits the text before its first delimiter. If it has no delimiter, the first part is the whole text.
 #[inline(always)]
-pub fn split_before(marks: Marks, text: &str) -> (&str, &str)
+pub fn split_before_mark(marks: Marks, text: &str) -> (&str, &str)
     requires { AreAscii marks }
     ensures cut { chars text.now ≡ chars result.0.now ++ chars result.1.now }
     ensures others { IsTrue (list_all (is_other marks) (chars result.0.now)) }
@@ -209,6 +209,6 @@ pub fn split_after_mark(marks: Marks, text: &str) -> Option<(u8, &str)>
     ensures following { IfSome result (λ p. IsTail text.now p.1.now) }
     ensures shorter { IfSome result (λ p. length p.1.now < length text.now) }
 {
-    let (_, from) = split_before(marks, text);
+    let (_, from) = split_before_mark(marks, text);
     split_ascii(from)
 }

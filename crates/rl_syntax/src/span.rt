@@ -38,7 +38,7 @@ fn entry_at(table: &[Span], at: usize) -> Span
 }
 
 impl Span {
-    ghost use Rattle.rl_syntax.specs.Spans.{looked_up};
+    ghost use Rattle.rl_syntax.specs.Spans.{mapped_by};
 
     /// Returns the span of a token that is in no text: `file`, `lo` and `hi` are 0. Literals that are made from values
     /// have this span, and so do errors without a position.
@@ -86,8 +86,8 @@ impl Span {
     /// The result begins where the table's entry for the first byte begins, and ends where the entry for the last byte
     /// ends. The result for an empty span is empty, and begins where the entry for the byte at `lo` begins. For an
     /// offset outside the table, the table's last entry is used.
-    pub fn looked_up(self, table: &[Span]) -> Span
-        ensures { result ≡ looked_up table.now self }
+    pub fn mapped_by(self, table: &[Span]) -> Span
+        ensures { result ≡ mapped_by table.now self }
     {
         let first = entry_at(table, self.lo);
         let hi = if self.lo < self.hi {

@@ -3,7 +3,7 @@
 
 ghost use Rattle.std.specs.Prelude.{◌≡◌, ◌⊎◌, ◌≤◌, ◌<◌, ◌+◌, ◌*◌, ◌++◌, [], ◌∷◌, IsTrue, length, take, encode_utf8_all};
 ghost use Rattle.std.specs.Str.{chars, IsUtf8};
-ghost use Rattle.rl_syntax.specs.Quoted.{holds_characters, unit_text};
+ghost use Rattle.rl_syntax.specs.Quoted.{decodes_to_chars, unit_text};
 ghost use Rattle.rl_syntax.specs.Written.{written_unit, IsWrittenForm};
 ghost use Rattle.rl_syntax.specs.Agreeing.{AreBytesOf};
 
@@ -15,7 +15,7 @@ use crate::written_unit::escape;
 /// Writes the character or byte `c` as in a literal of the kind, after the first `at` bytes of the slice `out`. Returns
 /// the offset after the written bytes.
 fn put_written(out: &mut [u8], at: usize, kind: Kind, c: char) -> usize
-    requires kind { IsTrue (holds_characters kind) ⊎ (c < 256) }
+    requires kind { IsTrue (decodes_to_chars kind) ⊎ (c < 256) }
     requires room { at + 4 ≤ length out.old }
     ensures end { result ≤ at + 4 }
     ensures bytes { take result out.new

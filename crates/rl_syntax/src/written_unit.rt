@@ -2,7 +2,7 @@
 
 ghost use Rattle.std.specs.Prelude.{◌≡◌, ◌⊎◌, ◌<◌, ◌/◌, ◌%◌, ◌∷◌, [], ◌≤◌, length, IsTrue, if◌then◌else◌, IfSome, IfNone, encode_utf8_all};
 ghost use Rattle.rl_syntax.specs.Texts.{code};
-ghost use Rattle.rl_syntax.specs.Quoted.{Hex, Plain, holds_characters, unit_text};
+ghost use Rattle.rl_syntax.specs.Quoted.{Hex, Plain, decodes_to_chars, unit_text};
 ghost use Rattle.rl_syntax.specs.Written.{own_quote, upper_digit, is_written_as_number, written_unit};
 
 use crate::kind::Kind;
@@ -44,7 +44,7 @@ fn named_escape(kind: Kind, c: char) -> Option<&'static str>
 fn is_written_as_number(kind: Kind, c: char) -> bool
     ensures { result ≡ is_written_as_number kind c }
 {
-    c < ' ' || c == '\u{7f}' || ('\u{7f}' < c && !kind.holds_characters())
+    c < ' ' || c == '\u{7f}' || ('\u{7f}' < c && !kind.decodes_to_chars())
 }
 
 /// Returns the hexadecimal digit of the value `digit`, in upper case.
@@ -78,7 +78,7 @@ fn number(c: u32, room: &mut [u8; 4]) -> &str
 /// escape by number, as `\x7F`, is written to `room`.
 #[inline(always)]
 pub fn escape(kind: Kind, c: char, room: &mut [u8; 4]) -> Option<&str>
-    requires { IsTrue (holds_characters kind) ⊎ (c < 256) }
+    requires { IsTrue (decodes_to_chars kind) ⊎ (c < 256) }
     ensures some { IfSome result
         (λ text. text.now ≡ encode_utf8_all (unit_text (written_unit kind c))) }
     ensures short { IfSome result (λ text. length text.now ≤ 4) }

@@ -1,6 +1,6 @@
 //! `rl_attributes`: the settings of a text, and its errors.
 
-use crate::errors::shown;
+use crate::errors::word_and_range;
 use rl_attributes::read;
 use std::alloc::Global;
 
@@ -11,7 +11,7 @@ type Outcome = Result<usize, (&'static str, usize, usize)>;
 fn count(alloc: Global, text: &str) -> Outcome {
     match read(alloc, text, 0) {
         Ok(attrs) => Ok(attrs.entries().len()),
-        Err(error) => Err(shown(&error)),
+        Err(error) => Err(word_and_range(&error)),
     }
 }
 

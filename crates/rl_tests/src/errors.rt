@@ -3,7 +3,7 @@
 use rl_tokens::{Error, ErrorKind};
 
 /// Returns what was expected, or the lexer's message, and the range of the error.
-pub fn shown(error: &Error) -> (&'static str, usize, usize) {
+pub fn word_and_range(error: &Error) -> (&'static str, usize, usize) {
     let word = match error.kind {
         ErrorKind::Expected(word) | ErrorKind::EndOfInput(word) => word,
         ErrorKind::Lex(kind) => kind.message(),

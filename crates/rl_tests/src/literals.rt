@@ -1,6 +1,6 @@
 //! `rust_literals`: numbers, and the literals of a list.
 
-use crate::errors::shown;
+use crate::errors::word_and_range;
 use rl_tokens::{Error, Kind, Literal, Span};
 use rust_literals::{Lit, read_all};
 use std::alloc::Global;
@@ -46,7 +46,7 @@ type Outcome = Result<usize, (&'static str, usize, usize)>;
 fn count(alloc: Global, text: &str) -> Outcome {
     match read_all(alloc, text, 0) {
         Ok(literals) => Ok(literals.len()),
-        Err(error) => Err(shown(&error)),
+        Err(error) => Err(word_and_range(&error)),
     }
 }
 

@@ -1,6 +1,6 @@
 //! `rl_quoted`: the values of strings and of byte strings.
 
-use crate::errors::shown;
+use crate::errors::word_and_range;
 use rl_quoted::{LitByteStr, LitStr};
 use rl_tokens::{Error, parse_all};
 use std::alloc::Global;
@@ -60,7 +60,11 @@ fn strings_have_values(rt: HostRuntime) -> Result<(), Fail> {
         let Err(error) = value(alloc, text) else {
             panic!(rt; "accepted: {text}");
         };
-        assert_eq!(rt; shown(&error), ("string literal", 0, text.len()), "{text}");
+        assert_eq!(rt;
+            word_and_range(&error),
+            ("string literal", 0, text.len()),
+            "{text}"
+        );
     }
     Ok(())
 }

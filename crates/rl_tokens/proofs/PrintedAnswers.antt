@@ -11,7 +11,7 @@ use Rattle.rl_lexer.specs.Cuts.{HasFirstError, Rejects}
 use Rattle.rl_syntax.specs.Printed.{Entry, Printed}
 use Rattle.rl_tokens.specs.PrintedTrees.{Reprinted, printed_trees}
 use Rattle.rl_tokens.proofs.LexLaws.{one_list, never_both}
-use Rattle.rl_tokens.proofs.PrintedLaws.{printed_lexes, reprinted_lexes}
+use Rattle.rl_tokens.proofs.PrintedLaws.{printed_literals_lex_to_their_trees, reprinted_literals_lex_to_themselves}
 
 -- If a text has no first error, the lexer rejects it only for an allocation failure.
 rejects_memory : (t : List ℕ) (kind : LexKind) (at : ℕ) → (HasFirstError t kind at → ⊥) → Rejects t kind at → kind
@@ -49,7 +49,7 @@ pub printed_answer : {A : Type 0} (text : List ℕ) (file : ℕ) (r : Result (To
     → (entries : List Entry) (last : List ℕ) → Printed (chars text) entries last
     → Answers r (printed_trees file 0 entries)
 printed_answer text file r found rejected entries last printed = answers_trees (chars text) file r
-    (printed_trees file 0 entries) (printed_lexes (chars text) entries last file printed) found rejected
+    (printed_trees file 0 entries) (printed_literals_lex_to_their_trees (chars text) entries last file printed) found rejected
 
 -- The lexer's result for a printed list of literals that were lexed from any text is the token trees of its items, or
 -- an allocation failure.
@@ -58,4 +58,4 @@ pub reprinted_answer : {A : Type 0} (text : List ℕ) (file : ℕ) (r : Result (
     → (entries : List Entry) (last : List ℕ) → Reprinted (chars text) entries last
     → Answers r (printed_trees file 0 entries)
 reprinted_answer text file r found rejected entries last reprinted = answers_trees (chars text) file r
-    (printed_trees file 0 entries) (reprinted_lexes (chars text) entries last file reprinted) found rejected
+    (printed_trees file 0 entries) (reprinted_literals_lex_to_themselves (chars text) entries last file reprinted) found rejected

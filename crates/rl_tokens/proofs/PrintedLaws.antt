@@ -10,7 +10,7 @@ use Rattle.rl_syntax.specs.Reading.{Contents}
 use Rattle.rl_syntax.specs.Strict.{Strict}
 use Rattle.rl_syntax.specs.Quoted.{is_number}
 use Rattle.rl_syntax.specs.Printed.{Item, WordItem, LiteralItem, MinusItem, item_text, Entry, printed_text, IsStrictItem, IsApart}
-use Rattle.rl_tokens.specs.PrintedTrees.{IsLexedLiteral, IsLexedItem, PrintedLexes, ReprintedLexes}
+use Rattle.rl_tokens.specs.PrintedTrees.{IsLexedLiteral, IsLexedItem, PrintedLiteralsLexToTheirTrees, ReprintedLiteralsLexToThemselves}
 use Rattle.rl_tokens.proofs.LexemeGaps.{stays_before_gap}
 use Rattle.rl_tokens.proofs.PrintedCuts.{LexedBefore, LexedItem, EndsEach, entries_lex}
 use Rattle.rl_tokens.proofs.LiteralEnds.{EndsLiteral, gap_ends, word_ends}
@@ -107,8 +107,8 @@ item_follows e (gap, is) (inr begins) rest = go e.gap gap
         (filled_gap (c ∷ g) (item_text e.item ++ rest) is (λ h. cc))
 
 -- Proof that a printed list of literals by Rust's grammar is lexed into the token trees of its items.
-pub printed_lexes : PrintedLexes
-printed_lexes t entries last file printed =
+pub printed_literals_lex_to_their_trees : PrintedLiteralsLexToTheirTrees
+printed_literals_lex_to_their_trees t entries last file printed =
     entries_lex EndsLiteral file t entries last printed.text
     (all_from (λ (e : Entry). IsTrivia e.gap × IsStrictItem e.item)
     (λ (e : Entry). IsTrivia e.gap × LexedItem EndsLiteral e.item) strict_item entries printed.items)
@@ -138,8 +138,8 @@ item_stays (LiteralItem text) is = cut_stays text is
 item_stays (MinusItem text) is = cut_stays text is
 
 -- Proof that a printed list of literals that were lexed from any text is lexed into the token trees of its items.
-pub reprinted_lexes : ReprintedLexes
-reprinted_lexes t entries last file printed =
+pub reprinted_literals_lex_to_themselves : ReprintedLiteralsLexToThemselves
+reprinted_literals_lex_to_themselves t entries last file printed =
     entries_lex BeginsGap file t entries last printed.text
     (all_from (λ (e : Entry). IsTrivia e.gap × IsLexedItem e.item)
     (λ (e : Entry). IsTrivia e.gap × LexedItem BeginsGap e.item) (λ e is. (is.0, item_stays e.item is.1)) entries

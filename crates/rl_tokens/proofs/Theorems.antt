@@ -1,9 +1,9 @@
 -- The theorems of src/laws.rt, as lemmas that callers may cite.
-use Rattle.rl_tokens.specs.PrintedTrees.{PrintedLexes, ReprintedLexes}
-use Rattle.rl_tokens.proofs.PrintedLaws.{printed_lexes as printed_lexes_law, reprinted_lexes as reprinted_lexes_law}
+use Rattle.rl_tokens.specs.PrintedTrees.{PrintedLiteralsLexToTheirTrees, ReprintedLiteralsLexToThemselves}
+use Rattle.rl_tokens.proofs.PrintedLaws.{printed_literals_lex_to_their_trees as printed_lexes_law, reprinted_literals_lex_to_themselves as reprinted_lexes_law}
 
-pub printed_lexes : PrintedLexes
-printed_lexes = printed_lexes_law
+pub printed_literals_lex_to_their_trees : PrintedLiteralsLexToTheirTrees
+printed_literals_lex_to_their_trees = printed_lexes_law
 
-pub reprinted_lexes : ReprintedLexes
-reprinted_lexes = reprinted_lexes_law
+pub reprinted_literals_lex_to_themselves : ReprintedLiteralsLexToThemselves
+reprinted_literals_lex_to_themselves = reprinted_lexes_law

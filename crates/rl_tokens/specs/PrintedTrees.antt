@@ -29,8 +29,8 @@ printed_trees file at (e ∷ es) =
 
 -- A theorem: a printed list of literals that Rust's grammar accepts is lexed into the token trees of the list's items
 -- and no others.
-abbrev pub PrintedLexes : Type 0
-PrintedLexes =
+abbrev pub PrintedLiteralsLexToTheirTrees : Type 0
+PrintedLiteralsLexToTheirTrees =
     (t : List ℕ) (entries : List Entry) (last : List ℕ) (file : ℕ) → Printed t entries last
     → Lexes t file (printed_trees file 0 entries)
 
@@ -56,7 +56,7 @@ pub record Reprinted (t : List ℕ) (entries : List Entry) (last : List ℕ) : T
 
 -- A theorem: a printed list of literals that were lexed from any text is lexed into the token trees of the list's items
 -- and no others.
-abbrev pub ReprintedLexes : Type 0
-ReprintedLexes =
+abbrev pub ReprintedLiteralsLexToThemselves : Type 0
+ReprintedLiteralsLexToThemselves =
     (t : List ℕ) (entries : List Entry) (last : List ℕ) (file : ℕ) → Reprinted t entries last
     → Lexes t file (printed_trees file 0 entries)

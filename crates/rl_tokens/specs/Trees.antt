@@ -1,5 +1,5 @@
 -- The parts of token trees that contracts cite, token trees as plain data, and the flat form of token trees.
-pub use Rattle.rl_syntax.specs.Spans.{entry_at, looked_up}
+pub use Rattle.rl_syntax.specs.Spans.{entry_at, mapped_by}
 use Rattle.std.specs.Prelude.{◌+◌, ◌-◌, List, [], ◌∷◌, ◌++◌, map}
 use Rattle.rl_syntax.specs.declared.span.Span.{Span}
 use Rattle.rl_tokens.specs.declared.token.Delimiter.{Delimiter}
@@ -102,13 +102,13 @@ abbrev mutual
 abbrev mutual
   pub relocated : List Span → Tree → Tree
   relocated table (GroupTree d inside span) =
-      GroupTree d (all_relocated table inside) (looked_up table span)
+      GroupTree d (all_relocated table inside) (mapped_by table span)
   relocated table (IdentTree i) =
-      IdentTree (record i { span = looked_up table i.span })
+      IdentTree (record i { span = mapped_by table i.span })
   relocated table (PunctTree p) =
-      PunctTree (record p { span = looked_up table p.span })
+      PunctTree (record p { span = mapped_by table p.span })
   relocated table (LiteralTree l) =
-      LiteralTree (record l { span = looked_up table l.span })
+      LiteralTree (record l { span = mapped_by table l.span })
 
   pub all_relocated : List Span → Trees → Trees
   all_relocated table NoTrees = NoTrees

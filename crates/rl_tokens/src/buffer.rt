@@ -23,7 +23,7 @@ use std::alloc::{Allocator, Global};
 /// use rust_literals::LitInt;
 /// use std::alloc::Global;
 ///
-/// pub fn first_in_group(alloc: Global, text: &str) -> Option<u64> {
+/// pub fn first_integer_in_group(alloc: Global, text: &str) -> Option<u64> {
 ///     let stream = lex(alloc, text, 0).ok()?;
 ///     let mut input = ParseBuffer::new(stream.trees(), Span::call_site());
 ///     let mut inside = input.group()?.inside();
@@ -33,7 +33,7 @@ use std::alloc::{Allocator, Global};
 ///     let number = inside.parse::<LitInt>(alloc).ok()?;
 ///     number.base10_parse(alloc).ok()
 /// }
-/// // first_in_group(alloc, "(0x10, 2)") == Some(16)
+/// // first_integer_in_group(alloc, "(0x10, 2)") == Some(16)
 /// ```
 #[derive(Drop)]
 pub struct ParseBuffer<'a, A: Allocator = Global> {

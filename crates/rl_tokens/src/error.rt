@@ -63,7 +63,7 @@ impl<A: Allocator> Error<A> {
     }
 
     /// Creates the error for an allocation failure, with the span `span`.
-    pub fn memory(span: Span) -> Error<A>
+    pub fn out_of_memory(span: Span) -> Error<A>
         ensures { result ≡ memory_at span }
     {
         Error {
@@ -78,7 +78,7 @@ impl<A: Allocator> Error<A> {
         ensures { result ≡ lex_rejection kind span }
     {
         match kind {
-            LexKind::Memory => Error::memory(span),
+            LexKind::Memory => Error::out_of_memory(span),
             kind => Error {
                 span,
                 kind: ErrorKind::Lex(kind),
@@ -96,7 +96,7 @@ impl<A: Allocator> From<AllocError> for Error<A> {
     ghost from_gives = { λ rejected error. error ≡ memory_at nowhere };
 
     fn from(_failure: AllocError) -> Error<A> {
-        Error::memory(Span::call_site())
+        Error::out_of_memory(Span::call_site())
     }
 }
 
@@ -110,7 +110,7 @@ impl<T: Drop, A: Allocator> From<AllocFailed<T>> for Error<A> {
     ghost from_gives = { λ failed error. error ≡ memory_at nowhere };
 
     fn from(_failed: AllocFailed<T>) -> Error<A> {
-        Error::memory(Span::call_site())
+        Error::out_of_memory(Span::call_site())
     }
 }
 

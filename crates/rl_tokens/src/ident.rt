@@ -46,7 +46,7 @@ impl<A: Allocator> Ident<A> {
     {
         match String::from_str(alloc, text) {
             Ok(text) => Ok(Ident { text, span }),
-            Err(_) => Err(Error::memory(span)),
+            Err(_) => Err(Error::out_of_memory(span)),
         }
     }
 

@@ -13,15 +13,15 @@ use std::alloc::{Allocator, Global};
 /// use rust_literals::LitFloat;
 /// use std::alloc::Global;
 ///
-/// pub fn digits_or_text(alloc: Global, text: &str) -> Option<String> {
+/// pub fn float_digits_or_text(alloc: Global, text: &str) -> Option<String> {
 ///     let token = Literal::from_text(alloc, text, Span::call_site()).ok()?;
 ///     match LitFloat::from_token(alloc, token) {
 ///         Ok(literal) => String::from_str(alloc, literal.base10_digits()).ok(),
 ///         Err(kept) => String::from_str(alloc, kept.value.text()).ok(),
 ///     }
 /// }
-/// // digits_or_text(alloc, "1_0.5e3_f64") == Some("10.5e3")
-/// // digits_or_text(alloc, "abc") == Some("abc")
+/// // float_digits_or_text(alloc, "1_0.5e3_f64") == Some("10.5e3")
+/// // float_digits_or_text(alloc, "abc") == Some("abc")
 /// ```
 #[derive(Drop)]
 #[derive_where(Debug; T)]

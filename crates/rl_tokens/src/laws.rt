@@ -1,24 +1,26 @@
 //! Theorems about lexing. Each function here does nothing when it is called: its contract is a theorem about all texts.
 
-ghost use Rattle.rl_tokens.specs.PrintedTrees.{PrintedLexes, ReprintedLexes};
+ghost use Rattle.rl_tokens.specs.PrintedTrees.{PrintedLiteralsLexToTheirTrees, ReprintedLiteralsLexToThemselves};
 
 pub use rl_lexer::laws::{
-    literals_dont_begin_with_a_minus, one_lexing, text_tokens_are_source_tokens,
+    a_source_has_one_lexing, literals_dont_begin_with_a_minus, text_tokens_are_source_tokens,
 };
 pub use rl_syntax::laws::{
-    a_minus_tells_the_sign, both_grammars_agree, one_reading, one_strict, readings_are_one,
-    strict_holds_no_return, strict_minus, strict_reads, words_strict, written_reads,
-    written_strict,
+    a_minus_tells_the_sign, a_negated_strict_number_is_a_syn_literal,
+    a_strict_literal_contains_no_cr, a_strict_literal_is_a_syn_literal, a_text_has_one_reading,
+    a_text_has_one_strict_reading, a_written_value_is_a_strict_literal,
+    a_written_value_is_a_syn_literal, both_grammars_agree, readings_of_a_text_are_equal,
+    true_and_false_are_strict_literals,
 };
 
 /// Proves that a printed list of literals is lexed into exactly the token trees of the list's items. The literals are
 /// those that Rust's grammar accepts, and separators are between them.
-pub fn printed_lexes()
-    ensures { PrintedLexes }
+pub fn printed_literals_lex_to_their_trees()
+    ensures { PrintedLiteralsLexToTheirTrees }
 {}
 
 /// Proves that the texts of lexed literals, with separators between them, are lexed into the same literals. The
 /// literals were lexed from any text. The separators aren't empty.
-pub fn reprinted_lexes()
-    ensures { ReprintedLexes }
+pub fn reprinted_literals_lex_to_themselves()
+    ensures { ReprintedLiteralsLexToThemselves }
 {}

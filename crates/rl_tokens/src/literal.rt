@@ -21,7 +21,7 @@ use std::marker::Model;
 /// use rust_literals::Lit;
 /// use std::alloc::Global;
 ///
-/// pub fn code_of(alloc: Global, text: &str) -> Option<u32> {
+/// pub fn value_as_number(alloc: Global, text: &str) -> Option<u32> {
 ///     let token = Literal::from_text(alloc, text, Span::call_site()).ok()?;
 ///     match Lit::new(alloc, token).ok()? {
 ///         Lit::Byte(byte) => Some(byte.value() as u32),
@@ -30,8 +30,8 @@ use std::marker::Model;
 ///         _ => None,
 ///     }
 /// }
-/// // code_of(alloc, "b'a'") == Some(97)
-/// // code_of(alloc, "true") == Some(1)
+/// // value_as_number(alloc, "b'a'") == Some(97)
+/// // value_as_number(alloc, "true") == Some(1)
 /// ```
 #[derive(Drop)]
 pub struct Literal<A: Allocator = Global> {
@@ -60,7 +60,7 @@ impl<A: Allocator> Literal<A> {
     {
         match String::from_str(alloc, text) {
             Ok(text) => Ok(Literal { text, span }),
-            Err(_) => Err(Error::memory(span)),
+            Err(_) => Err(Error::out_of_memory(span)),
         }
     }
 
@@ -74,7 +74,7 @@ impl<A: Allocator> Literal<A> {
         ensures memory { IfErr result (λ e. e ≡ memory_at span) }
     {
         let Ok(text) = text_after_minus(alloc, text) else {
-            return Err(Error::memory(span));
+            return Err(Error::out_of_memory(span));
         };
         Ok(Literal { text, span })
     }
@@ -118,7 +118,7 @@ impl<A: Allocator> Literal<A> {
     /// # Errors
     ///
     /// Returns `Memory` at `span` if an allocation fails.
-    pub fn after_minus<B: Allocator>(&self, alloc: B, span: Span) -> Result<Literal<B>, Error<B>>
+    pub fn with_minus<B: Allocator>(&self, alloc: B, span: Span) -> Result<Literal<B>, Error<B>>
         ensures ok { IfOk result (λ l. l ≡ record { text = code "-" ∷ self.now.text; span = span }) }
         ensures memory { IfErr result (λ e. e ≡ memory_at span) }
     {

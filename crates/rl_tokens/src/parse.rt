@@ -42,11 +42,11 @@ use std::marker::PhantomData;
 ///     }
 /// }
 ///
-/// pub fn set_value(alloc: Global, text: &str) -> Result<u16, Error> {
+/// pub fn value_after_equals(alloc: Global, text: &str) -> Result<u16, Error> {
 ///     let value = parse_all::<Value, Global>(alloc, text, 0)?;
 ///     value.0.base10_parse(alloc)
 /// }
-/// // set_value(alloc, "= 80") == Ok(80)
+/// // value_after_equals(alloc, "= 80") == Ok(80)
 /// ```
 pub trait Parse<A: Allocator>: Sized {
     ghost runs: { List Tree → Span → Result Self (Error A) → List Tree → Type 0 };
@@ -95,11 +95,11 @@ pub trait Parse<A: Allocator>: Sized {
 ///     }
 /// }
 ///
-/// pub fn mark_in_string(alloc: Global, text: &str) -> Option<char> {
+/// pub fn punct_in_string(alloc: Global, text: &str) -> Option<char> {
 ///     let string = parse_all::<LitStr, Global>(alloc, text, 0).ok()?;
 ///     string.parse_with(alloc, Mark).ok()
 /// }
-/// // mark_in_string(alloc, "\"+\"") == Some('+')
+/// // punct_in_string(alloc, "\"+\"") == Some('+')
 /// ```
 pub trait Parser<A: Allocator>: Sized {
     /// The type of the value that the parser returns.
@@ -176,13 +176,13 @@ pub trait Token {
 /// use rust_literals::LitInt;
 /// use std::alloc::Global;
 ///
-/// pub fn trees_of(alloc: Global, text: &str) -> Option<usize> {
+/// pub fn integer_tree_count(alloc: Global, text: &str) -> Option<usize> {
 ///     let number = LitInt::new(alloc, text, Span::call_site()).ok()?;
 ///     let mut stream = TokenStream::new(alloc);
 ///     number.to_tokens(alloc, &mut stream).ok()?;
 ///     Some(stream.trees().len())
 /// }
-/// // trees_of(alloc, "12") == Some(1)
+/// // integer_tree_count(alloc, "12") == Some(1)
 /// ```
 pub trait ToTokens {
     ghost appends: { Self → List Tree };

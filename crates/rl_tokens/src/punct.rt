@@ -15,13 +15,13 @@ use std::marker::Model;
 /// use rl_tokens::{ParseBuffer, Span, lex};
 /// use std::alloc::Global;
 ///
-/// pub fn mark_after_name(alloc: Global, text: &str) -> Option<char> {
+/// pub fn punct_after_ident(alloc: Global, text: &str) -> Option<char> {
 ///     let stream = lex(alloc, text, 0).ok()?;
 ///     let mut input = ParseBuffer::new(stream.trees(), Span::call_site());
 ///     input.ident()?;
 ///     Some(input.punct()?.as_char())
 /// }
-/// // mark_after_name(alloc, "port = 80") == Some('=')
+/// // punct_after_ident(alloc, "port = 80") == Some('=')
 /// ```
 #[derive(Drop)]
 pub struct Punct {

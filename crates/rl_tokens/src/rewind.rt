@@ -51,7 +51,7 @@ fn ran<B, T, E, F: FnOnce(&mut B) -> Result<T, E>>(input: &mut B, parser: F) -> 
 /// use rust_literals::LitInt;
 /// use std::alloc::Global;
 ///
-/// pub fn trees_left(alloc: Global, text: &str) -> Option<usize> {
+/// pub fn remaining_tree_count(alloc: Global, text: &str) -> Option<usize> {
 ///     let stream = lex(alloc, text, 0).ok()?;
 ///     let mut input = ParseBuffer::new(stream.trees(), Span::call_site());
 ///     let _taken = attempt(&mut input, |input| {
@@ -60,8 +60,8 @@ fn ran<B, T, E, F: FnOnce(&mut B) -> Result<T, E>>(input: &mut B, parser: F) -> 
 ///     });
 ///     Some(input.rest().len())
 /// }
-/// // trees_left(alloc, "= 80") == Some(0)
-/// // trees_left(alloc, "= a") == Some(2)
+/// // remaining_tree_count(alloc, "= 80") == Some(0)
+/// // remaining_tree_count(alloc, "= a") == Some(2)
 /// ```
 pub fn attempt<B: Rewind + Drop, T, E, F: FnOnce(&mut B) -> Result<T, E>>(
     input: &mut B,

@@ -73,11 +73,11 @@ fn parse_trees<T: Parse<A> + Drop, A: Allocator>(
 /// use rust_literals::LitInt;
 /// use std::alloc::Global;
 ///
-/// pub fn port(alloc: Global, text: &str) -> Result<u16, Error> {
+/// pub fn parse_port(alloc: Global, text: &str) -> Result<u16, Error> {
 ///     parse_all::<LitInt, Global>(alloc, text, 0)?.base10_parse(alloc)
 /// }
-/// // port(alloc, "8_080") == Ok(8080)
-/// // port(alloc, "1 'a'") == Err(Error { span: Span { file: 0, lo: 2, hi: 5 }, kind: Unexpected })
+/// // parse_port(alloc, "8_080") == Ok(8080)
+/// // parse_port(alloc, "1 'a'") == Err(Error { span: Span { file: 0, lo: 2, hi: 5 }, kind: Unexpected })
 /// ```
 pub fn parse_all<T: Parse<A> + Drop, A: Allocator + Copy>(
     alloc: A,

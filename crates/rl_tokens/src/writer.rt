@@ -2,7 +2,7 @@
 
 ghost use Rattle.std.specs.Prelude.{◌≡◌, ◌⊎◌, ◌<◌, ◌++◌, ◌∷◌, [], length, take, is_ok, IsTrue, if◌then◌else◌, OnOk, OnErr, IfOk, IfErr, MatchResult, string_bytes, encode_utf8_all};
 ghost use Rattle.std.specs.Str.{chars};
-ghost use Rattle.rl_syntax.specs.Quoted.{holds_characters, unit_text};
+ghost use Rattle.rl_syntax.specs.Quoted.{decodes_to_chars, unit_text};
 ghost use Rattle.rl_syntax.specs.Written.{closer, written_text, written_unit, IsWrittenForm};
 ghost use Rattle.rl_syntax.specs.Agreeing.{AreBytesOf, IsQuotedValue};
 ghost use Rattle.rl_tokens.specs.Errors.{memory_at};
@@ -18,7 +18,7 @@ use std::alloc::{AllocError, Allocator};
 /// Appends the character or byte `c` to `out` as a literal of the kind `kind` represents it: as an escape, or
 /// unchanged. If an allocation fails, nothing is appended.
 fn push_written<A: Allocator>(out: &mut String<A>, kind: Kind, c: char) -> Result<(), AllocError>
-    requires { IsTrue (holds_characters kind) ⊎ (c < 256) }
+    requires { IsTrue (decodes_to_chars kind) ⊎ (c < 256) }
     ensures { string_bytes out.new ≡ (if is_ok result
         then string_bytes out.old ++ encode_utf8_all (unit_text (written_unit kind c))
         else string_bytes out.old) }
@@ -36,7 +36,7 @@ fn push_characters<A: Allocator>(
     kind: Kind,
     value: &str,
 ) -> Result<(), AllocError>
-    requires { IsTrue (holds_characters kind) }
+    requires { IsTrue (decodes_to_chars kind) }
     ensures text { OnOk result (chars (string_bytes out.new)
         ≡ chars (string_bytes out.old) ++ written_text kind (chars value.now)) }
     ensures front { OnErr result (take (length (string_bytes out.old)) (string_bytes out.new)
@@ -79,7 +79,7 @@ fn text_of_characters<A: Allocator>(
     kind: Kind,
     value: &str,
 ) -> Result<String<A>, AllocError>
-    requires kind { IsTrue (holds_characters kind) }
+    requires kind { IsTrue (decodes_to_chars kind) }
     requires value { IsQuotedValue kind (chars value.now) }
     ensures { IfOk result (λ s. IsWrittenForm kind (chars value.now) (chars (string_bytes s))) }
 {
@@ -110,7 +110,7 @@ fn token<A: Allocator>(text: Result<String<A>, AllocError>) -> Result<Literal<A>
 {
     match text {
         Ok(text) => Ok(Literal::of_string(text, Span::call_site())),
-        Err(_) => Err(Error::memory(Span::call_site())),
+        Err(_) => Err(Error::out_of_memory(Span::call_site())),
     }
 }
 

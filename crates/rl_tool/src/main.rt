@@ -1,13 +1,13 @@
 //! The program `rl_tool`. It reads literals or attributes, and prints the kind, the value and the suffix of each literal.
 #![tactic(auto)]
 
-use rl_commands::call;
+use rl_commands::run_with_arguments;
 use rl_program::{arguments, finish};
 use std::process::ExitCode;
 
 fn main(rt: HostRuntime) -> ExitCode {
     let args = arguments(&rt).unwrap_or(Vec::new(rt.alloc()));
-    let ending = call(
+    let ending = run_with_arguments(
         rt.alloc(),
         args.as_slice(),
         &mut rt.stdin(),

@@ -2,7 +2,7 @@
 use Rattle.std.specs.Prelude.{ℕ, List}
 use Rattle.rl_style.specs.Laws.{ReadsAlike, StrictAlike}
 
--- The texts `old` and `new` have the same parse result by the lenient grammar of `find`. They also have the same parse
+-- The texts `old` and `new` have the same parse result by the lenient grammar of `parse_literal`. They also have the same parse
 -- result by the grammar of the Rust Reference.
 pub record IsSameToken (old new : List ℕ) : Type 0 where
   pub reads : ReadsAlike old new

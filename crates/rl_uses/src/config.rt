@@ -78,7 +78,7 @@ fn config_of<A: Allocator + Copy>(alloc: A, attrs: &Attrs<A>) -> Result<Config<A
         Err(error) => return Err(error),
         Ok(name) => name,
     };
-    match attrs.truth_or(VERBOSE, false) {
+    match attrs.bool_or(VERBOSE, false) {
         Err(error) => Err(error),
         Ok(verbose) => Ok(Config {
             port,

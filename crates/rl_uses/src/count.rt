@@ -26,7 +26,7 @@ fn tally<A: Allocator + Copy>(alloc: A, literals: Vec<Lit<A>, A>) -> Result<Coun
         let before = counts.get(&literal).copied().unwrap_or(0);
         let span = literal.span();
         let Ok(_) = counts.insert(literal, before + 1) else {
-            return Err(Error::memory(span));
+            return Err(Error::out_of_memory(span));
         };
     }
     Ok(counts)

@@ -23,7 +23,7 @@ fn holds_control(text: &str) -> bool
 }
 
 /// Whether the decoded value of the string literal `string` contains a control character.
-fn has_control<A: Allocator + Copy>(alloc: A, string: &LitStr<A>) -> Result<bool, Error<A>>
+fn contains_control<A: Allocator + Copy>(alloc: A, string: &LitStr<A>) -> Result<bool, Error<A>>
     ensures tells { IfOk result (ReportsControl string.now) }
     ensures memory { IfErr result (λ e. e ≡ memory_at string.now.span) }
 {
@@ -40,7 +40,7 @@ fn is_bad<A: Allocator + Copy>(alloc: A, literal: &Lit<A>) -> Result<bool, Error
     ensures memory { IfErr result (λ e. e ≡ memory_at (lit_span literal.now)) }
 {
     match literal {
-        Lit::Str(string) => has_control(alloc, string),
+        Lit::Str(string) => contains_control(alloc, string),
         _ => Ok(false),
     }
 }
@@ -54,7 +54,7 @@ fn bad_spans<A: Allocator + Copy>(alloc: A, literals: &[Lit<A>]) -> Result<Vec<S
     for literal in literals {
         if is_bad(alloc, literal)? {
             if spans.push(literal.span()).is_err() {
-                return Err(Error::memory(literal.span()));
+                return Err(Error::out_of_memory(literal.span()));
             }
         }
     }
@@ -69,7 +69,7 @@ fn bad_spans<A: Allocator + Copy>(alloc: A, literals: &[Lit<A>]) -> Result<Vec<S
 ///
 /// Returns the error of [`read_all`] for the text. If an allocation fails afterwards, returns `Memory` at the literal
 /// for which memory was needed.
-pub fn control_strings<A: Allocator + Copy>(
+pub fn strings_with_control_characters<A: Allocator + Copy>(
     alloc: A,
     text: &str,
     file: u32,

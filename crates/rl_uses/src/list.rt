@@ -79,7 +79,7 @@ fn parse_items<A: Allocator + Copy>(
         let place = input.span();
         let item = parse_listed(alloc, input)?;
         if items.push(item).is_err() {
-            return Err(Error::memory(place));
+            return Err(Error::out_of_memory(place));
         }
     }
     Ok(items)

@@ -24,7 +24,7 @@ mod upper;
 pub use crate::attribute::{Attribute, read_attribute};
 pub use crate::config::{Config, read_config};
 pub use crate::count::{Counts, count_literals};
-pub use crate::lint::control_strings;
+pub use crate::lint::strings_with_control_characters;
 pub use crate::list::{Item, ItemList};
 pub use crate::mount::{Mount, read_mount};
 pub use crate::path::backslash_in_path;
@@ -33,7 +33,7 @@ pub use crate::reasons::{Reason, bad_literals};
 pub use crate::rewrite::{format, rewritten};
 pub use crate::setting::read_number;
 pub use crate::sum::{SumError, evaluate};
-pub use crate::upper::write_upper;
+pub use crate::upper::write_upper_hex;
 use std::io;
 use std::process::ExitCode;
 

@@ -42,7 +42,7 @@ fn mount_of<A: Allocator + Copy>(alloc: A, attrs: &Attrs<A>) -> Result<Mount<A>,
         Err(error) => return Err(error),
         Ok(path) => path,
     };
-    match attrs.truth_or(READ_ONLY, false) {
+    match attrs.bool_or(READ_ONLY, false) {
         Err(error) => Err(error),
         Ok(read_only) => Ok(Mount { path, read_only }),
     }
@@ -52,7 +52,7 @@ fn mount_of<A: Allocator + Copy>(alloc: A, attrs: &Attrs<A>) -> Result<Mount<A>,
 ///
 /// # Errors
 ///
-/// Returns the errors of [`read`], [`Attrs::check`], [`Attrs::required_string`] and [`Attrs::truth_or`].
+/// Returns the errors of [`read`], [`Attrs::check`], [`Attrs::required_string`] and [`Attrs::bool_or`].
 pub fn read_mount<A: Allocator + Copy>(alloc: A, text: &str) -> Result<Mount<A>, SettingError<A>>
     ensures set { IfOk result (λ m. IsMountText text.now (string_bytes m.path) m.read_only) }
     ensures exactly { (path : List ℕ) (read_only : Bool)

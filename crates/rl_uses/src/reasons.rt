@@ -52,7 +52,7 @@ fn reasons_of<A: Allocator>(alloc: A, literals: &[Lit<A>]) -> Result<Vec<Reason,
     for literal in literals {
         if let Some(reason) = reason_of(literal) {
             if reasons.push(reason).is_err() {
-                return Err(Error::memory(literal.span()));
+                return Err(Error::out_of_memory(literal.span()));
             }
         }
     }

@@ -118,7 +118,7 @@ fn push_text<A: Allocator>(out: &mut String<A>, text: &str, span: Span) -> Resul
     ensures memory { IfErr result (λ e. e ≡ memory_at span) }
 {
     if out.push_str(text).is_err() || out.push('\n').is_err() {
-        return Err(Error::memory(span));
+        return Err(Error::out_of_memory(span));
     }
     Ok(())
 }

@@ -8,7 +8,7 @@ use rl_style::{Case, Style, rewrite_into};
 
 /// Writes the literal token `text` to `out`, with the digits after `0x` in upper case, and returns the new literal's
 /// length in bytes. Returns `None` if `text` isn't a literal token.
-pub fn write_upper(text: &str, out: &mut [u8]) -> Option<usize>
+pub fn write_upper_hex(text: &str, out: &mut [u8]) -> Option<usize>
     requires { 4 * length text.now + 1 ≤ length out.old }
     ensures same { IfSome result (λ n. IsSameToken (chars text.now) (chars (take n out.new))) }
 {

@@ -1,4 +1,4 @@
--- The ASCII literal of a text is a literal of both grammars, with that text as its value.
+-- The ASCII literal of a text is a literal of both grammars. Its value is the text.
 use Rattle.rl_syntax.proofs.Common.{◌≡◌, ℕ, suc, ◌*◌, ◌/◌, ◌%◌, ◌<◌, ◌≤◌, ◌==◌, ◌&&◌, Bool, true, false, not, eqb, List, [], ◌∷◌, ◌++◌, length, refl, sym, ap, subst, ◌∙◌, inl, inr, arith, append_assoc, append-nil, nat_le, list_all, flat_map, scalar, and_parts, and_from, cases_lt, lt-ltb, eqb-true, not-true, agree_below_at, encode_utf8, chars, IsUtf8, length-encode, len_utf8_bounds, if◌then◌else◌}
 use Rattle.std.proofs.lemmas.Bool.{le-ltb, leb-true}
 use Rattle.std.proofs.lemmas.Grind.{flat_map-append}
@@ -8,7 +8,7 @@ use Rattle.std.specs.Char.{IsScalar}
 use Rattle.std.specs.Prelude.{encode_utf8_all}
 use Rattle.rl_syntax.specs.declared.kind.Kind.{Kind}
 use Rattle.rl_syntax.specs.declared.kind.Kind.TheVariants.{Str, Char}
-use Rattle.rl_syntax.specs.Quoted.{holds_characters, opener, unit_text}
+use Rattle.rl_syntax.specs.Quoted.{decodes_to_chars, opener, unit_text}
 use Rattle.rl_syntax.specs.Reading.{quoted_contents}
 use Rattle.rl_syntax.specs.Strict.{StrictUnit, Itself, QuoteEscape, PlainEscape, AsciiEscape, ByteEscape, UnicodeEscape, LineBreak, is_strict_unit, strict_text, strict_contents, strict_content_of, strict_opener, strict_closer, BlanksEnd, HasUnits, StrictCooked, Strict}
 use Rattle.rl_syntax.specs.Written.{closer, is_written_as_number, upper_digit, written_unit}
@@ -17,7 +17,7 @@ use Rattle.rl_writing.specs.AsciiStrings.{ascii_literal, ascii_text, unicode_esc
 use Rattle.rl_writing.proofs.AsciiLemmas.{encoded_low, is_low, low_chars, low_join, low_utf8}
 use Rattle.rl_writing.proofs.UnicodeLemmas.{digits_of, escape_fits, escape_is, escape_low, escape_short, escape_text, escape_value}
 
--- ---- a character in ASCII
+-- ---- an ASCII character in an ASCII literal
 
 abbrev are_same : List ℕ → List ℕ → Bool
 are_same [] [] = true
@@ -57,7 +57,8 @@ goes_on (AsciiEscape high low) us h b = b
 goes_on (ByteEscape high low) us h b = b
 goes_on (UnicodeEscape digits) us h b = b
 
--- The character or escape of Rust's grammar has the text and the value of the written form.
+-- The written form of a character is a valid character or escape of Rust's grammar, has its text, and has the character as its
+-- value.
 abbrev is_unit_of : Kind → ℕ → Bool
 is_unit_of k c =
     (is_strict_unit k (unit_of k c) && not (is_break (unit_of k c)))
@@ -70,7 +71,8 @@ is_short k c = list_all is_low (unit_text (written_unit k c)) && nat_le (length 
 abbrev low_test : Kind → ℕ → Bool
 low_test k c = is_unit_of k c && is_short k c
 
--- The property is tested for each of the 128 ASCII characters.
+-- A test of all 128 ASCII characters proves that the written form of each is a character or escape of Rust's grammar, in at
+-- most four ASCII characters.
 str_tests : (c : ℕ) → c < 128 → low_test Str c ≡ true
 unfolding written_unit
 str_tests c h = agree_below_at (low_test Str) (λ c. true) 128 c refl h
@@ -79,7 +81,7 @@ char_tests : (c : ℕ) → c < 128 → low_test Char c ≡ true
 unfolding written_unit
 char_tests c h = agree_below_at (low_test Char) (λ c. true) 128 c refl h
 
--- ---- any character
+-- ---- any character in an ASCII literal
 
 pub record Fine (k : Kind) (c : ℕ) : Type 0 where
   pub unit : StrictUnit
@@ -145,12 +147,12 @@ char_fine c s = elim (cases_lt c 128) [
   | inr a ↦ fine_wide Char c a s (escape_is c s) (ap (λ z. z ∷ []) (escape_value c))
 ]
 
-pub fine : (k : Kind) (c : ℕ) → holds_characters k ≡ true → IsScalar c → Fine k c
+pub fine : (k : Kind) (c : ℕ) → decodes_to_chars k ≡ true → IsScalar c → Fine k c
 fine Str c h s = str_fine c s
 fine Char c h s = char_fine c s
 fine kind c h s = absurd (cc)
 
--- ---- a sequence of characters
+-- ---- a sequence of characters in an ASCII literal
 
 pub record FineRow (k : Kind) (v : List ℕ) : Type 0 where
   pub units : List StrictUnit
@@ -161,7 +163,7 @@ pub record FineRow (k : Kind) (v : List ℕ) : Type 0 where
   pub count : length units ≡ length v
   pub low : list_all is_low (flat_map (ascii_text k) v) ≡ true
 
-row_of : (k : Kind) (v : List ℕ) → holds_characters k ≡ true → scalars v ≡ true → FineRow k v
+row_of : (k : Kind) (v : List ℕ) → decodes_to_chars k ≡ true → scalars v ≡ true → FineRow k v
 row_of k [] h s = record { units = []; each = refl; blanks_end = tt; text_is = refl; value_is = refl; count = refl; low = refl }
 row_of k (c ∷ v) h s =
     let p = and_parts (scalar c) (scalars v) s in
@@ -178,7 +180,7 @@ row_of k (c ∷ v) h s =
       low = low_join (ascii_text k c) (flat_map (ascii_text k) v) f.low r.low;
     }
 
--- ---- the literal
+-- ---- the whole ASCII literal
 
 joined : (o b e : List ℕ) → o ++ (b ++ e) ≡ ((o ++ b) ++ e) ++ []
 joined o b e = sym (append_assoc o b e) ∙ sym (append-nil ((o ++ b) ++ e))
@@ -211,7 +213,7 @@ char_form v s one =
     inl (cooked Char v r (r.count ∙ one) refl refl) in
     record { text_is = refl; ascii = low_join (flat_map (ascii_text Char) v) (39 ∷ []) r.low refl; reads = strict_reads _ Char _ [] strict tt; strict = strict }
 
--- ---- the written bytes
+-- ---- the bytes that the code writes for an ASCII literal
 
 pub form_of : (k : Kind) (v whole : List ℕ) → IsAsciiForm k v (ascii_literal k v) → whole ≡ ascii_literal k v
     → IsAsciiForm k v (chars whole)
@@ -224,14 +226,15 @@ pub form_utf8 : (k : Kind) (v whole : List ℕ) → IsAsciiForm k v (ascii_liter
 form_utf8 k v whole f e = low_utf8 whole (ap (list_all is_low) e ∙ f.ascii)
 
 -- The bytes of an ASCII character's written form are its text in an ASCII literal.
-pub low_bytes : (k : Kind) (c : ℕ) (bytes : List ℕ) → holds_characters k ≡ true → IsScalar c → c < 128
+pub low_bytes : (k : Kind) (c : ℕ) (bytes : List ℕ) → decodes_to_chars k ≡ true → IsScalar c → c < 128
     → bytes ≡ encode_utf8_all (unit_text (written_unit k c)) → bytes ≡ ascii_text k c
 low_bytes k c bytes h s small e =
     let f = fine k c h s in
     let text = text_low k c small in
     e ∙ ap encode_utf8_all (sym text) ∙ encoded_low (ascii_text k c) f.low
 
--- The opening delimiter, the written forms and the closing delimiter, joined, are the literal.
+-- If the code writes the opening delimiter, the written forms of the characters and the closing delimiter, the result is the
+-- ASCII literal.
 pub literal_pieces : (k : Kind) (v b whole : List ℕ) → b ≡ opener k ++ flat_map (ascii_text k) v
     → whole ≡ b ++ (closer k ∷ []) → whole ≡ ascii_literal k v
 literal_pieces k v b whole b_is whole_is = whole_is ∙ ap (λ z. z ++ (closer k ∷ [])) b_is
@@ -252,11 +255,11 @@ piece_more k xs a b c a_is b_is =
     b_is ∙ ap (λ z. z ++ ascii_text k c) a_is ∙ append_assoc (opener k) (flat_map (ascii_text k) xs) (ascii_text k c)
     ∙ ap (λ z. opener k ++ z) (sym all)
 
--- The first of a text's characters is a scalar value.
+-- The first character of a UTF-8 text is a Unicode scalar value.
 pub first_scalar : (text rest : List ℕ) (c : ℕ) → IsUtf8 text → chars text ≡ c ∷ rest → IsScalar c
 first_scalar text rest c u e = (and_parts (scalar c) (scalars rest) (ap scalars (sym e) ∙ scalars-chars text u)).0
 
--- If all characters were passed, the written forms are those of the whole text.
+-- If the code has passed all characters of a text, it has written the ASCII literal of the whole text.
 pub whole_pieces : (k : Kind) (xs rest v a whole : List ℕ) → v ≡ xs ++ rest → rest ≡ []
     → a ≡ opener k ++ flat_map (ascii_text k) xs → whole ≡ a ++ (closer k ∷ []) → whole ≡ ascii_literal k v
 whole_pieces k xs rest v a whole v_is none a_is whole_is =

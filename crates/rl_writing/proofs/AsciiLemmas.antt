@@ -1,4 +1,4 @@
--- Texts in ASCII.
+-- Texts that contain only ASCII characters.
 use Rattle.rl_syntax.proofs.Common.{◌≡◌, ℕ, Bool, true, List, [], ◌∷◌, ◌++◌, refl, ap, ◌∙◌, nat_lt, list_all, list_all-append, and_parts, and_from, ltb-true, encode_ascii, chars, chars-append, chars-IsAscii, IsAscii, IsUtf8}
 use Rattle.std.specs.Prelude.{encode_utf8_all}
 use Rattle.std.proofs.lemmas.Str.{IsUtf8-append, IsUtf8-from_ascii}
@@ -32,7 +32,7 @@ pub framed_chars : (a b t : List ℕ) → list_all is_low a ≡ true → list_al
 framed_chars a b t h k u = chars-append a (t ++ b) (low_utf8 a h) ∙ ap (λ z. z ++ chars (t ++ b)) (low_chars a h)
     ∙ ap (λ z. a ++ z) (chars-append t b u ∙ ap (λ z. chars t ++ z) (low_chars b k))
 
--- The encoding of ASCII characters is these characters.
+-- The UTF-8 bytes of ASCII characters are the codes of these characters.
 pub encoded_low : (t : List ℕ) → list_all is_low t ≡ true → encode_utf8_all t ≡ t
 encoded_low [] h = refl
 encoded_low (c ∷ t) h =

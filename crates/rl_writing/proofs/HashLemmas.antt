@@ -1,4 +1,4 @@
--- The number of hashes that a raw string needs, from the hashes after its quotes.
+-- The number of hashes that a raw string needs, according to the hashes after each quote in it.
 use Rattle.rl_syntax.proofs.Common.{◌≡◌, ℕ, zero, suc, ◌+◌, ◌<◌, ◌≤◌, ◌&&◌, Bool, true, false, cond, eqb, List, [], ◌∷◌, ◌++◌, replicate, refl, sym, ap, subst, ◌∙◌, inl, inr, arith, eqb-true, cases_Bool, cases_lt, nat_lt, lt-ltb, if◌then◌else◌}
 use Rattle.std.specs.Prelude.{max}
 use Rattle.rl_writing.specs.Mirrors.RawSteps.{hashes_opened}
@@ -8,12 +8,13 @@ abbrev pub run : List ℕ → ℕ
 run [] = 0
 run (c ∷ t) = cond (eqb c 35) (suc (run t)) 0
 
--- The number of hashes that a raw string with this text needs: one more than the most hashes after a quote.
+-- The number of hashes that a raw string with this text needs. It is one more than the greatest number of hashes after a
+-- quote.
 abbrev pub needed_in : List ℕ → ℕ
 needed_in [] = 0
 needed_in (c ∷ t) = cond (eqb c 34) (max (suc (run t)) (needed_in t)) (needed_in t)
 
--- ---- the text contains a quote and this number of hashes
+-- ---- a raw string with a text needs more than `n` hashes if and only if the text contains a quote and `n` hashes
 
 run_more : (n : ℕ) (t : List ℕ) → n ≤ run (replicate n 35 ++ t)
 run_more zero t = omega arith
@@ -42,7 +43,7 @@ run_front (suc n) (c ∷ t) h =
           absurd (omega (arith, h, same))
     ]
 
--- The text contains a quote and this number of hashes.
+-- The text contains a double quote that `n` hashes follow.
 abbrev pub Closes : ℕ → List ℕ → Type 0
 Closes n t = (front : List ℕ) × (rest : List ℕ) × (t ≡ (front ++ (34 ∷ replicate n 35)) ++ rest)
 
@@ -68,15 +69,15 @@ needed_closes n (c ∷ t) h =
           closes_after n c t (needed_closes n t (omega (arith, h, same)))
     ]
 
--- ---- counting hashes, one character after another
+-- ---- the code counts hashes, one character after another
 
--- The number of hashes that a quote and hashes at the end of the passed text require, together with the hashes that
--- follow.
+-- The number of hashes that a raw string needs for a quote and hashes at the end of the passed text, and for the hashes that
+-- follow. The first argument is this number for the passed text alone, or 0 if the passed text ends otherwise.
 abbrev pub pending : ℕ → List ℕ → ℕ
 pending zero t = 0
 pending (suc k) t = suc k + run t
 
--- The number of hashes that the whole text needs, from the number for the passed text.
+-- The number of hashes that a raw string with the whole text needs. It is computed from the number for the passed text.
 abbrev pub needed_from : ℕ → ℕ → List ℕ → ℕ
 needed_from needed opened t = max needed (max (pending opened t) (needed_in t))
 

@@ -1,4 +1,4 @@
--- The integer literal that is written for a value is a literal of both grammars, with that value.
+-- The integer literal that is written for a value is a literal of both grammars. It has this value.
 use Rattle.rl_syntax.proofs.Common.{◌≡◌, ℕ, ◌^◌, ◌<◌, ◌≤◌, ◌||◌, ◌&&◌, Bool, true, false, not, eqb, List, [], ◌∷◌, ◌++◌, length, Option, ◌⊎◌, refl, sym, ap, subst, ◌∙◌, inl, inr, arith, append_assoc, nat_lt, digit_value, is_ascii_digit, list_all, list_any, and_parts, or_parts, or_from, or_left, or_right, chars, IsUtf8, if◌then◌else◌}
 use Rattle.std.proofs.lemmas.Bool.{and_right}
 use Rattle.std.specs.Fmt.{decimal}
@@ -12,7 +12,7 @@ use Rattle.rl_syntax.proofs.Dec.{dec_is_decimal}
 use Rattle.rl_syntax.proofs.StrictNumbers.{strict_int}
 use Rattle.rl_syntax.specs.declared.integer_type.IntegerType.{IntegerType}
 use Rattle.rl_writing.specs.declared.integers.IntegerStyle.{IntegerStyle}
-use Rattle.rl_writing.specs.Integers.{base_view, ends_group, group_size, grouped, numeral, suffix_text}
+use Rattle.rl_writing.specs.Integers.{base_view, is_digit_group_end, group_size, grouped, numeral, suffix_text}
 use Rattle.rl_writing.specs.WrittenIntegers.{IsWrittenInteger, grouped_numeral, written_integer}
 use Rattle.rl_writing.proofs.AsciiLemmas.{is_low, low_chars, low_join, low_utf8}
 use Rattle.rl_writing.proofs.GroupLemmas.{grouped_all, grouped_digits}
@@ -31,7 +31,7 @@ radix_high Octal = omega arith
 radix_high Decimal = omega arith
 radix_high Hexadecimal = omega arith
 
--- ---- the digits in groups
+-- ---- the written digits in groups
 
 abbrev has_value : ℕ → ℕ → Bool
 has_value base c = nat_lt (digit_value c) base
@@ -71,7 +71,7 @@ row_is b upper size value =
     ∙ glyphs in
     record {
       first = first;
-      more = (if ends_group size (length some.more) then 95 ∷ [] else []) ++ grouped size some.more;
+      more = (if is_digit_group_end size (length some.more) then 95 ∷ [] else []) ++ grouped size some.more;
       is = ap (grouped size) some.is;
       begins = glyph_part base first (and_parts (is_glyph base first) (list_all (is_glyph base) some.more) begun).0;
       each = grouped_all (is_run_part (has_value base)) size ds (or_right (has_value base 95) true refl)
@@ -83,13 +83,13 @@ row_is b upper size value =
           ∙ numeral_value base upper value (radix_low b) (radix_high b);
     }
 
--- The digits that are written in a style are a sequence of digits and underscores.
+-- In each style of integers, the written digits are a sequence of digits and underscores that represents the value.
 styled_run : (value : ℕ) (style : IntegerStyle) → IsRun (radix (base_view style.base)) value (grouped_numeral value style)
 styled_run value style =
     let b = base_view style.base in
     row_is b style.upper (group_size style.group style.least (length (numeral (radix b) style.upper value))) value
 
--- ---- decimal digits
+-- ---- a written decimal integer doesn't begin with a base prefix
 
 decimal_part : (c : ℕ) → is_run_part (has_value 10) c ≡ is_run_part is_ascii_digit c
 decimal_part c = ap (λ b. b || is_underscore c) (sym (digit_is_ten c))
@@ -100,7 +100,7 @@ decimal_digits value run r = (
   sym (all_same (is_run_part (has_value 10)) (is_run_part is_ascii_digit) decimal_part run) ∙ r.each,
 )
 
--- A digit or underscore isn't the letter of a prefix.
+-- The letter of a base prefix is neither a decimal digit nor an underscore.
 part_no_letter : (c : ℕ) → is_run_part (has_value 10) c ≡ true → is_base_letter c ≡ false
 part_no_letter c h =
     let other : (k : ℕ) → is_run_part (has_value 10) k ≡ false → eqb c k
@@ -137,9 +137,10 @@ decimal_text value run x r n =
     let more = (and_parts (is_run_part (has_value 10) r.first) (list_all (is_run_part (has_value 10)) r.more) each).1 in
     ap (λ z. begins_base (z ++ x)) r.is ∙ no_base r.first (r.more ++ x) (rest_no_letter r.more x more n)
 
--- ---- the whole literal
+-- ---- the whole integer literal
 
--- The start of a written integer, by its base.
+-- A decimal integer is written without a base prefix and begins with a digit. An integer of base `b` other than ten begins
+-- with the prefix of this base.
 abbrev IsFront : Base → List ℕ → List ℕ → Type 0
 IsFront b run x =
     ((prefix b ≡ []) × (radix b ≡ 10) × IsDigits run × IsDecimalText (prefix b ++ (run ++ x)))
@@ -179,7 +180,7 @@ dec_value n = numeral_value 10 false n (omega arith) (omega arith)
 same_digits : (a b : List ℕ) → Digits a ≡ Digits b → a ≡ b
 same_digits a b e = cc
 
--- An integer literal of Rust's grammar has an equal value by `syn`'s grammar.
+-- If an integer literal of Rust's grammar is within 128 bits, `syn`'s grammar gives it an equal value.
 integer_reads : (t x : List ℕ) (value : ℕ) → value ≤ limit → StrictInt t (Digits (decimal value)) x
     → ReadsInt t (Digits (decimal value)) x
 integer_reads t x value h s =
@@ -199,7 +200,7 @@ integer_written value style suffix h =
     let strict = integer_strict b value run x h (styled_run value style) (suffix_is suffix) in
     record { text_is = refl; strict = strict; reads = integer_reads (prefix b ++ (run ++ x)) x value h strict }
 
--- ---- a written integer is ASCII
+-- ---- a written integer contains only ASCII characters
 
 prefix_low : (b : Base) → list_all is_low (prefix b) ≡ true
 prefix_low Binary = refl
@@ -222,7 +223,7 @@ written_low value style suffix =
     low_join (prefix b) (run ++ x) (prefix_low b)
     (low_join run x (styled_run value style).ascii (suffix_is suffix).ascii)
 
--- ---- the bytes that are written
+-- ---- the bytes that the code writes for an integer
 
 pub written_bytes : (value : ℕ) (style : IntegerStyle) (suffix : Option IntegerType)
     (whole inner front digits x : List ℕ)

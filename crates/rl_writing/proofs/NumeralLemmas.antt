@@ -11,7 +11,7 @@ use Rattle.rl_syntax.proofs.Basics.{all_weaker}
 use Rattle.rl_syntax.specs.Spelling.{place_value}
 use Rattle.rl_writing.specs.Integers.{numeral}
 
--- ---- one digit
+-- ---- the digit for a value below the base
 
 -- The character is an ASCII digit of the base, and not an underscore.
 abbrev pub is_glyph : ℕ → ℕ → Bool
@@ -40,9 +40,9 @@ glyph_is base upper d high h =
     and_from _ _ (and_from _ _ (and_parts (nat_lt c 128) (eqb (digit_value c) d) p.0).0
     (lt-ltb (digit_value c) base (omega (arith, value, h)))) p.1
 
--- ---- all digits
+-- ---- all digits of a number
 
--- A quotient is at most half of the dividend.
+-- If the divisor is at least 2, the quotient is at most half of the dividend.
 pub halved : (n base : ℕ) → 2 ≤ base → n / base * 2 ≤ n
 halved n base low = omega (arith, div-add-mod' n base, mul-le-mul_left (n / base) low)
 
@@ -62,7 +62,7 @@ goes_on k base upper n acc e =
 no_quotient : (n base : ℕ) → 2 ≤ base → n ≤ 0 → eqb (n / base) 0 ≡ true
 no_quotient n base low h = eq-eqb (n / base) 0 (omega (arith, halved n base low))
 
--- More room for digits doesn't change the digits.
+-- The digits of a number are computed within a limit of steps. A higher limit doesn't change the digits.
 room : (base : ℕ) (upper : Bool) → 2 ≤ base → (k j n : ℕ) (acc : List ℕ) → n ≤ k → n ≤ j
     → digits_onto (suc k) base upper n acc ≡ digits_onto (suc j) base upper n acc
 room base upper low zero j n acc h l =
@@ -82,7 +82,7 @@ room base upper low (suc k) (suc j) n acc h l =
           ∙ sym (goes_on (suc j) base upper n acc e)
     ]
 
--- The digits of a number before other digits.
+-- The digits of the number `n`, and the digits `acc` after them.
 pub digits_before : ℕ → Bool → ℕ → List ℕ → List ℕ
 digits_before base upper n acc = digits_onto (suc n) base upper n acc
 
@@ -105,9 +105,9 @@ last_digit base upper (suc m) acc low some =
     ∙ room base upper low m (suc m / base) (suc m / base) (now base upper (suc m) acc) (omega (arith, half))
     (omega arith)
 
--- ---- the number that they represent
+-- ---- the number that the digits represent
 
--- The number that the digits of n and further digits represent together.
+-- The number that the digits of `n` and the digits `acc` after them represent together.
 abbrev spelled : ℕ → ℕ → List ℕ → ℕ
 spelled base n acc = n * base ^ length acc + place_value base acc
 
@@ -154,7 +154,7 @@ numeral_value base upper n low high =
     let bare : n * base ^ 0 + 0 ≡ n = omega (arith, ap (λ p. n * p) (pow-zero base)) in
     value_onto base upper low high n n [] (omega arith) ∙ bare
 
--- ---- the digits
+-- ---- each character of a written number is a digit
 
 glyphs_onto : (base : ℕ) (upper : Bool) → 2 ≤ base → base ≤ 16 → (k n : ℕ) (acc : List ℕ)
     → list_all (is_glyph base) acc ≡ true → list_all (is_glyph base) (digits_onto k base upper n acc) ≡ true
@@ -205,7 +205,7 @@ numeral_digits base n upper low high =
     (and_parts (nat_lt c 128 && nat_lt (digit_value c) base) (not (eqb c 95)) h).0).1) (numeral base upper n)
     (numeral_glyphs base upper n low high)
 
--- ---- the first digit
+-- ---- the first digit of a number isn't zero, unless the number is 0
 
 glyph_no_zero : (upper : Bool) (d : ℕ) → d < 16 → 0 < d → eqb (digit_glyph upper d) 48 ≡ false
 glyph_no_zero upper d h some = ne_eqb (digit_glyph upper d) 48 (λ e.
@@ -235,9 +235,10 @@ pub numeral_no_zero : (base n : ℕ) (upper : Bool) → 2 ≤ base → base ≤ 
 unfolding numeral
 numeral_no_zero base n upper low high some = first_no_zero base upper low high n n [] (omega arith) some
 
--- ---- the number of digits
+-- ---- the number of digits of a number
 
--- If a number fits its bits after some divisions, it does so after one more.
+-- Each division of a number by a base of at least 2 takes at least one bit from it. If this holds after some divisions, it
+-- holds after one more.
 pub fits_more : (n rest base count more bits : ℕ) → 2 ≤ base → rest ≡ n / base → more ≡ count + 1
     → n * 2 ^ count < 2 ^ bits → rest * 2 ^ more < 2 ^ bits
 fits_more n rest base count more bits low rest_is is h =
@@ -258,18 +259,19 @@ count_left n count bits some h (inl more) =
           absurd (omega (arith, h, large, one))
     ]
 
--- ---- digits that were written, the last first
+-- ---- digits that were written, the last digit first
 
 reversed : (xs ys : List ℕ) (d : ℕ) → ys ≡ xs ++ (d ∷ []) → reverse ys ≡ d ∷ reverse xs
 reversed xs ys d e = ap reverse e ∙ reverse-append xs (d ∷ [])
 
--- The digit that is written now is before the digits that were written.
+-- The code writes the last digit of a number first. If the written digits are reversed, the digit that is written now comes
+-- first.
 now_first : (base : ℕ) (upper : Bool) (left last d : ℕ) (xs ys : List ℕ) → last ≡ left % base → ys ≡ xs ++ (d ∷ [])
     → d ≡ digit_glyph upper last → reverse ys ≡ digit_glyph upper (left % base) ∷ reverse xs
 now_first base upper left last d xs ys last_is bytes is =
     reversed xs ys d bytes ∙ ap (λ z. z ∷ reverse xs) (is ∙ ap (digit_glyph upper) last_is)
 
--- The digit that is written last is the number's first digit.
+-- If no digit is left after the one that is written now, the reversed digits are the whole number's digits.
 pub put_first : (base : ℕ) (upper : Bool) (left rest last d : ℕ) (xs ys whole : List ℕ) → rest ≡ left / base
     → last ≡ left % base → ys ≡ xs ++ (d ∷ []) → d ≡ digit_glyph upper last → rest ≡ 0
     → digits_before base upper left (reverse xs) ≡ whole → reverse ys ≡ whole

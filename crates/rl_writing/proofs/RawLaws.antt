@@ -1,4 +1,4 @@
--- Raw strings whose value is the text between their quotes.
+-- The value of a raw string is the text between its quotes.
 use Rattle.rl_syntax.proofs.Common.{◌≡◌, ℕ, zero, suc, ◌<◌, ◌≤◌, ◌&&◌, Bool, true, false, not, eqb, List, [], ◌∷◌, ◌++◌, length, replicate, refl, sym, ap, subst, ◌∙◌, inl, inr, arith, append_assoc, append-nil, nat_lt, list_all, and_parts, and_from, both_ways, cases_lt, chars, chars_from_encodes, encodes-chars, IsUtf8}
 use Rattle.std.specs.Prelude.{encode_utf8_all}
 use Rattle.std.proofs.lemmas.Str.{chars-encodes}
@@ -7,7 +7,7 @@ use Rattle.rl_syntax.specs.Texts.{first_passes}
 use Rattle.rl_syntax.proofs.Basics.{all_weaker, hashes_all, word_without}
 use Rattle.rl_syntax.specs.declared.kind.Kind.{Kind}
 use Rattle.rl_syntax.specs.declared.kind.Kind.TheVariants.{Str, ByteStr, CStr}
-use Rattle.rl_syntax.specs.Quoted.{holds_characters, is_raw, is_string, raw_opener, Raw}
+use Rattle.rl_syntax.specs.Quoted.{decodes_to_chars, is_raw, is_string, raw_opener, Raw}
 use Rattle.rl_syntax.specs.Reading.{Bytes, Characters, Contents, Reads}
 use Rattle.rl_syntax.specs.Strict.{IsRawInside, IsStrictSuffix, Strict, StrictRaw, strict_closer, strict_opener, strict_raw_opener}
 use Rattle.rl_syntax.proofs.Agreeing.{strict_reads}
@@ -18,7 +18,7 @@ use Rattle.rl_writing.specs.RawStrings.{raw_contents, raw_text, HasFewestHashes,
 use Rattle.rl_writing.proofs.AsciiLemmas.{encoded_low, is_low, framed_chars, framed_utf8, low_join}
 use Rattle.rl_writing.proofs.HashLemmas.{closes_needed, needed_closes, needed_in}
 
--- ---- the allowed characters
+-- ---- the characters that a raw string may contain
 
 stands_bare : (k : Kind) (c : ℕ) → is_string k ≡ true → raw_may_contain k c ≡ true → not (eqb c 13) ≡ true
 stands_bare Str c s h = h
@@ -43,7 +43,7 @@ both f g (c ∷ cs) h k =
     let q = and_parts (g c) (list_all g cs) k in
     and_from _ _ (and_from _ _ p.0 q.0) (both f g cs p.1 q.1)
 
--- If a body is allowed in a raw string of the kind, and contains no CR, the code accepts each of its characters.
+-- If a raw string of the kind may contain a text, and the text contains no CR, the code accepts each character of the text.
 all_stand : (k : Kind) (inside : List ℕ) → is_string k ≡ true → IsRawInside k inside
     → list_all (λ c. not (eqb c 13)) inside ≡ true → list_all (raw_may_contain k) inside ≡ true
 all_stand Str inside s a h = h
@@ -51,7 +51,7 @@ all_stand ByteStr inside s a h = both (λ c. not (eqb c 13)) (λ c. nat_lt c 128
 all_stand CStr inside s a h = both (λ c. not (eqb c 13)) (λ c. not (eqb c 0)) inside h a
 all_stand kind inside s a h = absurd (cc)
 
--- ---- the text
+-- ---- the text of a raw string
 
 same_opener : (k : Kind) → is_string k ≡ true → strict_raw_opener k ≡ raw_opener k
 same_opener Str s = refl
@@ -59,7 +59,7 @@ same_opener ByteStr s = refl
 same_opener CStr s = refl
 same_opener kind s = absurd (cc)
 
--- The text of a raw string after its prefix.
+-- The text of a raw string after its prefix: hashes, a quote, its content, a quote, hashes and the suffix.
 abbrev after_opener : ℕ → List ℕ → List ℕ → List ℕ
 after_opener n inside x = replicate n 35 ++ (34 ∷ (inside ++ (34 ∷ (replicate n 35 ++ x))))
 
@@ -78,7 +78,7 @@ strict_text k n inside s =
     (sym (same_opener k s))
     ∙ sym (joined (strict_raw_opener k) inside [] n)
 
--- ---- the value of a raw literal
+-- ---- the value of a raw string
 
 raw_is : (k : Kind) (n : ℕ) (inside : List ℕ) → is_string k ≡ true → list_all (raw_may_contain k) inside ≡ true → n < 256
     → needed_in inside ≤ n → StrictRaw (raw_text k n inside) k (raw_contents k inside) []
@@ -107,14 +107,14 @@ raw_strict ByteStr n inside s r = (inr r, strict_reads _ ByteStr _ [] (inr r) tt
 raw_strict CStr n inside s r = (inr r, strict_reads _ CStr _ [] (inr r) tt)
 raw_strict kind n inside s r = absurd (cc)
 
--- ---- the number of hashes
+-- ---- the number of hashes of a raw string
 
 pub record Needs (k : Kind) (n : ℕ) (inside : List ℕ) : Type 0 where
   pub few : n < 256
   pub stand : list_all (raw_may_contain k) inside ≡ true
   pub enough : needed_in inside ≤ n
 
--- A raw string isn't a string with escapes.
+-- Whether the text begins with a quote. A string with escapes does after its prefix, and a raw string doesn't.
 abbrev first_quote : List ℕ → Bool
 first_quote t = first_passes (λ c. eqb c 34) t
 
@@ -141,8 +141,8 @@ all_raw : (cs : List ℕ) → list_all (is_raw Str) cs ≡ true
 all_raw [] = refl
 all_raw (c ∷ cs) = all_raw cs
 
--- A text with `n` hashes around quotes is a raw string of `syn`'s grammar with the text between the quotes. So equal raw strings
--- have equal hashes and equal texts between the quotes (`same_parts`).
+-- A text with `n` hashes around quotes is a raw string of `syn`'s grammar with the text between the quotes. The lemma
+-- `same_parts` uses this: equal raw strings have equally many hashes and equal texts between the quotes.
 raw_at : (n : ℕ) (inside x : List ℕ) → list_all (λ c. not (eqb c 34)) x ≡ true
     → Raw Str (114 ∷ after_opener n inside x) inside x
 raw_at n inside x h = record { hashes = n; inside = inside; string = refl; each = all_raw inside; no_quote = h; text_is = refl; value_is = refl }
@@ -187,7 +187,7 @@ strict_needs CStr n inside x v s (inl c) = absurd (not_quoted CStr n inside _ x 
 strict_needs CStr n inside x v s (inr r) = raw_needs CStr n inside x v s r
 strict_needs kind n inside x v s r = absurd (cc)
 
--- ---- the laws
+-- ---- the fewest hashes of a raw string, and its only content
 
 pub fewest_hashes : (k : Kind) (n : ℕ) (inside : List ℕ) → is_string k ≡ true → list_all (raw_may_contain k) inside ≡ true
     → needed_in inside ≡ n → n < 256 → HasFewestHashes k inside n
@@ -210,8 +210,8 @@ none_suffices k n inside s is many m v x r =
     let needs = strict_needs k m inside x v s r in
     omega (arith, is, many, needs.few, needs.enough)
 
--- The value of a byte string or C string is the bytes of its text.
-pub bytes_held : (k : Kind) (n : ℕ) (text value : List ℕ) → is_string k ≡ true → holds_characters k ≡ false
+-- The value of a raw byte string or raw C string consists of the bytes between its quotes.
+pub bytes_held : (k : Kind) (n : ℕ) (text value : List ℕ) → is_string k ≡ true → decodes_to_chars k ≡ false
     → text ≡ value → IsUtf8 value → HasFewestHashes k (chars text) n → raw_contents k (chars text) ≡ Bytes value
 bytes_held ByteStr n text value s h same u f =
     let stand = (strict_needs ByteStr n (chars text) [] _ s f.strict).stand in
@@ -239,16 +239,16 @@ one_inside CStr inside other s h l e =
     ∙ chars-encodes other l
 one_inside kind inside other s h l e = absurd (cc)
 
--- Raw strings with equal bytes have equal texts between their quotes.
+-- If no raw string can contain a text, no raw string can contain another text with equal bytes.
 pub no_other : (k : Kind) (text value inside : List ℕ) → text ≡ value → IsUtf8 value → HasNoRaw k (chars text)
     → encode_utf8_all inside ≡ value → HasNoRaw k inside
 no_other k text value inside same u none e =
     let is : inside ≡ chars text = chars_from_encodes inside value u e ∙ ap chars (sym same) in
     subst (HasNoRaw k) (sym is) none
 
--- ---- the written bytes
+-- ---- the bytes that the code writes for a raw string
 
--- The text before the text between the quotes.
+-- The start of a raw string: its prefix, its hashes and its opening quote.
 abbrev front_of : List ℕ → ℕ → List ℕ
 front_of opener n = (opener ++ replicate n 35) ++ (34 ∷ [])
 
@@ -266,7 +266,8 @@ front_low : (k : Kind) (n : ℕ) → is_string k ≡ true → list_all is_low (f
 front_low k n s = low_join (raw_opener k ++ replicate n 35) (34 ∷ [])
     (low_join (raw_opener k) (replicate n 35) (opener_low k s) (hashes_low n)) refl
 
--- The prefix, the hashes, the quotes and the text of a raw string, joined, are the written bytes.
+-- If the code writes the prefix, the hashes, the quotes and the text of a raw string one after another, the result is the
+-- whole raw string.
 pub raw_pieces : (k : Kind) (n : ℕ) (opener text a b d e f whole : List ℕ) → opener ≡ raw_opener k → a ≡ opener
     → b ≡ a ++ replicate n 35 → d ≡ b ++ (34 ∷ []) → e ≡ d ++ text → f ≡ e ++ (34 ∷ []) → whole ≡ f ++ replicate n 35
     → whole ≡ front_of (raw_opener k) n ++ (text ++ (34 ∷ replicate n 35))

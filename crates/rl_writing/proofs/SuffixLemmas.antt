@@ -1,4 +1,4 @@
--- The names of integer types are suffixes of numbers. None of them begins with a character that could continue a number's digits.
+-- The names of integer types are suffixes of numbers. No name begins with a character that could continue a number's digits.
 use Rattle.rl_syntax.proofs.Common.{◌≡◌, ℕ, ◌||◌, ◌&&◌, Bool, true, false, not, eqb, List, [], ◌∷◌, Option, Some, None, refl, ap, ◌∙◌, inl, inr, is_ascii_alphabetic, is_ascii_alphanumeric, is_ascii_hexdigit, list_all, and_from, and_parts, or_right, both_ways, or_parts, ltb-true, not-true, is_xid_continue, is_xid_start, is_xid_continue-ascii, is_xid_start-ascii}
 use Rattle.rl_syntax.specs.Texts.{first_passes, is_underscore, is_white, IsWord}
 use Rattle.rl_syntax.proofs.Basics.{apart}
@@ -9,12 +9,12 @@ use Rattle.rl_syntax.specs.declared.integer_type.IntegerType.TheVariants.{U8, U1
 use Rattle.rl_writing.specs.Integers.{suffix_text}
 use Rattle.rl_writing.proofs.AsciiLemmas.{is_low}
 
--- The letters of the prefixes of integers.
+-- Whether the character is the letter of a base prefix: `b`, `o` or `x`.
 abbrev pub is_base_letter : ℕ → Bool
 is_base_letter c = (eqb c 98 || eqb c 111) || eqb c 120
 
--- Whether the character is an underscore, a hexadecimal digit, or the letter of an exponent or of a base. It begins the name of
--- no integer type then.
+-- Whether the character is an underscore, a hexadecimal digit, or the letter of an exponent or of a base prefix. No name of an
+-- integer type begins with one of these characters.
 abbrev goes_wrong : ℕ → Bool
 goes_wrong c = (is_underscore c || is_exponent_letter c) || (is_ascii_hexdigit c || is_base_letter c)
 

@@ -1,4 +1,4 @@
--- The laws of src/laws.rt, as lemmas that callers can cite.
+-- The theorems of src/laws.rt, as lemmas that callers may cite.
 use Rattle.rl_writing.specs.Laws.{ANumeralHasDigitsOfItsBase, ANumeralRepresentsItsNumber, ANumeralHasNoZeroInFront, FewDigitsAreNotGrouped, EnoughDigitsAreGrouped, ARawStringHasOneTextInside}
 use Rattle.rl_writing.proofs.NumeralLemmas.{numeral_digits, numeral_value, numeral_no_zero}
 use Rattle.rl_writing.proofs.GroupLemmas.{few_ungrouped, others_grouped}

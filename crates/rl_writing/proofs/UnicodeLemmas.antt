@@ -1,4 +1,4 @@
--- Escapes of characters by their numbers.
+-- The escape `\u{..}` of a character.
 use Rattle.rl_syntax.proofs.Common.{◌≡◌, ℕ, zero, suc, ◌+◌, ◌*◌, ◌/◌, ◌%◌, ◌^◌, ◌<◌, ◌≤◌, ◌&&◌, Bool, true, false, not, cond, eqb, List, [], ◌∷◌, ◌++◌, length, map, refl, sym, ap, ◌∙◌, inl, inr, arith, append_assoc, nat_lt, digit_value, is_ascii_hexdigit, all_scalars, scalar, list_all, flat_map, and_parts, and_from, eq-eqb, lt-ltb, cases_Bool, cases_lt, encode_utf8, length-append, length-encode}
 use Rattle.std.proofs.lemmas.Bool.{le-leb, le-ltb}
 use Rattle.std.proofs.lemmas.Nat.{div_below}
@@ -15,7 +15,7 @@ use Rattle.rl_writing.proofs.AsciiLemmas.{is_low, low_join}
 use Rattle.rl_writing.proofs.GroupLemmas.{ungrouped}
 use Rattle.rl_writing.proofs.NumeralLemmas.{is_glyph, numeral_glyphs, numeral_some, numeral_value}
 
--- ---- the number of digits
+-- ---- the number of digits of an escape
 
 digits_short : (k base : ℕ) (upper : Bool) (i n : ℕ) (acc : List ℕ) → 0 < base → n < base ^ suc i
     → length (digits_onto k base upper n acc) ≤ length acc + suc i
@@ -48,15 +48,15 @@ escape_short c h = elim (scalar_cases c h) [
   | inr a ↦ omega (arith, escape_length c, numeral_short 5 c (omega (arith, a.1)))
 ]
 
--- The number of bytes of a character from U+0800 on: 3 if `less` is true, since the character is below U+10000 then, and
--- otherwise 4.
+-- The number of bytes of a character from U+0800 on. It is 3 if `less` is true, which means that the character is below
+-- U+10000, and 4 otherwise.
 abbrev by_four : Bool → ℕ
 by_four less = cond less 3 4
 
 abbrev by_three : Bool → ℕ → ℕ
 by_three less c = cond less 2 (by_four (nat_lt c 0x1_0000))
 
--- The escape has at most four bytes for each byte of the character.
+-- The escape of a character has at most four bytes for each byte of the character.
 pub escape_fits : (c : ℕ) → IsScalar c → 128 ≤ c → length (unicode_escape c) ≤ 4 * length (encode_utf8 c)
 escape_fits c h wide =
     let wider : len_utf8 c ≡ by_three (nat_lt c 0x800) c =
@@ -79,7 +79,7 @@ escape_fits c h wide =
 
 -- ---- the value of an escape
 
--- Each digit with the number of underscores after it, which is 0.
+-- Each digit of an escape, paired with the number of underscores after it, which is 0.
 abbrev pub plain_digits : List ℕ → List (ℕ × ℕ)
 plain_digits ds = map (λ d. (d, 0)) ds
 
@@ -139,9 +139,9 @@ escape_low c = low_join (numeral 16 false c) (125 ∷ [])
     (all_weaker (is_glyph 16) is_low glyph_low (numeral 16 false c)
     (numeral_glyphs 16 false c (omega arith) (omega arith))) refl
 
--- ---- the written bytes
+-- ---- the bytes that the code writes for an escape
 
--- With group size 0, the digits are written without underscores.
+-- If the group size is 0, the digits of a character's number are written without underscores.
 digits_put : (c n : ℕ) (ds : List ℕ) → ds ≡ numeral 16 false n → n ≡ c → grouped 0 ds ≡ numeral 16 false c
 digits_put c n ds e same = ungrouped ds ∙ e ∙ ap (numeral 16 false) same
 

@@ -13,8 +13,8 @@ use Rattle.rl_writing.specs.Integers.{numeral}
 abbrev pub unicode_escape : ℕ → List ℕ
 unicode_escape c = code "\\" ∷ code "u" ∷ code "{" ∷ (numeral 16 false c ++ (code "}" ∷ []))
 
--- The written form of a character in an ASCII literal. A non-ASCII character is an escape `\u{..}`. An ASCII character
--- is written as in other literals.
+-- The written form of a character in an ASCII literal. A non-ASCII character is written as its escape `\u{..}`. An ASCII
+-- character is written as in other literals.
 abbrev pub ascii_text : Kind → ℕ → List ℕ
 ascii_text kind c = if nat_lt c 128 then unit_text (written_unit kind c) else unicode_escape c
 
@@ -22,8 +22,8 @@ ascii_text kind c = if nat_lt c 128 then unit_text (written_unit kind c) else un
 abbrev pub ascii_literal : Kind → List ℕ → List ℕ
 ascii_literal kind value = opener kind ++ (flat_map (ascii_text kind) value ++ (closer kind ∷ []))
 
--- The text is the ASCII literal that is written for the value. By `syn`'s and by Rust's grammar it has that value and
--- no suffix.
+-- The text is the ASCII literal that is written for the value. By `syn`'s and by Rust's grammar, the literal has the value,
+-- and no suffix.
 pub record IsAsciiForm (kind : Kind) (value text : List ℕ) : Type 0 where
   pub text_is : text ≡ ascii_literal kind value
   pub ascii : IsTrue (list_all (λ c. nat_lt c 128) text)

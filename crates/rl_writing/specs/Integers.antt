@@ -8,7 +8,7 @@ use Rattle.rl_syntax.specs.declared.integer_type.IntegerType.{IntegerType}
 use Rattle.rl_writing.specs.declared.base.Base.{Base}
 use Rattle.rl_writing.specs.declared.base.Base.TheVariants.{Binary, Octal, Decimal, Hexadecimal}
 
--- The base in the definitions of the grammars, for the base in the code.
+-- Converts the code's base to the base in the definitions of the grammars.
 abbrev pub base_view : Base → numbers.Base
 base_view Binary = numbers.Binary
 base_view Octal = numbers.Octal
@@ -26,16 +26,16 @@ unfoldable pub numeral : ℕ → Bool → ℕ → List ℕ
 numeral base upper n = digits_onto (suc n) base upper n []
 
 -- Whether an underscore follows a digit that has `left` digits after it, in groups of `size` digits.
-abbrev pub ends_group : ℕ → ℕ → Bool
-ends_group size left = nat_lt 0 size && nat_lt 0 left && left % size == 0
+abbrev pub is_digit_group_end : ℕ → ℕ → Bool
+is_digit_group_end size left = nat_lt 0 size && nat_lt 0 left && left % size == 0
 
 -- The size of the groups in which `count` digits are written: 0, which means no groups, if `count` is below `least`.
 abbrev pub group_size : ℕ → ℕ → ℕ → ℕ
 group_size group least count = if nat_lt count least then 0 else group
 
--- The digits with an underscore between groups of this size, counted from the last digit. With size 0 there are no
--- underscores.
+-- The digits, with an underscore between groups. Groups have the given size, and are counted from the last digit. If the size
+-- is 0, no underscores are written.
 abbrev pub grouped : ℕ → List ℕ → List ℕ
 grouped size [] = []
 grouped size (d ∷ ds) =
-    d ∷ ((if ends_group size (length ds) then code "_" ∷ [] else []) ++ grouped size ds)
+    d ∷ ((if is_digit_group_end size (length ds) then code "_" ∷ [] else []) ++ grouped size ds)

@@ -39,8 +39,8 @@ EnoughDigitsAreGrouped =
     (group least : ℕ) (digits : List ℕ) → least ≤ length digits
     → group_size group least (length digits) ≡ group
 
--- All raw strings of one kind and value have the same text between the quotes. If no raw string can contain that text,
--- no raw string has the value.
+-- All raw strings of one kind and value have one text between their quotes. If no raw string can contain this text, no raw
+-- string has the value.
 abbrev pub ARawStringHasOneTextInside : Type 0
 ARawStringHasOneTextInside =
     (kind : Kind) (inside other : List ℕ) → IsTrue (is_string kind) → IsTrue (all_scalars inside)

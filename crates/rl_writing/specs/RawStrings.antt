@@ -6,18 +6,18 @@ use Rattle.rl_syntax.specs.Quoted.{raw_opener}
 use Rattle.rl_syntax.specs.Reading.{Contents, Reads, quoted_contents}
 use Rattle.rl_syntax.specs.Strict.{Strict, strict_content_of}
 
--- The raw string of the kind with this number of hashes, and with the characters `inside` between its quotes.
+-- The raw string of the kind with the given number of hashes, and with the characters `inside` between its quotes.
 abbrev pub raw_text : Kind → ℕ → List ℕ → List ℕ
 raw_text kind hashes inside =
     raw_opener kind
     ++ (replicate hashes (code "#")
     ++ (code "\"" ∷ (inside ++ (code "\"" ∷ replicate hashes (code "#")))))
 
--- The value of a raw string of the kind with these characters between its quotes.
+-- The value of a raw string of the kind with the characters `inside` between its quotes.
 abbrev pub raw_contents : Kind → List ℕ → Contents
 raw_contents kind inside = quoted_contents kind (strict_content_of kind inside)
 
--- The raw string of the kind with this number of hashes and these characters isn't a literal of Rust's grammar.
+-- The raw string of the kind with the given hashes and the characters `inside` isn't a literal of Rust's grammar.
 abbrev pub IsNoRaw : Kind → ℕ → List ℕ → Type 0
 IsNoRaw kind hashes inside =
     (contents : Contents) (suffix : List ℕ) → Strict (raw_text kind hashes inside) kind contents suffix → ⊥
@@ -30,6 +30,6 @@ pub record HasFewestHashes (kind : Kind) (inside : List ℕ) (hashes : ℕ) : Ty
   pub reads : Reads (raw_text kind hashes inside) kind (raw_contents kind inside) []
   pub fewest : (fewer : ℕ) → fewer < hashes → IsNoRaw kind fewer inside
 
--- No raw string of the kind can contain the characters: it isn't a literal of Rust's grammar with any number of hashes.
+-- No raw string of the kind can contain the characters: with any number of hashes, it isn't a literal of Rust's grammar.
 abbrev pub HasNoRaw : Kind → List ℕ → Type 0
 HasNoRaw kind inside = (hashes : ℕ) → IsNoRaw kind hashes inside

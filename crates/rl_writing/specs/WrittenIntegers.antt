@@ -15,13 +15,13 @@ grouped_numeral value style =
     let digits = numeral (radix (base_view style.base)) style.upper value in
     grouped (group_size style.group style.least (length digits)) digits
 
--- The integer literal of a value: prefix, digits in groups, and suffix.
+-- The integer literal of a value: its prefix, its digits in groups, and its suffix.
 abbrev pub written_integer : ℕ → IntegerStyle → Option IntegerType → List ℕ
 written_integer value style suffix =
     prefix (base_view style.base) ++ (grouped_numeral value style ++ suffix_text suffix)
 
--- The text is the integer literal that is written for the value. By `syn`'s and by Rust's grammar it has that value and
--- that suffix.
+-- The text is the integer literal that is written for the value. By `syn`'s and by Rust's grammar, the literal has the value
+-- and the suffix.
 pub record IsWrittenInteger (value : ℕ) (style : IntegerStyle) (suffix : Option IntegerType)
     (text : List ℕ) : Type 0 where
   pub text_is : text ≡ written_integer value style suffix

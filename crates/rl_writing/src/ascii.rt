@@ -3,10 +3,10 @@
 ghost use Rattle.std.specs.Prelude.{◌≡◌, ◌+◌, ◌*◌, ◌∷◌, ◌++◌, ◌≤◌, [], IsTrue, length, take};
 ghost use Rattle.std.specs.Str.{chars, IsUtf8};
 ghost use Rattle.rl_syntax.specs.declared.kind.Kind.TheVariants.{Char, Str};
-ghost use Rattle.rl_syntax.specs.Quoted.{holds_characters};
+ghost use Rattle.rl_syntax.specs.Quoted.{decodes_to_chars};
 ghost use Rattle.rl_writing.specs.AsciiStrings.{ascii_text, unicode_escape, IsAsciiForm};
 
-use crate::numerals::{put_grouped, put_reversed};
+use crate::numerals::{put_digits_reversed, put_grouped};
 use rl_syntax::Kind;
 use rl_syntax::slice_writer::{put, put_byte, put_text};
 use rl_syntax::text::split_char;
@@ -14,14 +14,14 @@ use rl_syntax::written_unit::escape;
 
 /// Writes the escape `\u{..}` of the character `c` after the first `at` bytes of the slice `out`, and returns the
 /// offset after the escape. The character's number is in base 16, in lower case.
-pub fn put_unicode(out: &mut [u8], at: usize, c: char) -> usize
+pub fn put_unicode_escape(out: &mut [u8], at: usize, c: char) -> usize
     requires { at + length (unicode_escape c) ≤ length out.old }
     ensures end { result ≡ at + length (unicode_escape c) }
     ensures bytes { take result out.new ≡ take at out.old ++ unicode_escape c }
     ensures len { length out.new ≡ length out.old }
 {
     let mut room = [0; 21];
-    let count = put_reversed(u128::from(c), 16, false, &mut room);
+    let count = put_digits_reversed(u128::from(c), 16, false, &mut room);
     let at = put(out, at, b"\\u{");
     let at = put_grouped(out, at, &room[..count], 0);
     put_byte(out, at, b'}')
@@ -30,14 +30,14 @@ pub fn put_unicode(out: &mut [u8], at: usize, c: char) -> usize
 /// Writes the character `c` in ASCII, as in a literal of the kind, after the first `at` bytes of the slice `out`.
 /// Returns the offset after the written bytes.
 fn put_ascii(out: &mut [u8], at: usize, kind: Kind, c: char) -> usize
-    requires kind { IsTrue (holds_characters kind) }
+    requires kind { IsTrue (decodes_to_chars kind) }
     requires room { at + length (ascii_text kind c) ≤ length out.old }
     ensures end { result ≡ at + length (ascii_text kind c) }
     ensures bytes { take result out.new ≡ take at out.old ++ ascii_text kind c }
     ensures len { length out.new ≡ length out.old }
 {
     if c >= '\u{80}' {
-        return put_unicode(out, at, c);
+        return put_unicode_escape(out, at, c);
     }
     match escape(kind, c, &mut [0; 4]) {
         Some(text) => put_text(out, at, text),

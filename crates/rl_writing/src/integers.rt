@@ -6,7 +6,7 @@ ghost use Rattle.rl_writing.specs.Integers.{suffix_text};
 ghost use Rattle.rl_writing.specs.WrittenIntegers.{IsWrittenInteger};
 
 use crate::base::Base;
-use crate::numerals::{group_size_for, put_grouped, put_reversed};
+use crate::numerals::{digit_group_size, put_digits_reversed, put_grouped};
 use rl_syntax::IntegerType;
 use rl_syntax::slice_writer::put_text;
 
@@ -52,9 +52,9 @@ pub fn write_integer_into(
     ensures within { result ≤ 262 }
 {
     let mut room = [0; 128];
-    let count = put_reversed(value, style.base.radix(), style.upper, &mut room);
+    let count = put_digits_reversed(value, style.base.radix(), style.upper, &mut room);
     let at = put_text(out, 0, style.base.prefix());
-    let size = group_size_for(style.group, style.least, count);
+    let size = digit_group_size(style.group, style.least, count);
     let at = put_grouped(out, at, &room[..count], size);
     put_text(out, at, suffix_of(suffix))
 }

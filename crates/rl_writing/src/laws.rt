@@ -13,15 +13,15 @@ pub fn a_numeral_has_no_zero_in_front()
     ensures { ANumeralHasNoZeroInFront }
 {}
 
-/// An integer with fewer digits than the style's field `least` is written without underscores. An integer with that
-/// many digits or more is written as if `least` were 0.
+/// An integer with fewer digits than the style's field `least` is written without underscores. An integer with `least` digits
+/// or more is written as if `least` were 0.
 pub fn few_digits_are_not_grouped()
     ensures few { FewDigitsAreNotGrouped }
     ensures others { EnoughDigitsAreGrouped }
 {}
 
-/// All raw strings of one kind and value have the same text between the quotes. If no raw string can contain that text,
-/// no raw string has the value.
+/// All raw strings of one kind and value have one text between their quotes. If no raw string can contain this text, no raw
+/// string has the value.
 pub fn a_raw_string_has_one_text_inside()
     ensures { ARawStringHasOneTextInside }
 {}

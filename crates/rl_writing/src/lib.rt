@@ -14,13 +14,13 @@
 //!
 //! use rl_writing::write_str_ascii_into;
 //!
-//! pub fn write_ascii(text: &str, out: &mut [u8]) -> usize
+//! pub fn write_ascii_string_literal(text: &str, out: &mut [u8]) -> usize
 //!     requires { 4 * length text.now + 2 ≤ length out.old }
 //!     ensures reads { Reads (chars (take result out.new)) Str (Characters (chars text.now)) [] }
 //! {
 //!     write_str_ascii_into(text, out)
 //! }
-//! // write_ascii("é", &mut [0; 64]) == 8
+//! // write_ascii_string_literal("é", &mut [0; 64]) == 8
 //! ```
 #![tactic(auto)]
 
@@ -32,9 +32,9 @@ pub mod laws;
 mod numerals;
 mod raw_strings;
 
-pub use crate::ascii::{put_unicode, write_char_ascii_into, write_str_ascii_into};
+pub use crate::ascii::{put_unicode_escape, write_char_ascii_into, write_str_ascii_into};
 pub use crate::base::Base;
 pub use crate::hiding::{is_invisible_or_bidi, needs_escape};
 pub use crate::integers::{IntegerStyle, write_integer_into};
-pub use crate::numerals::{ends_group, group_size_for};
-pub use crate::raw_strings::{raw_form, raw_hashes, write_raw_into};
+pub use crate::numerals::{digit_group_size, is_digit_group_end};
+pub use crate::raw_strings::{min_raw_hashes, raw_text_and_hashes, write_raw_into};

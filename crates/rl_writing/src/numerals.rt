@@ -2,7 +2,7 @@
 
 ghost use Rattle.std.specs.Prelude.{◌≡◌, ◌+◌, ◌/◌, ◌%◌, ◌^◌, ◌++◌, ◌<◌, ◌≤◌, length, reverse, take};
 ghost use Rattle.std.specs.Fmt.{digit_glyph};
-ghost use Rattle.rl_writing.specs.Integers.{ends_group, group_size, grouped, numeral};
+ghost use Rattle.rl_writing.specs.Integers.{is_digit_group_end, group_size, grouped, numeral};
 
 use rl_syntax::slice_writer::put_byte;
 
@@ -39,9 +39,9 @@ fn divided(number: u128, by: u8) -> (u128, u8)
     }
 }
 
-/// Writes the digits of `value` in the base `radix` to the start of `room`, the last digit first, and returns their
-/// number. The value must fit as many bits as `room` has bytes.
-pub fn put_reversed(value: u128, radix: u8, upper: bool, room: &mut [u8]) -> usize
+/// Writes the digits of `value` in the base `radix` to the start of `room`, the last digit first, and returns the number of
+/// digits. The value must fit as many bits as `room` has bytes.
+pub fn put_digits_reversed(value: u128, radix: u8, upper: bool, room: &mut [u8]) -> usize
     requires low { 2 ≤ radix }
     requires high { radix ≤ 16 }
     requires some { 0 < length room.old }
@@ -64,7 +64,7 @@ pub fn put_reversed(value: u128, radix: u8, upper: bool, room: &mut [u8]) -> usi
 
 /// Returns the size of the groups in which `count` digits are written: 0, which means no groups, if `count` is below
 /// `least`, and otherwise `group`.
-pub fn group_size_for(group: usize, least: usize, count: usize) -> usize
+pub fn digit_group_size(group: usize, least: usize, count: usize) -> usize
     ensures { result ≡ group_size group least count }
 {
     if count < least { 0 } else { group }
@@ -73,8 +73,8 @@ pub fn group_size_for(group: usize, least: usize, count: usize) -> usize
 /// Returns `true` if a group of `group` digits ends after `digits` digits, so that an underscore separates it from the next
 /// digit. The digits are counted from the end of the number at which the first group begins. If `digits` or `group` is 0, the
 /// result is `false`.
-pub fn ends_group(group: usize, digits: usize) -> bool
-    ensures { result ≡ ends_group group digits }
+pub fn is_digit_group_end(group: usize, digits: usize) -> bool
+    ensures { result ≡ is_digit_group_end group digits }
 {
     group > 0 && digits > 0 && digits % group == 0
 }
@@ -93,7 +93,7 @@ pub fn put_grouped(out: &mut [u8], at: usize, digits: &[u8], group: usize) -> us
     while left > 0 {
         left -= 1;
         end = put_byte(out, end, digits[left]);
-        if ends_group(group, left) {
+        if is_digit_group_end(group, left) {
             end = put_byte(out, end, b'_');
         }
     }

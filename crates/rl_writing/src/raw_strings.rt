@@ -3,7 +3,7 @@
 ghost use Rattle.std.specs.Prelude.{◌≡◌, ◌+◌, ◌*◌, ◌++◌, ◌≤◌, ℕ, List, IfNone, IfSome, IsFalse, IsTrue, encode_utf8_all, length, replicate, take};
 ghost use Rattle.std.specs.Str.{all_scalars, chars, IsUtf8};
 ghost use Rattle.rl_syntax.specs.Texts.{code};
-ghost use Rattle.rl_syntax.specs.Quoted.{holds_characters, is_string, raw_opener};
+ghost use Rattle.rl_syntax.specs.Quoted.{decodes_to_chars, is_string, raw_opener};
 ghost use Rattle.rl_syntax.specs.Reading.{Bytes};
 ghost use Rattle.rl_writing.specs.Mirrors.RawSteps.{hashes_opened, raw_may_contain};
 ghost use Rattle.rl_writing.specs.RawStrings.{raw_contents, raw_text, HasFewestHashes, HasNoRaw};
@@ -23,9 +23,9 @@ fn raw_may_contain(kind: Kind, c: char) -> bool
     }
 }
 
-/// Returns the number of hashes that a raw string needs so that it doesn't end after the character `c`: 1 after a
-/// quote, one more after each hash that follows a quote directly, and 0 after any other text. `opened` is the result
-/// for the character before `c`.
+/// Returns the number of hashes that a raw string needs so that it doesn't end after the character `c`. It is 1 after a quote,
+/// one more after each hash that directly follows a quote or its hashes, and 0 otherwise. `opened` is the result for the
+/// character before `c`.
 fn hashes_opened(opened: usize, c: char) -> usize
     requires { opened + 1 ≤ usize.MAX }
     ensures { result ≡ hashes_opened opened c }
@@ -43,7 +43,7 @@ fn hashes_opened(opened: usize, c: char) -> usize
 /// Returns `None` if no raw string of the kind can contain the text: if it contains a CR, in a byte string a non-ASCII
 /// character, in a C string a NUL, or if it needs more than 255 hashes (the Rust Reference, sections Raw string
 /// literals, Raw byte string literals, Raw C string literals).
-pub fn raw_hashes(kind: Kind, text: &str) -> Option<usize>
+pub fn min_raw_hashes(kind: Kind, text: &str) -> Option<usize>
     requires { IsTrue (is_string kind) }
     ensures some { IfSome result (HasFewestHashes kind (chars text.now)) }
     ensures none { IfNone result (HasNoRaw kind (chars text.now)) }
@@ -62,14 +62,14 @@ pub fn raw_hashes(kind: Kind, text: &str) -> Option<usize>
     if needed < 256 { Some(needed) } else { None }
 }
 
-/// Returns the text between the quotes of the raw byte string or raw C string whose value is the bytes `value`, and the
-/// fewest hashes for it, as [`raw_hashes`] returns them.
+/// Returns the text between the quotes of the raw byte string or raw C string whose value is the bytes `value`, and the fewest
+/// hashes for it, as [`min_raw_hashes`] returns them.
 ///
-/// Returns `None` if no raw string has this value: the bytes aren't UTF-8, which every literal is, or `raw_hashes`
-/// returns `None` for them.
-pub fn raw_form(kind: Kind, value: &[u8]) -> Option<(&str, usize)>
+/// Returns `None` if no raw string has this value. Either the bytes aren't UTF-8, and can't be in a literal, or
+/// `min_raw_hashes` returns `None` for them.
+pub fn raw_text_and_hashes(kind: Kind, value: &[u8]) -> Option<(&str, usize)>
     requires string { IsTrue (is_string kind) }
-    requires bytes { IsFalse (holds_characters kind) }
+    requires bytes { IsFalse (decodes_to_chars kind) }
     ensures text { IfSome result (λ form. form.0.now ≡ value.now) }
     ensures some { IfSome result (λ form. HasFewestHashes kind (chars form.0.now) form.1) }
     ensures holds { IfSome result (λ form. raw_contents kind (chars form.0.now) ≡ Bytes value.now) }
@@ -79,7 +79,7 @@ pub fn raw_form(kind: Kind, value: &[u8]) -> Option<(&str, usize)>
     let Ok(text) = std::str::from_utf8(value) else {
         return None;
     };
-    match raw_hashes(kind, text) {
+    match min_raw_hashes(kind, text) {
         Some(hashes) => Some((text, hashes)),
         None => None,
     }
@@ -113,7 +113,7 @@ fn raw_opener(kind: Kind) -> &'static str
     }
 }
 
-/// Writes the raw string of the kind that contains `text`, with `hashes` hashes, to the start of `out`. [`raw_hashes`]
+/// Writes the raw string of the kind that contains `text`, with `hashes` hashes, to the start of `out`. [`min_raw_hashes`]
 /// returns the fewest hashes for a text.
 ///
 /// Returns the literal's length in bytes: at most that of the text, plus twice the hashes, plus four. `out` must have

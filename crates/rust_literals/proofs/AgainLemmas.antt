@@ -10,7 +10,7 @@ use Rattle.rl_fronts.specs.Fronts.{IsFront}
 use Rattle.rl_syntax.specs.Printed.{Item, WordItem, LiteralItem, MinusItem, item_text, Entry, printed_text, token_at}
 use Rattle.rl_tokens.specs.PrintedTrees.{printed_trees, IsLexedItem, Reprinted}
 use Rattle.rl_tokens.proofs.CutTrees.{IsCutTree, lexed_trees}
-use Rattle.rl_tokens.proofs.PrintedLaws.{reprinted_lexes}
+use Rattle.rl_tokens.proofs.PrintedLaws.{reprinted_literals_lex_to_themselves}
 use Rattle.rl_lenient.proofs.MinusLemmas.{minus_chars}
 use Rattle.rust_literals.specs.declared.lit.Lit.{Lit}
 use Rattle.rl_syntax.specs.Reading.{IsReadAs}
@@ -188,6 +188,6 @@ again_read text file r exactly spaced last again =
     holds_exactly (SameButSpans (lits_of spaced)) lits r moved
     (exactly lits (record {
       trees = printed_trees file 0 entries;
-      lexes = reprinted_lexes (chars text) entries last file reprinted;
+      lexes = reprinted_literals_lex_to_themselves (chars text) entries last file reprinted;
       leads = items_lead file 0 entries lits (items_front spaced cuts) are;
     }))

@@ -10,7 +10,7 @@ use Rattle.rl_syntax.specs.Trivia.{IsTrivia}
 use Rattle.rl_syntax.specs.Printed.{Item, WordItem, LiteralItem, MinusItem, item_text, Entry, printed_text, token_at, IsStrictItem, Printed}
 use Rattle.rl_tokens.specs.PrintedTrees.{printed_trees}
 use Rattle.rl_syntax.proofs.Basics.{scalars_parts}
-use Rattle.rl_tokens.proofs.PrintedLaws.{printed_lexes}
+use Rattle.rl_tokens.proofs.PrintedLaws.{printed_literals_lex_to_their_trees}
 use Rattle.rl_fronts.proofs.FrontLemmas.{truth_reads}
 use Rattle.rust_literals.specs.declared.lit.Lit.{Lit}
 use Rattle.rust_literals.specs.Parsing.{AreRead}
@@ -97,7 +97,7 @@ printed_read {A} text file r utf8 exactly entries last printed =
     (ap scalars (sym printed.text) ∙ scalars-chars text utf8) in
     let read : AreRead (chars text) file lits = record {
       trees = printed_trees file 0 entries;
-      lexes = printed_lexes (chars text) entries last file printed;
+      lexes = printed_literals_lex_to_their_trees (chars text) entries last file printed;
       leads = items_lead file 0 entries lits fronts (items_read_at file 0 entries lits are);
     } in
     holds_exactly (AreItems file 0 entries) lits r are (exactly lits read)

@@ -126,13 +126,13 @@ pub(crate) fn take_next<A: Allocator + Copy>(
 /// use rust_literals::{Lit, push_next_literal};
 /// use std::alloc::Global;
 ///
-/// pub fn after_literal(alloc: Global, text: &str) -> Option<&str> {
+/// pub fn text_after_literal(alloc: Global, text: &str) -> Option<&str> {
 ///     let mut tokens = Tokens::new(text);
 ///     let mut list: Vec<Lit> = Vec::new(alloc);
 ///     let is_read = push_next_literal(alloc, &mut tokens, 0, &mut list).ok()?;
 ///     is_read.then_some(tokens.rest())
 /// }
-/// // after_literal(alloc, "1.5, 2") == Some(", 2")
+/// // text_after_literal(alloc, "1.5, 2") == Some(", 2")
 /// ```
 ///
 /// [`Literals`]: crate::Literals

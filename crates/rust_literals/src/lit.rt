@@ -16,7 +16,7 @@ use crate::lit_float::LitFloat;
 use crate::lit_int::LitInt;
 use crate::number::{Number, NumberKind};
 use rl_fronts::Front;
-use rl_lenient::{Found, find};
+use rl_lenient::{Found, parse_literal};
 use rl_quoted::{LitByte, LitByteStr, LitCStr, LitChar, LitStr, Quoted, QuotedKind};
 use rl_syntax::Kind;
 use rl_tokens::{Error, Kept, Literal, Parse, ParseBuffer, Span, Token};
@@ -31,7 +31,7 @@ use std::alloc::{Allocator, Global};
 /// use rust_literals::Lit;
 /// use std::alloc::Global;
 ///
-/// pub fn code_of(alloc: Global, text: &str) -> Option<u32> {
+/// pub fn value_as_number(alloc: Global, text: &str) -> Option<u32> {
 ///     let token = Literal::from_text(alloc, text, Span::call_site()).ok()?;
 ///     match Lit::new(alloc, token).ok()? {
 ///         Lit::Byte(byte) => Some(byte.value() as u32),
@@ -40,8 +40,8 @@ use std::alloc::{Allocator, Global};
 ///         _ => None,
 ///     }
 /// }
-/// // code_of(alloc, "b'a'") == Some(97)
-/// // code_of(alloc, "true") == Some(1)
+/// // value_as_number(alloc, "b'a'") == Some(97)
+/// // value_as_number(alloc, "true") == Some(1)
 /// ```
 #[derive(Drop)]
 pub enum Lit<A: Allocator = Global> {
@@ -140,7 +140,7 @@ impl<A: Allocator> Lit<A> {
         ensures strict_after_minus { KeepsStrictAfterMinus (chars token.text) }
         ensures strict_bytes { KeepsBytesStrict (chars token.text) }
     {
-        let found = find(token.text());
+        let found = parse_literal(token.text());
         Lit::of_found(alloc, token, found)
     }
 
@@ -263,13 +263,13 @@ impl<A: Allocator> Lit<A> {
 fn of_front<A: Allocator + Copy>(alloc: A, front: &Front<'_, A>) -> Option<Lit<A>>
     ensures { IfSome result (IsReadFrom (front_token front.now)) }
 {
-    if let Some(value) = front.truth() {
+    if let Some(value) = front.bool_value() {
         return Some(Lit::Bool(LitBool::new(value, front.span())));
     }
     let Ok(token) = front.token(alloc) else {
         return None;
     };
-    match Lit::of_found(alloc, token, front.find()) {
+    match Lit::of_found(alloc, token, front.parse_result()) {
         Ok(literal) => Some(literal),
         Err(_) => None,
     }
@@ -294,7 +294,7 @@ impl<A: Allocator + Copy> Parse<A> for Lit<A> {
                 *input = ahead;
                 Ok(literal)
             }
-            None => Err(Error::memory(input.span())),
+            None => Err(Error::out_of_memory(input.span())),
         }
     }
 }

@@ -84,7 +84,7 @@ impl<A: Allocator> Parse<A> for LitBool {
         let Some(front) = Front::take(&mut ahead) else {
             return Err(input.error("boolean literal"));
         };
-        let Some(value) = front.truth() else {
+        let Some(value) = front.bool_value() else {
             let error = input.error("boolean literal");
             *input = ahead;
             return Err(error);

@@ -182,7 +182,7 @@ impl<K: NumberKind, A: Allocator> Number<K, A> {
                 of: PhantomData,
             }),
             Err(_) => {
-                let error = Error::memory(token.span());
+                let error = Error::out_of_memory(token.span());
                 Err(Kept {
                     value: token,
                     error,
@@ -268,7 +268,12 @@ impl<K: NumberKind, A: Allocator + Copy> Parse<A> for Number<K, A> {
 
     fn parse(alloc: A, input: &mut ParseBuffer<'_, A>) -> Result<Number<K, A>, Error<A>> {
         let before = input.fork();
-        let (token, found) = match take_literal_of_kind(alloc, input, K::KIND, K::KIND.word()) {
+        let (token, found) = match take_literal_of_kind(
+            alloc,
+            input,
+            K::KIND,
+            K::KIND.description(),
+        ) {
             Ok(taken) => taken,
             Err(error) => return Err(error),
         };
@@ -276,7 +281,7 @@ impl<K: NumberKind, A: Allocator + Copy> Parse<A> for Number<K, A> {
             Ok(literal) => Ok(literal),
             Err(_) => {
                 *input = before;
-                Err(Error::memory(input.span()))
+                Err(Error::out_of_memory(input.span()))
             }
         }
     }
@@ -296,6 +301,6 @@ impl<K: NumberKind, A: Allocator> Token for Number<K, A> {
     }
 
     fn display() -> &'static str {
-        K::KIND.shown()
+        K::KIND.display_name()
     }
 }

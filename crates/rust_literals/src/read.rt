@@ -50,7 +50,7 @@ fn read_on<A: Allocator + Copy>(
             // The literal is dropped by a function call, because dropping it in place would double the number of steps
             // to prove.
             drop(failed);
-            return Err(Error::memory(Span::call_site()));
+            return Err(Error::out_of_memory(Span::call_site()));
         }
     }
     Ok(list)
@@ -116,13 +116,13 @@ pub(crate) fn read_after<A: Allocator + Copy>(
 /// use rust_literals::read_all;
 /// use std::alloc::Global;
 ///
-/// pub fn first_flaw(alloc: Global, text: &str) -> Option<(&'static str, usize)> {
+/// pub fn first_value_flaw(alloc: Global, text: &str) -> Option<(&'static str, usize)> {
 ///     let literals = read_all(alloc, text, 0).ok()?;
 ///     let literal = literals.as_slice().first()?;
 ///     let flaw = explain_value(literal.text(), LineEnds::Text, true)?;
 ///     Some((flaw.kind.message(), flaw.in_span(literal.span()).lo))
 /// }
-/// // first_flaw(alloc, "\"a\\q\" 1") == Some(("unknown escape", 3))
+/// // first_value_flaw(alloc, "\"a\\q\" 1") == Some(("unknown escape", 3))
 /// ```
 pub fn read_all<A: Allocator + Copy>(
     alloc: A,

@@ -15,7 +15,7 @@ ghost use Rattle.rl_attributes.specs.NextEntries.{value_token, IsEntryOf};
 use super::name::Name;
 use super::{Attrs, Entry};
 use rl_lenient::NextLiteral;
-use rl_settings::{NextSetting, SettingStep, first_error, settings_step};
+use rl_settings::{NextSetting, SettingStep, first_error, next_setting};
 use rl_tokens::{Error, Literal, Span, Tokens, parse_all};
 use rust_literals::Lit;
 use std::alloc::{AllocError, Allocator};
@@ -83,7 +83,7 @@ fn read_flat<A: Allocator + Copy>(alloc: A, text: &str, file: u32) -> Option<Att
     let mut names = BTreeSet::new(alloc);
     let mut entries = Vec::new(alloc);
     while !tokens.rest().is_empty() {
-        let SettingStep::Setting(next) = settings_step(&mut tokens, text.len()) else {
+        let SettingStep::Setting(next) = next_setting(&mut tokens, text.len()) else {
             return None;
         };
         if !add_name(&mut names, next.name.text) {
@@ -137,7 +137,7 @@ pub fn read<A: Allocator + Copy>(alloc: A, text: &str, file: u32) -> Result<Attr
     // The whole text is lexed into the token trees of the returned attributes.
     ensures attributes { IfOk result
         (λ attrs. AreAttributesOf (chars text.now) file (attributes_of (entries_of attrs))) }
-    // The span for missing names, `Attrs::end`, is the empty span at the text's end.
+    // The span for missing names, `Attrs::end_span`, is the empty span at the text's end.
     ensures end { IfOk result (λ attrs. attrs_end attrs ≡ place_at file (length text.now)) }
     // Each attribute's value is parsed from the text of its literal.
     ensures values { IfOk result (λ attrs. All IsReadEntry (entries_of attrs)) }

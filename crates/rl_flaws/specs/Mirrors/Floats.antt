@@ -1,4 +1,4 @@
--- Executable models of `float_range.rs`, on lists of characters.
+-- Executable models of `float_range.rt`, on lists of characters.
 use Rattle.std.specs.Prelude.{ℕ, ◌==◌, nat_lt, Bool, true, List, [], ◌∷◌, cond, IsTrue, IsFalse}
 use Rattle.std.specs.Char.{is_ascii_digit}
 use Rattle.std.specs.List.{list_all}
@@ -9,8 +9,8 @@ use Rattle.rl_syntax.specs.Classes.{after_run}
 abbrev pub without_zeros : List ℕ → List ℕ
 without_zeros ds = after_run (λ d. d == code "0") ds
 
--- The number with the digits `digits` is at least the one with the digits of the second list. The first digits have the same
--- power of ten.
+-- The number with the first list of digits is at least the number with the second list. The first digits of both lists have
+-- one power of ten.
 abbrev pub not_below : List ℕ → List ℕ → Bool
 not_below digits [] = true
 not_below [] (b ∷ bs) = cond (code "0" == b) (not_below [] bs) (nat_lt b (code "0"))

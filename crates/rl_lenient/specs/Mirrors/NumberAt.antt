@@ -16,7 +16,7 @@ run test (c ∷ cs) = if test c then (c ∷ run test cs) else []
 abbrev pub has_value : ℕ → ℕ → Bool
 has_value radix c = nat_lt (digit_value c) radix
 
--- The number, or `None` if it is above 128 bits.
+-- Returns the number, or `None` if the number is above 128 bits.
 abbrev pub capped : ℕ → Option ℕ
 capped n = if nat_le n limit then Some n else None
 
@@ -24,8 +24,8 @@ abbrev pub append_digit : ℕ → Option ℕ → ℕ → Option ℕ
 append_digit radix None d = None
 append_digit radix (Some v) d = capped (v * radix + d)
 
--- The parse result of the digits and underscores at the start of a text: whether there is a digit, their number within
--- 128 bits, and the text after them. `some` and `m` are the first two results for the text before.
+-- The parse result of the digits and underscores at the start of a text: whether there is a digit, their number within 128 bits,
+-- and the text after them. The arguments `some` and `m` are the first two results for the digits before the text.
 unfoldable pub run_from : ℕ → Bool → Option ℕ → List ℕ → Bool × Option ℕ × List ℕ
 run_from radix some m [] = (some, m, [])
 run_from radix some m (c ∷ cs) =
@@ -47,12 +47,12 @@ magnitude_at radix t = place_value radix (without_underscores (digit_run_at radi
 abbrev pub after_digits : ℕ → List ℕ → List ℕ
 after_digits radix t = after_run (is_run_part (has_value radix)) t
 
--- The text may be the suffix of a number: it is empty, or an identifier that doesn't begin with `_`.
+-- Whether a text may be the suffix of a number: it is empty, or an identifier that doesn't begin with `_`.
 abbrev pub is_suffix : List ℕ → Bool
 is_suffix [] = true
 is_suffix (c ∷ cs) = not (is_underscore c) && xid_ok (c ∷ cs)
 
--- The text after a decimal integer's digits is an exponent, so that the number is a float.
+-- Whether a text after a decimal integer's digits is an exponent, so that the number is a float.
 unfoldable pub is_exponent_suffix : List ℕ → Bool
 is_exponent_suffix [] = false
 is_exponent_suffix (c ∷ cs) =
@@ -78,8 +78,8 @@ radix_at (z ∷ []) = (10, z ∷ [])
 radix_at (z ∷ c ∷ cs) =
     if z == code "0" && not (radix_of c == 10) then (radix_of c, cs) else (10, z ∷ c ∷ cs)
 
--- A number in the base may begin with the text: in base ten, the text begins with a digit. `may_end` is the condition
--- on the number's suffix.
+-- Whether the text after the prefix of a base may begin a number: in base ten, the text begins with a digit. `may_end` is the
+-- condition on the number's suffix.
 abbrev pub may_begin_number : ℕ → List ℕ → Bool
 may_begin_number radix t = not (radix == 10) || first_passes is_ascii_digit t
 
@@ -96,7 +96,7 @@ abbrev pub with_sign : Sign → Option (ℕ × List ℕ) → Option (Sign × ℕ
 with_sign sign None = None
 with_sign sign (Some p) = Some (sign, p.0, p.1)
 
--- The sign, the magnitude and the suffix of the integer literal that the text is. `None` if it isn't one.
+-- The sign, the magnitude and the suffix of a text that is an integer literal. `None` if the text isn't an integer literal.
 unfoldable pub int_at : List ℕ → Option (Sign × ℕ × List ℕ)
 int_at t =
     with_sign (sign_at t) (based_at (radix_at (after_minus t)).0 (radix_at (after_minus t)).1)
@@ -115,12 +115,11 @@ pub record IsHead (unsigned : List ℕ) (radix : ℕ) (some : Bool) (magnitude :
   pub within : magnitude ≡ capped (magnitude_at (radix_at unsigned).0 (radix_at unsigned).1)
   pub rest_is : rest ≡ after_digits (radix_at unsigned).0 (radix_at unsigned).1
 
--- The magnitude and the suffix of an integer with these digits, or `None` if the text after them isn't an integer's
--- suffix.
+-- The magnitude and the suffix of an integer with the given digits, or `None` if the text after them isn't an integer's suffix.
 abbrev pub ended_at : ℕ → Bool → Option ℕ → List ℕ → Option (Option ℕ × List ℕ)
 ended_at radix some m x = if some && may_end radix x then Some (m, x) else None
 
--- The text after the dot at its start and the digits after the dot, or the text itself if it doesn't begin with a dot.
+-- The text after the fraction at its start, which is a dot and digits. The text itself if it doesn't begin with a dot.
 abbrev pub after_fraction : List ℕ → List ℕ
 after_fraction [] = []
 after_fraction (c ∷ cs) = if c == code "." then after_digits 10 cs else (c ∷ cs)
@@ -129,8 +128,8 @@ abbrev pub after_power_sign : List ℕ → List ℕ
 after_power_sign [] = []
 after_power_sign (c ∷ cs) = if c == code "+" || c == code "-" then cs else (c ∷ cs)
 
--- The text from the digits of an exponent on: after underscores and a sign. The letter `e` or `E` precedes the given
--- text.
+-- The text from the digits of an exponent on. The given text follows the exponent's letter, `e` or `E`, and its leading
+-- underscores and sign are dropped.
 unfoldable pub power_at : List ℕ → List ℕ
 power_at t = after_power_sign (after_run is_underscore t)
 
@@ -147,7 +146,7 @@ float_tail_at t =
     if is_suffix (after_exponent (after_fraction t)) then Some (after_exponent (after_fraction t))
     else None
 
--- The suffix of the float literal that the text is. `None` if it isn't one.
+-- The suffix of a text that is a float literal. `None` if the text isn't a float literal.
 unfoldable pub float_at : List ℕ → Option (List ℕ)
 float_at t =
     if first_passes is_ascii_digit (after_minus t)

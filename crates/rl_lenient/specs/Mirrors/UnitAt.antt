@@ -5,7 +5,7 @@ use Rattle.std.specs.Char.{IsScalar, digit_value}
 use Rattle.std.proofs.Math.Utf8.{scalar}
 use Prim.Native.Char.{code}
 use Rattle.rl_syntax.specs.declared.kind.Kind.{Kind}
-use Rattle.rl_syntax.specs.Quoted.{content_of, holds_characters, is_line_end, is_string, is_plain, allows_code, may_be_hex, allows_unicode_escapes}
+use Rattle.rl_syntax.specs.Quoted.{content_of, decodes_to_chars, is_line_end, is_string, is_plain, allows_code, may_be_hex, allows_unicode_escapes}
 use Rattle.rl_syntax.specs.Texts.{begins_char, is_blank}
 use Rattle.rl_lenient.specs.declared.units.Piece.{Piece}
 use Rattle.rl_lenient.specs.declared.units.Piece.TheVariants.{Character, Byte, Nothing}
@@ -20,7 +20,7 @@ piece_value kind Nothing = []
 -- byte is ASCII if the literal consists of characters.
 abbrev pub IsHeldBy : Kind → Piece → Type 0
 IsHeldBy kind (Character c) = IsScalar c
-IsHeldBy kind (Byte b) = IsTrue (not (holds_characters kind) || nat_lt b 128)
+IsHeldBy kind (Byte b) = IsTrue (not (decodes_to_chars kind) || nat_lt b 128)
 IsHeldBy kind Nothing = ⊤
 
 abbrev pub is_character : Piece → Bool
@@ -38,7 +38,7 @@ infixl 10 ◌>>=◌
 abbrev pub ◌>>=◌ : {A B : Type 0} → Option A → (A → Option B) → Option B
 o >>= f = option_and_then f o
 
--- A number and the text after it, or `None` if the number isn't allowed.
+-- A number and the text after it, if the number is allowed. `None` if the number isn't allowed.
 abbrev pub number_if : Bool → ℕ → List ℕ → Option (ℕ × List ℕ)
 number_if allowed n rest = if allowed then Some (n, rest) else None
 
@@ -86,8 +86,8 @@ CodeDigits = ℕ × ℕ × List ℕ × List ℕ
 abbrev pub code_digits : ℕ → ℕ → List ℕ → List ℕ → CodeDigits
 code_digits v n last rest = (v, n, last, rest)
 
--- The digits of an escape `\u{..}`, up to the sixth, with underscores. The first three arguments are those that were
--- parsed before.
+-- The digits of an escape `\u{..}`, up to the sixth, with underscores. The first three arguments are the number, the count and
+-- the text from the last digit on, of the digits that were parsed before.
 unfoldable pub code_digits_at : ℕ → ℕ → List ℕ → List ℕ → CodeDigits
 code_digits_at v n last [] = code_digits v n last []
 code_digits_at v n last (c ∷ cs) =

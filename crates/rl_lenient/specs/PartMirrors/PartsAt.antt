@@ -3,7 +3,8 @@ use Rattle.std.specs.Prelude.{ℕ, ◌==◌, List, [], ◌∷◌, Option, Some, 
 use Prim.Native.Char.{code}
 use Rattle.rl_lenient.specs.Mirrors.NumberAt.{after_digits, digit_run_at}
 
--- The digits after the dot at a text's start, or `None` if it doesn't begin with a dot, and the text after them.
+-- The digits after the dot at the start of a text, and the text after these digits. If the text doesn't begin with a dot, the
+-- result has `None` and the text itself.
 abbrev pub fraction_at : List ℕ → Option (List ℕ) × List ℕ
 fraction_at [] = (None, [])
 fraction_at (c ∷ t) = cond (c == code ".") (Some (digit_run_at 10 t), after_digits 10 t) (None, c ∷ t)

@@ -10,7 +10,7 @@ use Rattle.rl_lexer.specs.Lexemes.{is_base_letter, delimiters, marks, begins_has
 use Rattle.rl_lexer.specs.Cuts.{begins_lifetime}
 use Rattle.rl_syntax.specs.Classes.{after_run, is_hash}
 
--- The text begins with any number of hashes, and a quote.
+-- Whether a text begins with any number of hashes, and a quote.
 abbrev pub begins_hashed_quote : List ℕ → Bool
 begins_hashed_quote t = begins_char (code "\"") (after_run is_hash t)
 
@@ -24,7 +24,7 @@ begins_raw (c ∷ cs) =
     (c == code "r" && begins_hashed_quote cs)
     || begins_raw_after cs (c == code "b" || c == code "c")
 
--- The text begins with the opening delimiter of a quoted or raw literal, or with an apostrophe that doesn't begin a
+-- Whether a text begins with the opening delimiter of a quoted or raw literal, or with an apostrophe that doesn't begin a
 -- lifetime.
 abbrev pub begins_quote : List ℕ → Bool
 begins_quote r =
@@ -32,7 +32,7 @@ begins_quote r =
     || begins (codes "b'") r
     || (begins (codes "'") r && not (begins_lifetime r))
 
--- The text begins like a literal with a prefix, or like a raw identifier.
+-- Whether a text begins like a literal with a prefix, or like a raw identifier.
 abbrev pub begins_otherwise : List ℕ → Bool
 begins_otherwise [] = false
 begins_otherwise (c ∷ t) =
@@ -52,7 +52,7 @@ abbrev pub after_sign : List ℕ → List ℕ
 after_sign [] = []
 after_sign (c ∷ t) = cond (c == code "+" || c == code "-") t (c ∷ t)
 
--- The text begins with an exponent: `e` or `E`, a sign or no sign, any number of underscores, and a digit.
+-- Whether a text begins with an exponent: `e` or `E`, a sign or no sign, any number of underscores, and a digit.
 abbrev pub begins_exponent : List ℕ → Bool
 begins_exponent [] = false
 begins_exponent (c ∷ t) =
@@ -63,8 +63,8 @@ abbrev pub after_suffix : List ℕ → List ℕ
 after_suffix [] = []
 after_suffix (c ∷ t) = cond (is_start c) (after_run is_continue t) (c ∷ t)
 
--- The text after the quote that closes a string literal, or `None` if it isn't closed. A character after a backslash
--- doesn't close it.
+-- The text after the quote that closes a string literal, or `None` if the literal isn't closed. A quote after a backslash doesn't
+-- close it.
 abbrev pub after_quote : List ℕ → Option (List ℕ)
 after_quote [] = None
 after_quote (c ∷ []) = cond (c == code "\"") (Some []) None
@@ -77,7 +77,7 @@ abbrev pub hashes : List ℕ → ℕ
 hashes [] = zero
 hashes (c ∷ t) = cond (c == code "#") (suc (hashes t)) zero
 
--- The text after the quote and the n hashes that close a raw literal, or `None` if it isn't closed.
+-- The text after the quote and the n hashes that close a raw literal, or `None` if the literal isn't closed.
 abbrev pub after_raw : ℕ → List ℕ → Option (List ℕ)
 after_raw n [] = None
 after_raw n (c ∷ t) = cond (c == code "\"" && begins_hashes n t) (Some (drop n t)) (after_raw n t)
@@ -156,24 +156,24 @@ other_class c =
 abbrev pub head_class : ℕ → HeadClass
 head_class c = cond (is_start c) (start_class c) (other_class c)
 
--- The character begins a literal's prefix: `b`, `c` or `r`.
+-- Whether a character begins a literal's prefix: `b`, `c` or `r`.
 abbrev pub is_prefix_letter : ℕ → Bool
 is_prefix_letter c = c == code "b" || c == code "c" || c == code "r"
 
--- The character begins an identifier, whatever follows it.
+-- Whether a character begins an identifier, whatever text follows it.
 abbrev pub begins_word : ℕ → Bool
 begins_word c = not (is_prefix_letter c) && is_start c
 
--- After `b`, `c` or `r`, this character shows that the letter isn't a literal's prefix: it is at least `@`, and isn't
--- `r`. Quotes and hashes are below `@`.
+-- Whether a character after `b`, `c` or `r` shows that the letter isn't a literal's prefix: it is at least `@`, and isn't `r`.
+-- Quotes and hashes are below `@`.
 abbrev pub continues_word : ℕ → Bool
 continues_word c = nat_le 64 c && not (c == code "r")
 
--- The character is a delimiter or a punctuation character, whatever follows it.
+-- Whether a character is a delimiter or a punctuation character, whatever text follows it.
 abbrev pub is_always_token : ℕ → Bool
 is_always_token c = is_among delimiters c || is_among marks c
 
--- The character makes a comment together with a slash before it: it is `/` or `*`.
+-- Whether a character after a slash begins a comment: it is `/` or `*`.
 abbrev pub makes_comment : ℕ → Bool
 makes_comment c = c == code "/" || c == code "*"
 
@@ -215,7 +215,7 @@ abbrev pub lexeme_at : List ℕ → Option (LexemeForm × List ℕ)
 lexeme_at [] = None
 lexeme_at (c ∷ t) = by_class (head_class c) c t
 
--- A lexeme of this form begins the text `t`, and the text `rest` follows it.
+-- A lexeme of the given form begins the text `t`, and the text `rest` follows it.
 pub record FormBefore (t : List ℕ) (form : LexemeForm) (rest : List ℕ) : Type 0 where
   pub lexeme : Lexeme
   pub is_lexeme : IsLexeme lexeme rest

@@ -5,7 +5,7 @@ use Rattle.rl_syntax.specs.Texts.{byte_len, is_continue}
 use Rattle.rl_syntax.specs.Classes.{after_run}
 use Rattle.rl_lexer.specs.Skipping.{Skipped}
 use Rattle.rl_lexer.specs.Sources.{CutSource, IsCutUpTo, IsOtherToken}
-use Rattle.rl_syntax.specs.Mirrors.RunsAt.{is_word_byte}
+use Rattle.rl_syntax.specs.Mirrors.RunsAt.{is_ascii_id_continue}
 
 -- Between the start of `left` and `rest` there are only tokens that aren't literals. In every source that ends with
 -- `left`, these tokens are lexed next, however the source before them was lexed.
@@ -19,7 +19,7 @@ pub record HasOnlyOtherTokens (left rest : List ℕ) : Type 0 where
 -- The text after the rest of an identifier, if the byte `before` the text is an identifier character. Otherwise the
 -- text itself.
 abbrev pub past_word : ℕ → List ℕ → List ℕ
-past_word before t = cond (is_word_byte before) (after_run is_continue t) t
+past_word before t = cond (is_ascii_id_continue before) (after_run is_continue t) t
 
 -- Between the start of `t` and `rest` there are only white space, comments, and tokens that aren't literals.
 pub record Reaches (t rest : List ℕ) : Type 0 where

@@ -61,7 +61,8 @@ source_error_kind r = if begins (codes "/*") r then UnclosedComment else Unclose
 abbrev pub opens : List ℕ → Bool
 opens r = begins (codes "/*") r || (begins_quote r || begins_char (code "'") r)
 
--- An invalid quoted literal has no end at this character: it is a slash, or an LF without an apostrophe right after it.
+-- Whether a character shows that an invalid quoted literal has no end: it is a slash, or an LF without an apostrophe right after
+-- it.
 abbrev pub stops_quote : ℕ → List ℕ → Bool
 stops_quote c t = c == code "/" || (c == code "\n" && not (begins_char (code "'") t))
 
@@ -108,7 +109,7 @@ after_bare (c ∷ t) =
     (cond (is_start c) (option_and_then after_closing (after_any_name (c ∷ t)))
     (after_other (c ∷ t)))
 
--- The text after the invalid quoted literal at its start, or `None` if that has no end.
+-- The text after the invalid quoted literal at the start of a text, or `None` if the literal has no end.
 abbrev pub after_bad_quote : List ℕ → Option (List ℕ)
 after_bad_quote [] = None
 after_bad_quote (c ∷ t) =

@@ -11,7 +11,7 @@ ghost use Rattle.rl_lexer.specs.Mirrors.LexemeAt.{after_lexed_fraction, after_le
 ghost use Rattle.rl_syntax.specs.Classes.{after_run};
 
 use super::suffix::after_suffix;
-use rl_syntax::characters::is_start;
+use rl_syntax::characters::is_id_start;
 use rl_syntax::classes::{CharClass, skip_class};
 use rl_syntax::text::{split_ascii, split_char, without_first_char};
 
@@ -61,7 +61,7 @@ pub(crate) fn ends_number(text: &str) -> bool
         → IsTrue (first_passes (λ c. not (c == code "." || is_start c)) (chars text.now)) }
 {
     match split_ascii(text) {
-        Some((byte, _)) => !(byte == b'.' || is_start(byte as char)),
+        Some((byte, _)) => !(byte == b'.' || is_id_start(byte as char)),
         None => false,
     }
 }
@@ -85,7 +85,7 @@ fn begins_dot(text: &str) -> bool
 {
     match split_char(text) {
         Some(('.', following)) => match split_char(following) {
-            Some((next, _)) => !(next == '.' || is_start(next)),
+            Some((next, _)) => !(next == '.' || is_id_start(next)),
             None => true,
         },
         _ => false,

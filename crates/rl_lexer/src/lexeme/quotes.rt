@@ -60,7 +60,7 @@ fn after_quote(text: &str) -> Option<&str>
     ensures following { IfSome result (λ rest. IsTail text.now rest.now) }
 {
     let mut rest = text;
-    while let Some((mark, following)) = split_after_mark(Marks::two(b'"', b'\\'), rest) {
+    while let Some((mark, following)) = split_after_mark(Marks::from_two_bytes(b'"', b'\\'), rest) {
         if mark == b'"' {
             return Some(following);
         }
@@ -80,7 +80,7 @@ fn after_raw<'t>(hashes: &str, text: &'t str) -> Option<&'t str>
     ensures following { IfSome result (λ rest. IsTail text.now rest.now) }
 {
     let mut rest = text;
-    while let Some((_, following)) = split_after_mark(Marks::two(b'"', b'"'), rest) {
+    while let Some((_, following)) = split_after_mark(Marks::from_two_bytes(b'"', b'"'), rest) {
         if let Some(end) = after_prefix(hashes, following) {
             return Some(end);
         }

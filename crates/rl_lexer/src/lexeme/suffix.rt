@@ -5,7 +5,7 @@ ghost use Rattle.std.specs.Str.{chars};
 ghost use Rattle.rl_syntax.specs.Texts.{IsTail};
 ghost use Rattle.rl_lexer.specs.Mirrors.LexemeAt.{after_suffix};
 
-use rl_syntax::characters::is_start;
+use rl_syntax::characters::is_id_start;
 use rl_syntax::classes::{CharClass, skip_class};
 use rl_syntax::text::{split_ascii, split_char};
 
@@ -16,7 +16,7 @@ pub(crate) fn after_suffix(text: &str) -> &str
     ensures following { IsTail text.now result.now }
 {
     match split_ascii(text) {
-        Some((byte, _)) if !is_start(byte as char) => text,
+        Some((byte, _)) if !is_id_start(byte as char) => text,
         _ => after_some_suffix(text),
     }
 }
@@ -29,7 +29,7 @@ fn after_some_suffix(text: &str) -> &str
     ensures following { IsTail text.now result.now }
 {
     match split_char(text) {
-        Some((c, following)) if is_start(c) => skip_class(CharClass::Continue, following),
+        Some((c, following)) if is_id_start(c) => skip_class(CharClass::Continue, following),
         _ => text,
     }
 }

@@ -1,5 +1,5 @@
-//! Functions that find the end of invalid quoted literals, as `''` and `'ab'`. Each begins neither as a valid character
-//! literal nor as a lifetime, but ends before the text does.
+//! Functions that find the end of invalid quoted literals, as `''` and `'ab'`. Each begins like neither a valid
+//! character literal nor a lifetime, and has an end in the source.
 #![tactic(auto, using(rl_syntax::proofs::TailLemmas::tail_step))]
 
 ghost use Rattle.std.specs.Prelude.{◌≡◌, ◌<◌, length, option_map, IfSome};
@@ -9,8 +9,8 @@ ghost use Rattle.rl_lexer.specs.Mirrors.SourceAt.{after_part, after_next_quote, 
 
 use super::after_any_name;
 use crate::lexeme::after_suffix;
-use rl_syntax::characters::is_start;
-use rl_syntax::classes::skip_word;
+use rl_syntax::characters::is_id_start;
+use rl_syntax::classes::skip_id_continue;
 use rl_syntax::text::{begins_with_char, split_ascii, split_char, without_first_char};
 
 /// Returns the text after the invalid quoted literal at its start, as `'ab'` or `b'hello'`, or `None` if that has no
@@ -40,9 +40,9 @@ fn after_bare(text: &str) -> Option<&str>
 {
     let (c, following) = split_char(text)?;
     if c.is_ascii_digit() {
-        return Some(past_closing(skip_word(following)));
+        return Some(past_closing(skip_id_continue(following)));
     }
-    if is_start(c) {
+    if is_id_start(c) {
         return after_closing(after_any_name(text)?);
     }
     after_other(text)

@@ -19,7 +19,7 @@ opened (Raw n) body = code "r" ∷ (replicate n (code "#") ++ code "\"" ∷ body
 abbrev pub BeginsOpener : List ℕ → Opener → List ℕ → Type 0
 BeginsOpener t opener body = (p : LiteralPrefix) × (t ≡ prefix_text p ++ opened opener body)
 
--- Each literal with this opening delimiter, anywhere in the text, is unclosed.
+-- Each literal of the text that begins with the given opening delimiter is unclosed.
 abbrev pub NoneCloses : Opener → List ℕ → Type 0
 NoneCloses Quoted t = (front body : List ℕ) → t ≡ front ++ code "\"" ∷ body → after_quote body ≡ None
 NoneCloses (Raw n) t = after_raw n t ≡ None
@@ -29,13 +29,13 @@ pub record AreUnclosed (known : Unclosed) (t : List ℕ) : Type 0 where
   pub quoted : IsTrue known.quoted → NoneCloses Quoted t
   pub raw : IfSome known.raw (λ n. NoneCloses (Raw n) t)
 
--- The set of unclosed opening delimiters contains this opening delimiter.
+-- The given opening delimiter is in the set of unclosed opening delimiters.
 abbrev pub IsIncluded : Unclosed → Opener → Type 0
 IsIncluded known Quoted = IsTrue known.quoted
 IsIncluded known (Raw n) = IsSomeAnd known.raw (λ least. least ≤ n)
 
--- The state of a cursor over a source: the part that is being lexed, and the part's unread rest. The opening delimiters of the
--- set have no closing delimiter in the rest.
+-- The state of a cursor over a source is valid. The part that is lexed is an end of the source, and the rest is an end of the
+-- part. The opening delimiters of the set have no closing delimiter in the rest.
 pub record IsRecoveryState (whole part rest : List ℕ) (known : Unclosed) : Type 0 where
   pub is_text : IsUtf8 whole
   pub in_whole : IsTail whole part

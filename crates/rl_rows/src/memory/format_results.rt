@@ -30,14 +30,14 @@ pub(crate) fn format_result<T: FormatResult + Drop, E: FormatResult + Drop>(
 /// Appends a span: its file and its range.
 fn format_span(span: Span, page: &mut Page) {
     page.put(" ");
-    page.show(&span.file, "");
+    page.put_display(&span.file, "");
     put_places(":", span, page)
 }
 
 /// Appends a token's text in backticks, and its span.
 fn format_token(text: &str, span: Span, page: &mut Page) {
     page.put("`");
-    page.say(text, "`");
+    page.put_with_ending(text, "`");
     format_span(span, page)
 }
 
@@ -49,13 +49,13 @@ impl FormatResult for () {
 
 impl FormatResult for bool {
     fn append_result(&self, page: &mut Page) {
-        page.show(self, "")
+        page.put_display(self, "")
     }
 }
 
 impl FormatResult for i8 {
     fn append_result(&self, page: &mut Page) {
-        page.show(self, "")
+        page.put_display(self, "")
     }
 }
 
@@ -67,13 +67,13 @@ impl<A: Allocator> FormatResult for String<A> {
 
 impl<A: Allocator> FormatResult for Vec<u8, A> {
     fn append_result(&self, page: &mut Page) {
-        page.debug(&self.as_slice(), "")
+        page.put_debug(&self.as_slice(), "")
     }
 }
 
 impl<A: Allocator> FormatResult for CString<A> {
     fn append_result(&self, page: &mut Page) {
-        page.debug(&self.as_bytes(), "")
+        page.put_debug(&self.as_bytes(), "")
     }
 }
 
@@ -91,28 +91,28 @@ impl<A: Allocator> FormatResult for Ident<A> {
 
 impl<K: QuotedKind, A: Allocator> FormatResult for Quoted<K, A> {
     fn append_result(&self, page: &mut Page) {
-        page.debug(self, "");
+        page.put_debug(self, "");
         format_span(self.span(), page)
     }
 }
 
 impl<K: NumberKind, A: Allocator> FormatResult for Number<K, A> {
     fn append_result(&self, page: &mut Page) {
-        page.debug(self, "");
+        page.put_debug(self, "");
         format_span(self.span(), page)
     }
 }
 
 impl FormatResult for LitBool {
     fn append_result(&self, page: &mut Page) {
-        page.debug(self, "");
+        page.put_debug(self, "");
         format_span(self.span(), page)
     }
 }
 
 impl<A: Allocator> FormatResult for Lit<A> {
     fn append_result(&self, page: &mut Page) {
-        page.debug(self, "");
+        page.put_debug(self, "");
         format_span(self.span(), page)
     }
 }
@@ -142,21 +142,21 @@ impl FormatResult for AllocError {
 
 impl<A: Allocator> FormatResult for Error<A> {
     fn append_result(&self, page: &mut Page) {
-        page.show(self, "");
+        page.put_display(self, "");
         format_span(self.span, page)
     }
 }
 
 impl FormatResult for LexError {
     fn append_result(&self, page: &mut Page) {
-        page.show(&self.kind, " ");
-        page.show(&self.at, "")
+        page.put_display(&self.kind, " ");
+        page.put_display(&self.at, "")
     }
 }
 
 impl<A: Allocator> FormatResult for ProgramError<A> {
     fn append_result(&self, page: &mut Page) {
-        page.show(self, "")
+        page.put_display(self, "")
     }
 }
 
@@ -194,7 +194,7 @@ pub(crate) fn format_trees<A: Allocator>(trees: &[TokenTree<A>], page: &mut Page
 fn format_tree<A: Allocator>(tree: &TokenTree<A>, page: &mut Page) {
     match tree {
         TokenTree::Group(group) => {
-            page.debug(&group.delimiter(), "");
+            page.put_debug(&group.delimiter(), "");
             format_span(group.span(), page)
         }
         TokenTree::Ident(ident) => {
@@ -202,7 +202,7 @@ fn format_tree<A: Allocator>(tree: &TokenTree<A>, page: &mut Page) {
             format_token(ident.text(), ident.span(), page)
         }
         TokenTree::Punct(punct) => {
-            page.show(&punct.as_char(), "");
+            page.put_display(&punct.as_char(), "");
             format_span(punct.span(), page)
         }
         TokenTree::Literal(literal) => format_token(literal.text(), literal.span(), page),
@@ -223,7 +223,7 @@ impl FormatResult for Page {
 
 impl<A: Allocator> FormatResult for Attrs<A> {
     fn append_result(&self, page: &mut Page) {
-        page.show(&self.entries().len(), "")
+        page.put_display(&self.entries().len(), "")
     }
 }
 

@@ -46,5 +46,5 @@ fn scanned<A: Scarce>(scant: A, text: &str, page: &mut Page) {
     let mut written = Vec::new(page.alloc);
     format_result(scan(scant, Options::default(), text, &mut written), page);
     page.put("; wrote ");
-    page.show(&written.len(), "")
+    page.put_display(&written.len(), "")
 }

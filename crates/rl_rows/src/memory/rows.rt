@@ -103,8 +103,8 @@ fn tried(row: &Row<'_>, first: u64, last: u64, asked: &Cell<u64>, page: &Page) -
         last,
     };
     run(row, &trial, &mut told);
-    asked.set(failing.succeed());
-    if failing.held() > 0 {
+    asked.set(failing.stop_failing());
+    if failing.blocks_in_use() > 0 {
         told.put("; kept memory");
     }
     told
@@ -113,7 +113,7 @@ fn tried(row: &Row<'_>, first: u64, last: u64, asked: &Cell<u64>, page: &Page) -
 /// Appends `front`, a result and a line end.
 fn put_line(front: &str, told: &Page, page: &mut Page) {
     page.put(front);
-    page.say(told.text.as_str(), "\n")
+    page.put_with_ending(told.text.as_str(), "\n")
 }
 
 /// Appends a line with the result of a row's call while the allocations from `first` to `last` fail. Returns the number of requested
@@ -191,6 +191,6 @@ pub(crate) fn lent(text: &str, page: &mut Page) {
     };
     let ample = tried(&row, 1, 0, &Cell::new(0), page);
     page.put("  ");
-    page.show(&ample.text.as_str().len(), " bytes\n");
+    page.put_display(&ample.text.as_str().len(), " bytes\n");
     put_failure(&row, 2, u64::MAX, ample.text.as_str(), page)
 }

@@ -29,7 +29,7 @@ fn of_token<A: Scarce>(name: &str, trial: &Trial<A>, text: &str, page: &mut Page
         let before = formatted(&token, page);
         match name {
             "clone" => format_result(token.clone(trial.begins()), page),
-            _ => format_result(token.after_minus(trial.begins(), HERE), page),
+            _ => format_result(token.with_minus(trial.begins(), HERE), page),
         }
         format_borrowed(&token, &before, page)
     }
@@ -131,7 +131,7 @@ fn parsed_of<T: Held<A> + Drop, A: Scarce>(
     let before = formatted(&trees, page);
     let mut input = ParseBuffer::new(trees, HERE);
     if call == "peek" {
-        page.show(&input.peek::<T>(), "")
+        page.put_display(&input.peek::<T>(), "")
     } else {
         format_result(input.parse::<T>(trial.begins()), page)
     }

@@ -9,12 +9,12 @@ use std::alloc::{Allocator, Global};
 /// An allocator whose allocations fail by their numbers.
 pub(crate) trait Scarce: Allocator + Copy {
     /// Restarts the count of allocations at 1. The allocations with the numbers from `first` to `last` fail.
-    fn fail(&self, first: u64, last: u64);
+    fn fail_from_to(&self, first: u64, last: u64);
 }
 
 impl Scarce for &Failing<Global> {
-    fn fail(&self, first: u64, last: u64) {
-        Failing::fail(self, first, last);
+    fn fail_from_to(&self, first: u64, last: u64) {
+        Failing::fail_from_to(self, first, last);
     }
 }
 
@@ -32,13 +32,13 @@ pub(crate) struct Trial<A: Scarce> {
 impl<A: Scarce> Trial<A> {
     /// Starts the failures, and returns the allocator for the call.
     pub(crate) fn begins(&self) -> A {
-        self.scant.fail(self.first, self.last);
+        self.scant.fail_from_to(self.first, self.last);
         self.scant
     }
 
     /// Ends the failures, and returns the allocator for values that the call borrows.
     fn waits(&self) -> A {
-        self.scant.fail(1, 0);
+        self.scant.fail_from_to(1, 0);
         self.scant
     }
 
@@ -66,6 +66,6 @@ pub(crate) fn format_borrowed<T: FormatResult>(borrowed: &T, before: &Page, page
     if after.text.as_str() == before.text.as_str() {
         page.put("; same")
     } else {
-        page.say("; now", after.text.as_str())
+        page.put_with_ending("; now", after.text.as_str())
     }
 }

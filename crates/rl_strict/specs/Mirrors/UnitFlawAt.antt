@@ -6,7 +6,7 @@ use Rattle.std.proofs.Math.Utf8.{scalar}
 use Prim.Native.Char.{code}
 use Rattle.rl_syntax.specs.declared.kind.Kind.{Kind}
 use Rattle.rl_syntax.specs.declared.kind.Kind.TheVariants.{CStr}
-use Rattle.rl_syntax.specs.Quoted.{allows_code, allows_unicode_escapes, holds_characters}
+use Rattle.rl_syntax.specs.Quoted.{allows_code, allows_unicode_escapes, decodes_to_chars}
 use Rattle.rl_lenient.specs.Mirrors.UnitAt.{CodeDigits, code_digits_at}
 use Rattle.rl_strict.specs.declared.flaws.FlawKind.{FlawKind}
 use Rattle.rl_strict.specs.declared.flaws.FlawKind.TheVariants.{Unclosed, UnknownEscape, NoUnicode, NoHexDigit, NoBrace, EmptyBraces, TooManyDigits, HexEscapeOutOfRange, UnicodeEscapeOutOfRange, Surrogate, Nul, NotAscii, MustEscape, NoCharacter}
@@ -28,7 +28,7 @@ unfoldable pub hex_flaw_at : Kind → List ℕ → FoundFlaw
 hex_flaw_at kind [] = found_flaw Unclosed []
 hex_flaw_at kind (c ∷ cs) =
     if nat_lt (digit_value c) 16 then
-    (if holds_characters kind && nat_lt 7 (digit_value c) then found_flaw HexEscapeOutOfRange (c ∷ cs)
+    (if decodes_to_chars kind && nat_lt 7 (digit_value c) then found_flaw HexEscapeOutOfRange (c ∷ cs)
     else low_digit_flaw_at cs)
     else found_flaw NoHexDigit (c ∷ cs)
 

@@ -6,17 +6,18 @@ use Prim.Native.Char.{code}
 use Rattle.rl_syntax.specs.declared.classes.CharClass.{CharClass}
 use Rattle.rl_syntax.specs.declared.classes.CharClass.TheVariants.{Continue, White}
 
--- The byte is an ASCII character that continues an identifier: a letter, a digit or `_`.
-abbrev pub is_word_byte : ℕ → Bool
-is_word_byte c = is_ascii_alphanumeric c || c == code "_"
+-- Whether a byte is an ASCII character that continues an identifier: a letter, a digit or `_`.
+abbrev pub is_ascii_id_continue : ℕ → Bool
+is_ascii_id_continue c = is_ascii_alphanumeric c || c == code "_"
 
--- The byte is ASCII white space.
+-- Whether a byte is ASCII white space.
 abbrev pub is_blank_byte : ℕ → Bool
 is_blank_byte c = c == code " " || (nat_lt 8 c && nat_lt c 14)
 
--- The test of a byte for an ASCII identifier character, for `true`, or for ASCII white space, for `false`.
+-- Whether a byte belongs to a sequence of ASCII identifier characters, if the first argument is `true`, or of ASCII white space,
+-- if the first argument is `false`.
 abbrev pub is_run_byte : Bool → ℕ → Bool
-is_run_byte true = is_word_byte
+is_run_byte true = is_ascii_id_continue
 is_run_byte false = is_blank_byte
 
 abbrev pub ends_run : Bool → ℕ → Bool

@@ -3,15 +3,15 @@ use Rattle.std.specs.Prelude.{ℕ, Bool, true, not, ◌||◌, ◌&&◌, ◌==◌
 use Rattle.std.proofs.Common.{suc}
 use Prim.Native.Char.{code}
 use Rattle.std.specs.Char.{is_ascii_digit}
-use Rattle.rl_syntax.specs.Mirrors.RunsAt.{is_word_byte}
+use Rattle.rl_syntax.specs.Mirrors.RunsAt.{is_ascii_id_continue}
 
 -- ---- bytes at which a literal or a comment may begin
 
--- Bytes that may begin a literal or a comment after any other byte: quotes, the slash, and all non-ASCII bytes.
+-- Whether a byte may begin a literal or a comment after any other byte. Quotes, the slash, and all non-ASCII bytes may.
 abbrev pub is_likely_mark : ℕ → Bool
 is_likely_mark c = c == code "\"" || c == code "'" || c == code "/" || nat_le 128 c
 
--- Bytes that may begin a literal, `true` or `false`, if no identifier character precedes them.
+-- Whether a byte may begin a literal, `true` or `false`, if no identifier character precedes the byte.
 abbrev pub is_likely_head : ℕ → Bool
 is_likely_head c =
     is_ascii_digit c || c == code "b" || c == code "c" || c == code "f" || c == code "r"
@@ -19,7 +19,7 @@ is_likely_head c =
 
 -- Whether a literal or a comment may begin at the second byte of a pair, where the first byte of the pair precedes it.
 abbrev pub may_begin : ℕ × ℕ → Bool
-may_begin x = is_likely_mark x.1 || (not (is_word_byte x.0) && is_likely_head x.1)
+may_begin x = is_likely_mark x.1 || (not (is_ascii_id_continue x.0) && is_likely_head x.1)
 
 -- Whether the byte `next` continues a literal's prefix, `true` or `false` after the byte `c`. If no prefix begins with
 -- `c`, the result is `true` for each next byte.
@@ -54,8 +54,8 @@ unlikely_after before [] = 0
 unlikely_after before (c ∷ cs) =
     cond (begins_none before c (first_or 0 cs)) (suc (unlikely_after c cs)) 0
 
-abbrev pub skippable_len : List ℕ → ℕ
-skippable_len bytes = unlikely_after 0 bytes
+abbrev pub literal_free_prefix_len : List ℕ → ℕ
+literal_free_prefix_len bytes = unlikely_after 0 bytes
 
 -- The last byte of a list, or `before` if the list is empty.
 abbrev pub last_of : ℕ → List ℕ → ℕ

@@ -20,7 +20,7 @@ const PATH: Setting = Setting {
 ///
 /// Returns the error of [`read`] if the text isn't settings. Otherwise returns the error at the value of `path`, or
 /// that `path` is missing.
-pub fn path_in<A: Allocator + Copy>(alloc: A, text: &str) -> Result<String<A>, SettingError<A>>
+pub fn path_setting<A: Allocator + Copy>(alloc: A, text: &str) -> Result<String<A>, SettingError<A>>
     ensures set { IfOk result (λ path. (list : List Attribute)
         × AreAttributesOf (chars text.now) 0 list × IsStringAt (codes "path") (string_bytes path) list) }
 {

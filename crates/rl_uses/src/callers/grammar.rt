@@ -14,7 +14,7 @@ use std::alloc::Allocator;
 /// # Errors
 ///
 /// Returns `Memory` if an allocation fails.
-pub fn string_in<A: Allocator>(alloc: A, text: &str) -> Result<Option<String<A>>, Error<A>>
+pub fn string_lit_value<A: Allocator>(alloc: A, text: &str) -> Result<Option<String<A>>, Error<A>>
     ensures value { IfOk result (λ found. IfSome found
         (λ value. HasContents Str (chars text.now) (Characters (chars (string_bytes value))))) }
 {

@@ -24,7 +24,7 @@ fn holds_control(text: &str) -> bool
 /// # Errors
 ///
 /// Returns `Memory` at the literal's span if an allocation fails.
-pub fn has_control<A: Allocator + Copy>(alloc: A, string: &LitStr<A>) -> Result<bool, Error<A>>
+pub fn contains_control<A: Allocator + Copy>(alloc: A, string: &LitStr<A>) -> Result<bool, Error<A>>
     ensures tells { IfOk result (λ answer. (value : List ℕ)
         × HasContents Str (chars string.now.text) (Characters value) × (answer ≡ list_any is_control value)) }
     ensures memory { IfErr result (λ e. e ≡ memory_at string.now.span) }

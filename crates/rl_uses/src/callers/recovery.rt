@@ -7,7 +7,7 @@ ghost use Rattle.rl_recovery.specs.Leading.{Leads, LeadsNone};
 use rl_recovery::leading_literal;
 
 /// Returns the text of the literal at the start of `text`, or `None` if `text` doesn't begin with a literal.
-pub fn first_literal(text: &str) -> Option<&str>
+pub fn literal_at_start(text: &str) -> Option<&str>
     ensures found { IfSome result
         (λ literal. (l : LeadingLiteral) × Leads text.now l × (literal.now ≡ l.text.now)) }
     ensures none { IfNone result (LeadsNone text.now) }

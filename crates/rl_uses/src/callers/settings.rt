@@ -9,7 +9,7 @@ ghost use Rattle.rl_settings.specs.WholeCuts.{IsCutWhole};
 use rl_settings::first_error;
 
 /// Returns `true` if `text` can be lexed to its end, with each group closed.
-pub fn is_lexed(text: &str) -> bool
+pub fn can_be_lexed(text: &str) -> bool
     ensures whole { IsTrue result → IsCutWhole (chars text.now) }
     ensures error { IsFalse result → (kind : LexKind) × (at : ℕ) × HasFirstError (chars text.now) kind at }
 {

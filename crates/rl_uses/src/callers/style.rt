@@ -9,7 +9,7 @@ use rl_style::{Case, Style, rewrite_into};
 /// Writes the literal token `text` to `out`, with the digits after `0x` in lower case, and returns the new literal's
 /// length in bytes. Returns `None` if `text` isn't a literal token.
 #[tactic(auto, using(rl_style::proofs::Theorems::a_rewritten_literal_is_the_same))]
-pub fn write_lower(text: &str, out: &mut [u8]) -> Option<usize>
+pub fn write_lower_hex(text: &str, out: &mut [u8]) -> Option<usize>
     requires { 4 * length text.now + 1 ≤ length out.old }
     ensures same { IfSome result (λ n. SameLiteral (chars text.now) (chars (take n out.new))) }
 {

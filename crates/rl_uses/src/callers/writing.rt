@@ -8,7 +8,7 @@ ghost use Rattle.rl_syntax.specs.Reading.{Characters, Reads};
 use rl_writing::write_str_ascii_into;
 
 /// Writes `text` to `out` as a string literal in ASCII, and returns the literal's length in bytes.
-pub fn write_ascii(text: &str, out: &mut [u8]) -> usize
+pub fn write_ascii_string_literal(text: &str, out: &mut [u8]) -> usize
     requires { 4 * length text.now + 2 ≤ length out.old }
     ensures reads { Reads (chars (take result out.new)) Str (Characters (chars text.now)) [] }
 {

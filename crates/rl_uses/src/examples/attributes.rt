@@ -14,7 +14,7 @@ pub fn string_setting(alloc: Global, text: &str, name: &str) -> Option<String> {
 }
 
 /// Returns the string that the settings in `text` set `host` to, or `None` if they don't set it.
-pub fn host_of(alloc: Global, text: &str) -> Option<String> {
+pub fn optional_host(alloc: Global, text: &str) -> Option<String> {
     let host = Setting {
         name: "host",
         expected: "a string",
@@ -24,7 +24,7 @@ pub fn host_of(alloc: Global, text: &str) -> Option<String> {
 }
 
 /// Returns the string that the settings in `text` set `host` to. The setting is required.
-pub fn host_in(alloc: Global, text: &str) -> Option<String> {
+pub fn required_host(alloc: Global, text: &str) -> Option<String> {
     let host = Setting {
         name: "host",
         expected: "a string",
@@ -34,7 +34,7 @@ pub fn host_in(alloc: Global, text: &str) -> Option<String> {
 
 /// Returns the byte offset at which the missing setting `host` is reported, which is the end of `text`. Returns `None`
 /// if `text` sets `host`.
-pub fn missing_at(alloc: Global, text: &str) -> Option<usize> {
+pub fn missing_host_offset(alloc: Global, text: &str) -> Option<usize> {
     let host = Setting {
         name: "host",
         expected: "a string",
@@ -42,6 +42,6 @@ pub fn missing_at(alloc: Global, text: &str) -> Option<usize> {
     let attrs = read(alloc, text, 0).ok()?;
     match attrs.get(host.name) {
         Some(_) => None,
-        None => Some(attrs.missing(host).span().lo),
+        None => Some(attrs.missing_error(host).span().lo),
     }
 }

@@ -5,7 +5,7 @@ use rust_literals::LitInt;
 use std::alloc::Global;
 
 /// Returns the first integer inside the group at the start of `text`.
-pub fn first_in_group(alloc: Global, text: &str) -> Option<u64> {
+pub fn first_integer_in_group(alloc: Global, text: &str) -> Option<u64> {
     let stream = lex(alloc, text, 0).ok()?;
     let mut input = ParseBuffer::new(stream.trees(), Span::call_site());
     let mut inside = input.group()?.inside();
@@ -17,7 +17,7 @@ pub fn first_in_group(alloc: Global, text: &str) -> Option<u64> {
 }
 
 /// Returns the punctuation character after the name at the start of `text`.
-pub fn mark_after_name(alloc: Global, text: &str) -> Option<char> {
+pub fn punct_after_ident(alloc: Global, text: &str) -> Option<char> {
     let stream = lex(alloc, text, 0).ok()?;
     let mut input = ParseBuffer::new(stream.trees(), Span::call_site());
     input.ident()?;
@@ -26,7 +26,7 @@ pub fn mark_after_name(alloc: Global, text: &str) -> Option<char> {
 
 /// Returns the number of token trees after `=` and an integer at the start of `text`, or the number of all token trees
 /// if one of the two is missing.
-pub fn trees_left(alloc: Global, text: &str) -> Option<usize> {
+pub fn remaining_tree_count(alloc: Global, text: &str) -> Option<usize> {
     let stream = lex(alloc, text, 0).ok()?;
     let mut input = ParseBuffer::new(stream.trees(), Span::call_site());
     let _taken = attempt(&mut input, |input| {
@@ -41,12 +41,12 @@ pub fn trees_left(alloc: Global, text: &str) -> Option<usize> {
 /// # Errors
 ///
 /// Returns the errors of [`parse_all`], or the error of the number type `u16`.
-pub fn port(alloc: Global, text: &str) -> Result<u16, Error> {
+pub fn parse_port(alloc: Global, text: &str) -> Result<u16, Error> {
     parse_all::<LitInt, Global>(alloc, text, 0)?.base10_parse(alloc)
 }
 
 /// Returns the number of token trees that are appended to a stream for the integer `text`.
-pub fn trees_of(alloc: Global, text: &str) -> Option<usize> {
+pub fn integer_tree_count(alloc: Global, text: &str) -> Option<usize> {
     let number = LitInt::new(alloc, text, Span::call_site()).ok()?;
     let mut stream = TokenStream::new(alloc);
     number.to_tokens(alloc, &mut stream).ok()?;

@@ -8,12 +8,12 @@ use rl_grammar::{
 use std::alloc::Global;
 
 /// Returns `true` if `text` is a literal of Rust.
-pub fn is_rust(text: &str) -> bool {
+pub fn is_rust_literal(text: &str) -> bool {
     is_token(text)
 }
 
 /// Returns the value of the integer literal `text`, by Rust's own grammar.
-pub fn integer_of(text: &str) -> Option<u128> {
+pub fn integer_value(text: &str) -> Option<u128> {
     match read(text, LineEnds::Text, false) {
         Ok(Reading::Integer(magnitude, _)) => magnitude,
         _ => None,
@@ -26,7 +26,7 @@ pub fn suffix_of(text: &str) -> Option<&str> {
 }
 
 /// Returns the digits of the hexadecimal integer literal `text`.
-pub fn digits_of_hex(text: &str) -> Option<&str> {
+pub fn hex_digits(text: &str) -> Option<&str> {
     let parts = integer_parts(text)?;
     (parts.radix == 16).then_some(parts.digits)
 }
@@ -37,12 +37,12 @@ pub fn exponent_of(text: &str) -> Option<&str> {
 }
 
 /// Returns the reason why `text` isn't a literal of Rust.
-pub fn reason(text: &str) -> Option<&'static str> {
+pub fn why_invalid(text: &str) -> Option<&'static str> {
     Some(explain(text)?.kind.message())
 }
 
 /// Returns `true` if `text` is a literal of Rust, or a minus and a number.
-pub fn is_value(text: &str) -> bool {
+pub fn is_signed_literal(text: &str) -> bool {
     read(text, LineEnds::Text, true).is_ok()
 }
 
@@ -52,7 +52,7 @@ pub fn why_no_value(text: &str) -> Option<&'static str> {
 }
 
 /// Returns the reason why `text`, a literal in a file, isn't a literal of Rust. In a file, CR LF counts as LF.
-pub fn reason_in_file(text: &str) -> Option<&'static str> {
+pub fn why_invalid_in_file(text: &str) -> Option<&'static str> {
     match read(text, LineEnds::File, false) {
         Ok(_) => None,
         Err(flaw) => Some(flaw.kind.message()),
@@ -65,7 +65,7 @@ pub fn is_plain_string(text: &str) -> bool {
 }
 
 /// Returns the decoded value of the string literal `text`.
-pub fn contents(alloc: Global, text: &str) -> Option<String> {
+pub fn decoded_string(alloc: Global, text: &str) -> Option<String> {
     match shape(text)?.kind {
         Kind::Str => str_of(alloc, text).ok(),
         _ => None,
@@ -74,7 +74,7 @@ pub fn contents(alloc: Global, text: &str) -> Option<String> {
 
 /// Returns the byte offset of the first escape of the quoted literal `text`. A line end of two characters and an
 /// escaped line end count as escapes.
-pub fn first_escape(text: &str) -> Option<usize> {
+pub fn first_escape_offset(text: &str) -> Option<usize> {
     for segment in Segments::of(text)? {
         if !matches!(segment.value, SegmentValue::Text(_)) {
             return Some(segment.lo);
@@ -84,6 +84,6 @@ pub fn first_escape(text: &str) -> Option<usize> {
 }
 
 /// Returns the byte offset in the quoted literal `text` from which the second byte of its decoded value comes.
-pub fn place_after_escape(text: &str) -> Option<usize> {
+pub fn second_value_byte_offset(text: &str) -> Option<usize> {
     text_offset(text, 1)
 }

@@ -6,7 +6,7 @@ use rust_literals::{Lit, LitFloat, Literals, push_next_literal, read_all};
 use std::alloc::Global;
 
 /// Returns the value of the byte, character or `bool` literal `text` as a number.
-pub fn code_of(alloc: Global, text: &str) -> Option<u32> {
+pub fn value_as_number(alloc: Global, text: &str) -> Option<u32> {
     let token = Literal::from_text(alloc, text, Span::call_site()).ok()?;
     match Lit::new(alloc, token).ok()? {
         Lit::Byte(byte) => Some(byte.value() as u32),
@@ -17,7 +17,7 @@ pub fn code_of(alloc: Global, text: &str) -> Option<u32> {
 }
 
 /// Returns the digits of the float literal `text` in base ten, or `text` itself if it isn't a float literal.
-pub fn digits_or_text(alloc: Global, text: &str) -> Option<String> {
+pub fn float_digits_or_text(alloc: Global, text: &str) -> Option<String> {
     let token = Literal::from_text(alloc, text, Span::call_site()).ok()?;
     match LitFloat::from_token(alloc, token) {
         Ok(literal) => String::from_str(alloc, literal.base10_digits()).ok(),
@@ -27,7 +27,7 @@ pub fn digits_or_text(alloc: Global, text: &str) -> Option<String> {
 
 /// Returns the reason why the first literal of `text` has no value in Rust, and the byte offset of its invalid part.
 /// Returns `None` if the literal has a value.
-pub fn first_flaw(alloc: Global, text: &str) -> Option<(&'static str, usize)> {
+pub fn first_value_flaw(alloc: Global, text: &str) -> Option<(&'static str, usize)> {
     let literals = read_all(alloc, text, 0).ok()?;
     let literal = literals.as_slice().first()?;
     let flaw = explain_value(literal.text(), LineEnds::Text, true)?;
@@ -35,7 +35,7 @@ pub fn first_flaw(alloc: Global, text: &str) -> Option<(&'static str, usize)> {
 }
 
 /// Returns the text after the literal at the start of `text`.
-pub fn after_literal(alloc: Global, text: &str) -> Option<&str> {
+pub fn text_after_literal(alloc: Global, text: &str) -> Option<&str> {
     let mut tokens = Tokens::new(text);
     let mut list: Vec<Lit> = Vec::new(alloc);
     let is_read = push_next_literal(alloc, &mut tokens, 0, &mut list).ok()?;

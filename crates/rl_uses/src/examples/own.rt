@@ -26,7 +26,7 @@ impl Parse<Global> for Value {
 /// # Errors
 ///
 /// Returns the errors of [`parse_all`], or the error of the number type `u16`.
-pub fn set_value(alloc: Global, text: &str) -> Result<u16, Error> {
+pub fn value_after_equals(alloc: Global, text: &str) -> Result<u16, Error> {
     let value = parse_all::<Value, Global>(alloc, text, 0)?;
     value.0.base10_parse(alloc)
 }
@@ -52,7 +52,7 @@ impl Parser<Global> for Mark {
 }
 
 /// Returns the punctuation character that is the decoded value of the string literal `text`.
-pub fn mark_in_string(alloc: Global, text: &str) -> Option<char> {
+pub fn punct_in_string(alloc: Global, text: &str) -> Option<char> {
     let string = parse_all::<LitStr, Global>(alloc, text, 0).ok()?;
     string.parse_with(alloc, Mark).ok()
 }

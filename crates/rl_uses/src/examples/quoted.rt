@@ -16,14 +16,14 @@ pub fn string_value(alloc: Global, text: &str) -> Option<String> {
 }
 
 /// Returns the text of the string literal that represents `value`.
-pub fn string_of(alloc: Global, value: &str) -> Option<String> {
+pub fn string_literal_text(alloc: Global, value: &str) -> Option<String> {
     let literal = LitStr::new(alloc, value, Span::call_site()).ok()?;
     String::from_str(alloc, literal.text()).ok()
 }
 
 /// Returns the number of bytes in the value of the byte string literal `text`. The literal is decoded only if its value
 /// differs from the text between its quotes.
-pub fn bytes_len(alloc: Global, text: &str) -> Option<usize> {
+pub fn byte_string_len(alloc: Global, text: &str) -> Option<usize> {
     let literal = parse_all::<LitByteStr, Global>(alloc, text, 0).ok()?;
     match literal.value_ref() {
         Some(value) => Some(value.len()),
@@ -39,7 +39,7 @@ pub fn c_string_len(alloc: Global, text: &str) -> Option<usize> {
 
 /// Returns the byte offset in the file from which the first opening brace in the value of the string literal `text`
 /// comes.
-pub fn brace_in_file(alloc: Global, text: &str) -> Option<usize> {
+pub fn brace_offset_in_file(alloc: Global, text: &str) -> Option<usize> {
     let literal = parse_all::<LitStr, Global>(alloc, text, 0).ok()?;
     let value = literal.value(alloc).ok()?;
     let at = value.as_str().find('{')?;
@@ -47,7 +47,7 @@ pub fn brace_in_file(alloc: Global, text: &str) -> Option<usize> {
 }
 
 /// Returns the span in the file of the literal inside the string literal `text`, or of the error inside it.
-pub fn literal_in_file(alloc: Global, text: &str) -> Option<Span> {
+pub fn inner_literal_span(alloc: Global, text: &str) -> Option<Span> {
     let literal = parse_all::<LitStr, Global>(alloc, text, 0).ok()?;
     match literal.parse_in_file(alloc, ByParse::<Lit>::new()) {
         Ok(inner) => Some(inner.span()),

@@ -19,12 +19,12 @@ pub fn second_token(text: &str) -> Option<&str> {
 }
 
 /// Returns the reason why `text` doesn't begin with a token.
-pub fn no_token(text: &str) -> Option<LexKind> {
+pub fn lex_error_kind(text: &str) -> Option<LexKind> {
     Some(Tokens::new(text).error()?.kind)
 }
 
 /// Returns the doc comment at the start of the source text `source`.
-pub fn first_docs(source: &str) -> Option<&str> {
+pub fn leading_doc_comment(source: &str) -> Option<&str> {
     let token = Sources::new(source).next()?;
     match token.form {
         SourceForm::DocComment => Some(token.text),
@@ -34,7 +34,7 @@ pub fn first_docs(source: &str) -> Option<&str> {
 
 /// Returns the byte offsets of all literals and all errors of the source text `source`. After each error, lexing
 /// resumes in the next line.
-pub fn all_places(alloc: Global, source: &str) -> Option<Vec<usize>> {
+pub fn literal_and_error_offsets(alloc: Global, source: &str) -> Option<Vec<usize>> {
     let mut places = Vec::new(alloc);
     let mut lines = source;
     loop {
@@ -59,7 +59,7 @@ pub fn after_comments(text: &str) -> &str {
 }
 
 /// Returns `true` if `text` can be an identifier.
-pub fn is_name(text: &str) -> bool {
+pub fn is_identifier(text: &str) -> bool {
     xid_ok(text)
 }
 

@@ -1,4 +1,4 @@
--- Executable models of private code: its tests and counts at each character of a raw string. Only private functions and
+-- Executable models of private code: the tests and counts for each character of a raw string. Only private functions and
 -- proofs use them.
 use Rattle.std.specs.Prelude.{ℕ, ◌+◌, ◌&&◌, ◌==◌, not, nat_lt, Bool, if◌then◌else◌}
 use Prim.Native.Char.{code}
@@ -11,9 +11,9 @@ raw_may_contain ByteStr c = not (c == code "\r") && nat_lt c 128
 raw_may_contain CStr c = not (c == code "\r") && not (c == 0)
 raw_may_contain _ c = not (c == code "\r")
 
--- The number of hashes that a raw string needs so that it doesn't end after the character `c`: 1 after a quote, one
--- more after each hash that follows a quote directly, and 0 after any other text. `opened` is that number for the
--- character before `c`.
+-- The number of hashes that a raw string needs so that it doesn't end after the character `c`. It is 1 after a quote, one more
+-- after each hash that directly follows a quote or its hashes, and 0 otherwise. `opened` is this number for the character
+-- before `c`.
 abbrev pub hashes_opened : ℕ → ℕ → ℕ
 hashes_opened opened c =
     if c == code "\"" then 1 else (if c == code "#" && nat_lt 0 opened then opened + 1 else 0)

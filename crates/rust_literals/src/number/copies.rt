@@ -54,7 +54,7 @@ impl<K: NumberKind, A: Allocator> Number<K, A> {
                 suffix_at: self.suffix_at,
                 of: PhantomData,
             }),
-            Err(_) => Err(Error::memory(self.token.span())),
+            Err(_) => Err(Error::out_of_memory(self.token.span())),
         }
     }
 }

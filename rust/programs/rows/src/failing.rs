@@ -27,21 +27,21 @@ impl<B: Allocator> Failing<B> {
     }
 
     /// Makes the allocations from number `first` to number `last` fail from now on. The next allocation has number 1.
-    pub fn fail(&self, first: u64, last: u64) {
+    pub fn fail_from_to(&self, first: u64, last: u64) {
         self.first.set(first);
         self.last.set(last);
         self.asked.set(0);
     }
 
     /// Makes no allocation fail from now on. Returns the number of allocations that were requested since the call of `fail`.
-    pub fn succeed(&self) -> u64 {
+    pub fn stop_failing(&self) -> u64 {
         let asked = self.asked.get();
-        self.fail(1, 0);
+        self.fail_from_to(1, 0);
         asked
     }
 
     /// Returns the number of blocks of lists, texts, sets and maps that were allocated and not yet freed.
-    pub fn held(&self) -> u64 {
+    pub fn blocks_in_use(&self) -> u64 {
         self.held.get()
     }
 }

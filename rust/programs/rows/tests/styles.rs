@@ -3,7 +3,7 @@
 
 use navyspindle::rendered::rl_style;
 use navyspindle::{Case, DigitGroups, Separator, Settings, Style};
-use navyspindle_programs::rl_restyle::{default_style, style_of};
+use navyspindle_programs::rl_restyle::{default_style, parse_style};
 
 fn case_of(case: rl_style::Case) -> Case {
     match case {
@@ -58,7 +58,7 @@ fn shown(style: rl_style::Style) -> Style {
 
 /// Returns the style that the text describes, or its error message.
 fn told(text: &str) -> Result<Style, String> {
-    match style_of(text) {
+    match parse_style(text) {
         Ok(style) => Ok(shown(style)),
         Err(error) => Err(format!("{}..{} {}", error.lo, error.hi, error.kind)),
     }
@@ -146,7 +146,7 @@ fn names_of_errors() {
         ("= true", None),
     ] {
         assert_eq!(
-            style_of(text).err().map(|error| error.name),
+            parse_style(text).err().map(|error| error.name),
             Some(name),
             "{text}"
         );

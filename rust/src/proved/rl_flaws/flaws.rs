@@ -2,9 +2,9 @@
 //! Iterates over all flaws in the text of a literal.
 
 use crate::rl_flaws::closings::closing_quote;
-use crate::rl_flaws::invalid_piece::{InvalidPiece, placed};
+use crate::rl_flaws::invalid_piece::{InvalidPiece, invalid_piece_with_offsets};
 use crate::rl_flaws::piece_ends::{after_bad_piece, is_flaw_after_quote, is_flaw_of_unit};
-use crate::rl_flaws::walks::{Opened, open, walk};
+use crate::rl_flaws::walks::{Opened, parse_quoted_content, split_opening_delimiter};
 use crate::rl_lenient::quoted_forms::QuotedForm;
 use crate::rl_strict::read_quoted::suffix_flaw;
 use crate::rl_strict::{FlawKind, LineEnds, read};
@@ -27,15 +27,15 @@ pub enum Left<'t> {
 /// Returns the part of `text` to check first: the text after an opening delimiter, or all of the text.
 #[inline]
 fn whole(text: &str) -> Left<'_> {
-    match open(text) {
+    match split_opening_delimiter(text) {
         Some((opened, inside)) => Left::Inside(opened, inside),
         None => Left::Whole(text),
     }
 }
 
 /// Returns the part of the text to check after a flaw of the kind `flaw`. `inside` is the text that the flaw was found in, and
-/// `piece` the text that begins at the flaw's piece. After a flaw in a character or byte literal, this part begins at the quote
-/// that closes the literal. Without such a quote it is nothing.
+/// `piece` the text that begins at the flaw's piece. After a flaw in a character or byte literal, this part begins at the
+/// quote that closes the literal. If no quote closes the literal, nothing is left to check.
 #[inline]
 fn left_after<'t>(
     ends: LineEnds,
@@ -94,7 +94,7 @@ pub fn next_flaw_inside<'t>(
     opened: Opened<'t>,
     rest: &'t str,
 ) -> NextFlaw<'t> {
-    let stretch = walk(ends, opened, rest);
+    let stretch = parse_quoted_content(ends, opened, rest);
     let good = before(rest, stretch.closing);
     let end = len - stretch.closing.len();
     match stretch.end {
@@ -107,7 +107,7 @@ pub fn next_flaw_inside<'t>(
         Err(found) => NextFlaw {
             good,
             end,
-            bad: Some(placed(ends, len, opened.kind.quote(), found)),
+            bad: Some(invalid_piece_with_offsets(ends, len, opened.kind.quote(), found)),
             left: left_after(ends, opened, rest, found.kind, found.piece),
         },
     }
@@ -127,7 +127,7 @@ fn judge_closed<'t>(ends: LineEnds, len: usize, kind: Kind, closing: &'t str) ->
         Some(found) => NextFlaw {
             good: "",
             end: 0,
-            bad: Some(placed(ends, len, '\'', found)),
+            bad: Some(invalid_piece_with_offsets(ends, len, '\'', found)),
             left: Left::Nothing,
         },
     }
@@ -153,8 +153,8 @@ pub fn next_flaw<'t>(ends: LineEnds, len: usize, left: Left<'t>) -> NextFlaw<'t>
 ///
 /// The first flaw is the error that [`read`](crate::rl_strict::read) returns with `signed = false`. After an invalid character or
 /// escape in a string, the search continues inside the string. After a flaw before the closing quote of a character or byte
-/// literal, only the suffix is checked. Any other flaw is the last one. Offsets are in bytes of the text as written. In a file,
-/// where CR LF is read as LF, no offset is between the two.
+/// literal, only the suffix is checked. Any other flaw is the last one. Offsets are in bytes of the text as written. In a
+/// file, where CR LF is read as LF, no offset is between the CR and the LF.
 pub struct Flaws<'t> {
     ends: LineEnds,
     len: usize,

@@ -36,7 +36,7 @@ fn split_letter(numeral: &str) -> (&str, &str) {
     (numeral, rest)
 }
 
-/// Returns the text after its first dot, or an empty text if it has no dot.
+/// Returns the part of the text after its first dot, or an empty text if it has no dot.
 #[inline]
 fn after_point(text: &str) -> &str {
     let mut rest = text;
@@ -97,7 +97,7 @@ fn count_digits(text: &str) -> usize {
     count
 }
 
-/// Returns the number that the decimal digits in the text represent. The number is exact if it is below `HUGE`; otherwise the
+/// Returns the number that the decimal digits in the text represent. The number is exact if it is below `HUGE`. Otherwise the
 /// result is at least `HUGE`.
 #[inline]
 fn capped_value(text: &str) -> u128 {

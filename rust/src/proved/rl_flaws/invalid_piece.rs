@@ -3,7 +3,7 @@
 
 use crate::rl_flaws::piece_ends::{after_bad_piece, is_flaw_of_unit};
 use crate::rl_strict::flaws::FlawAt;
-use crate::rl_strict::strict_reading::after_first;
+use crate::rl_strict::strict_reading::skip_first_char;
 use crate::rl_strict::{Flaw, FlawKind, LineEnds};
 
 /// A flaw, and the end of its piece: the range of text to show for the flaw.
@@ -30,8 +30,13 @@ fn end_of(ends: LineEnds, len: usize, quote: char, kind: FlawKind, piece: &str, 
 /// Converts a flaw that was found inside a literal to byte offsets. The flaw's texts are ends of the input text, which has
 /// `len` bytes.
 #[inline]
-pub fn placed(ends: LineEnds, len: usize, quote: char, found: FlawAt<'_>) -> InvalidPiece {
-    let hi = len - after_first(ends, found.rest).len();
+pub fn invalid_piece_with_offsets(
+    ends: LineEnds,
+    len: usize,
+    quote: char,
+    found: FlawAt<'_>,
+) -> InvalidPiece {
+    let hi = len - skip_first_char(ends, found.rest).len();
     InvalidPiece {
         flaw: Flaw {
             kind: found.kind,

@@ -1,7 +1,7 @@
 // Rendered from crates/rl_flaws/src/kind_guess.rt by tools/render, which erases contracts: change that file, and render again.
 //! Guesses the kind of a possibly invalid literal from its beginning.
 
-use crate::rl_flaws::walks::open;
+use crate::rl_flaws::walks::split_opening_delimiter;
 use crate::rl_lenient::bool_of;
 use crate::rl_lenient::digit_runs::{after_minus, begins_digit, skip_digits};
 use crate::rl_lenient::number_forms::split_radix;
@@ -25,7 +25,7 @@ fn number_kind(digits: &str) -> Kind {
 /// Returns the kind of literal that the text begins as, or `None` if it begins otherwise.
 #[inline]
 fn front_kind(text: &str) -> Option<Kind> {
-    if let Some((opened, _)) = open(text) {
+    if let Some((opened, _)) = split_opening_delimiter(text) {
         return Some(opened.kind);
     }
     let digits = after_minus(text);

@@ -11,7 +11,7 @@ pub enum NumberType {
     F64,
 }
 
-/// Returns the number type that the suffix names, or `None` if it names none.
+/// Returns the number type that the suffix names, or `None` if the suffix isn't the name of a number type.
 #[inline]
 pub fn type_named(suffix: &str) -> Option<NumberType> {
     match suffix {

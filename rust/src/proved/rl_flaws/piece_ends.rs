@@ -1,14 +1,13 @@
 // Rendered from crates/rl_flaws/src/piece_ends.rt by tools/render, which erases contracts: change that file, and render again.
 //! Finds the end of an invalid character or escape in a quoted literal.
 
-use crate::rl_strict::walk_units::split;
+use crate::rl_strict::walk_units::split_first_char;
 use crate::rl_strict::{FlawKind, LineEnds};
 
-/// Returns the text after its first character. If that character is a backslash or the quote `quote`, the result is all of the
-/// text.
+/// Returns the text without its first character, or all of the text if this character is a backslash or the quote `quote`.
 #[inline]
 fn after_one(ends: LineEnds, quote: char, text: &str) -> &str {
-    match split(ends, text) {
+    match split_first_char(ends, text) {
         Some((c, rest)) if c != '\\' && c != quote => rest,
         _ => text,
     }
@@ -17,7 +16,7 @@ fn after_one(ends: LineEnds, quote: char, text: &str) -> &str {
 /// Returns the text after an invalid `\x` escape. `text` begins after `\x`.
 #[inline]
 fn after_hex(ends: LineEnds, quote: char, text: &str) -> &str {
-    match split(ends, text) {
+    match split_first_char(ends, text) {
         Some((c, rest)) if c.is_ascii_hexdigit() => after_one(ends, quote, rest),
         _ => after_one(ends, quote, text),
     }
@@ -34,7 +33,7 @@ fn is_code_part(c: char) -> bool {
 #[inline]
 fn after_code_digits(ends: LineEnds, quote: char, text: &str) -> &str {
     let mut rest = text;
-    while let Some((c, following)) = split(ends, rest) {
+    while let Some((c, following)) = split_first_char(ends, rest) {
         if !is_code_part(c) {
             return after_one(ends, quote, rest);
         }
@@ -46,7 +45,7 @@ fn after_code_digits(ends: LineEnds, quote: char, text: &str) -> &str {
 /// Returns the text after an invalid `\u{..}` escape. `text` begins after `\u{`.
 #[inline]
 fn after_brace(ends: LineEnds, quote: char, text: &str) -> &str {
-    match split(ends, text) {
+    match split_first_char(ends, text) {
         Some((c, rest)) if c.is_ascii_hexdigit() => after_code_digits(ends, quote, rest),
         _ => after_one(ends, quote, text),
     }
@@ -55,7 +54,7 @@ fn after_brace(ends: LineEnds, quote: char, text: &str) -> &str {
 /// Returns the text after an invalid `\u` escape. `text` begins after `\u`.
 #[inline]
 fn after_unicode(ends: LineEnds, quote: char, text: &str) -> &str {
-    match split(ends, text) {
+    match split_first_char(ends, text) {
         Some(('{', rest)) => after_brace(ends, quote, rest),
         _ => after_one(ends, quote, text),
     }
@@ -64,7 +63,7 @@ fn after_unicode(ends: LineEnds, quote: char, text: &str) -> &str {
 /// Returns the text after an invalid escape. `text` begins after the escape's backslash.
 #[inline]
 fn after_escape(ends: LineEnds, quote: char, text: &str) -> &str {
-    match split(ends, text) {
+    match split_first_char(ends, text) {
         Some(('x', rest)) => after_hex(ends, quote, rest),
         Some(('u', rest)) => after_unicode(ends, quote, rest),
         Some((_, rest)) => rest,
@@ -72,10 +71,11 @@ fn after_escape(ends: LineEnds, quote: char, text: &str) -> &str {
     }
 }
 
-/// Returns the text after the invalid escape or character at its beginning, where parsing a string continues.
+/// Returns the text after the invalid escape or character with which the given text begins. There the parsing of a string
+/// continues.
 #[inline]
 pub fn after_bad_piece(ends: LineEnds, quote: char, text: &str) -> &str {
-    match split(ends, text) {
+    match split_first_char(ends, text) {
         Some(('\\', rest)) => after_escape(ends, quote, rest),
         Some((_, rest)) => rest,
         None => text,

@@ -3,7 +3,7 @@
 
 use crate::rl_flaws::flaws::{Left, next_flaw, next_flaw_inside};
 use crate::rl_flaws::invalid_piece::InvalidPiece;
-use crate::rl_flaws::walks::open;
+use crate::rl_flaws::walks::split_opening_delimiter;
 use crate::rl_lenient::quoted_forms::QuotedForm;
 use crate::rl_lenient::{Segment, split_segment};
 use crate::rl_strict::LineEnds;
@@ -44,7 +44,7 @@ impl<'t> Pieces<'t> {
     /// Creates a cursor over the pieces of `text`, or returns `None` if `text` doesn't begin as a quoted literal.
     #[inline]
     pub fn of(text: &'t str) -> Option<Pieces<'t>> {
-        match open(text) {
+        match split_opening_delimiter(text) {
             Some((opened, inside)) => {
                 let judged = next_flaw_inside(LineEnds::Text, text.len(), opened, inside);
                 Some(Pieces {

@@ -4,7 +4,7 @@
 use crate::rl_lenient::quoted_forms::{QuotedForm, split_opener};
 use crate::rl_strict::LineEnds;
 use crate::rl_strict::walk::{
-    QuotedContent, open_raw, parse_cooked_content, parse_raw_content, parse_single_unit,
+    QuotedContent, parse_cooked_content, parse_raw_content, parse_single_unit, split_raw_opening,
 };
 use crate::rl_syntax::Kind;
 
@@ -13,16 +13,16 @@ use crate::rl_syntax::Kind;
 pub struct Opened<'t> {
     pub form: QuotedForm,
     pub kind: Kind,
-    /// The hashes of a raw string; empty for other forms.
+    /// The hashes of a raw string, or an empty text for other forms.
     pub hashes: &'t str,
 }
 
 /// Returns the opening delimiter of the quoted literal that `text` begins with, and the text after it.
 #[inline]
-pub fn open(text: &str) -> Option<(Opened<'_>, &str)> {
+pub fn split_opening_delimiter(text: &str) -> Option<(Opened<'_>, &str)> {
     match split_opener(text) {
         Some((form, kind, inside)) => match form {
-            QuotedForm::Raw => match open_raw(kind, inside) {
+            QuotedForm::Raw => match split_raw_opening(kind, inside) {
                 Ok((hashes, rest)) => Some((Opened { form, kind, hashes }, rest)),
                 Err(_) => None,
             },
@@ -58,7 +58,11 @@ fn walk_unit(ends: LineEnds, kind: Kind, text: &str) -> QuotedContent<'_> {
 /// Parses a quoted literal whose opening delimiter is `opened`. `text` begins after that delimiter, or at a later character or
 /// escape inside the literal.
 #[inline]
-pub fn walk<'t>(ends: LineEnds, opened: Opened<'t>, text: &'t str) -> QuotedContent<'t> {
+pub fn parse_quoted_content<'t>(
+    ends: LineEnds,
+    opened: Opened<'t>,
+    text: &'t str,
+) -> QuotedContent<'t> {
     match opened.form {
         QuotedForm::Cooked => parse_cooked_content(ends, opened.kind, text),
         QuotedForm::Single => walk_unit(ends, opened.kind, text),

@@ -3,8 +3,8 @@
 //! is its value, byte for byte.
 
 #[cfg(feature = "__rendered")]
-use crate::rl_lenient::found::{find, find_float, found_in};
-use crate::rl_lenient::units::{Piece, split_plain, unit};
+use crate::rl_lenient::found::{find_float, parse_known_literal, parse_literal};
+use crate::rl_lenient::units::{Piece, parse_char_or_escape, split_plain};
 #[cfg(feature = "__rendered")]
 use crate::rl_lenient::units::piece_code;
 use crate::rl_syntax::Kind;
@@ -43,7 +43,7 @@ pub fn decode_into(kind: Kind, text: &str, out: &mut [u8]) -> usize {
     loop {
         let (run, later) = split_plain(kind, rest);
         at = put_run(out, at, run);
-        let Some((piece, after)) = unit(kind, later) else {
+        let Some((piece, after)) = parse_char_or_escape(kind, later) else {
             return at;
         };
         at = put_piece(out, at, piece);
@@ -58,7 +58,7 @@ pub fn decode_into(kind: Kind, text: &str, out: &mut [u8]) -> usize {
 /// itself, and its [`Body::plain`](crate::rl_lenient::Body::plain) is `true`. Nothing is allocated.
 #[cfg(feature = "__rendered")]
 #[inline]
-pub fn str_into(body: &str, out: &mut [u8]) -> usize {
+pub fn decode_str_into(body: &str, out: &mut [u8]) -> usize {
     decode_into(Kind::Str, body, out)
 }
 
@@ -68,7 +68,7 @@ pub fn str_into(body: &str, out: &mut [u8]) -> usize {
 /// The body must contain an escape or a line end CR LF, and not be that of a raw literal. Any other body is the value
 /// itself, and its [`Body::plain`](crate::rl_lenient::Body::plain) is `true`. Nothing is allocated.
 #[inline]
-pub fn bytes_into(kind: Kind, body: &str, out: &mut [u8]) -> usize {
+pub fn decode_bytes_into(kind: Kind, body: &str, out: &mut [u8]) -> usize {
     decode_into(kind, body, out)
 }
 
@@ -76,7 +76,7 @@ pub fn bytes_into(kind: Kind, body: &str, out: &mut [u8]) -> usize {
 #[cfg(feature = "__rendered")]
 #[inline]
 fn body_unit(kind: Kind, body: &str) -> u32 {
-    let Some((piece, _)) = unit(kind, body) else {
+    let Some((piece, _)) = parse_char_or_escape(kind, body) else {
         unreachable!()
     };
     piece_code(kind, piece)
@@ -87,7 +87,7 @@ fn body_unit(kind: Kind, body: &str) -> u32 {
 #[cfg(feature = "__rendered")]
 #[inline]
 pub fn byte_of(text: &str) -> u8 {
-    found_in(text).unit as u8
+    parse_known_literal(text).unit as u8
 }
 
 /// Returns the value of the character literal `text`. The text must be a character literal: [`shape`](crate::rl_lenient::shape)
@@ -95,7 +95,7 @@ pub fn byte_of(text: &str) -> u8 {
 #[cfg(feature = "__rendered")]
 #[inline]
 pub fn char_of(text: &str) -> char {
-    match char::from_u32(found_in(text).unit) {
+    match char::from_u32(parse_known_literal(text).unit) {
         Some(c) => c,
         None => unreachable!(),
     }
@@ -138,7 +138,7 @@ pub fn is_plain(kind: Kind, text: &str) -> bool {
 #[cfg(feature = "__rendered")]
 #[inline]
 fn reads_plain(kind: Kind, text: &str) -> bool {
-    match find(text) {
+    match parse_literal(text) {
         Some(found) => found.body.plain && found.kind == kind,
         None => false,
     }

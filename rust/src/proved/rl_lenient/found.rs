@@ -155,7 +155,7 @@ pub fn find_float(text: &str) -> Option<Found> {
 /// it is neither, or an integer above 128 bits.
 #[inline]
 fn find_number(text: &str) -> Option<Found> {
-    // Each arm returns by itself. A value that both arms make would be copied once more, padding included.
+    // Each arm of the `match` returns by itself. A value that both arms make would be copied, padding included.
     match read_number(text)? {
         Number::Integer(magnitude, suffix) => {
             return Some(integer_found(text, suffix, magnitude));
@@ -207,8 +207,8 @@ pub(crate) fn find_truth(text: &str) -> Option<Found> {
 /// Returns the parse result of the literal `text`. The text must be a literal.
 #[cfg(feature = "__rendered")]
 #[inline]
-pub fn found_in(text: &str) -> Found {
-    match find(text) {
+pub fn parse_known_literal(text: &str) -> Found {
+    match parse_literal(text) {
         Some(found) => found,
         None => unreachable!(),
     }
@@ -219,7 +219,7 @@ pub fn found_in(text: &str) -> Found {
 /// The result contains that of [`shape`](crate::rl_lenient::shape), and further offsets and values that parsing computes.
 #[cfg_attr(debug_assertions, inline)]
 #[cfg_attr(not(debug_assertions), inline(always))]
-pub fn find(text: &str) -> Option<Found> {
+pub fn parse_literal(text: &str) -> Option<Found> {
     if begins_character(text) {
         // A character without an escape is parsed inline, since a call would cost as much as parsing it.
         if let Some(found) = find_bare_character(text) {
@@ -239,7 +239,7 @@ fn find_word_or_quoted(text: &str) -> Option<Found> {
     let Some((form, kind, inside)) = split_opener(text) else {
         return find_truth(text);
     };
-    // Each arm returns by itself. A value that all arms make would be copied once more.
+    // Each arm of the `match` returns by itself. A value that all arms make would be copied once more.
     match form {
         QuotedForm::Cooked => return find_cooked(kind, text, inside),
         QuotedForm::Single => return find_single(kind, text, inside),
@@ -281,6 +281,6 @@ pub fn begins_number(text: &str) -> bool {
 #[cfg(feature = "__rendered")]
 #[inline]
 pub fn shape(text: &str) -> Option<Parts<'_>> {
-    let found = find(text)?;
+    let found = parse_literal(text)?;
     Some(found.parts(text))
 }

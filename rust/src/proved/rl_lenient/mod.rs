@@ -22,20 +22,20 @@ pub mod units;
 #[cfg(feature = "__rendered")]
 mod values;
 
-pub use crate::rl_lenient::contents::bytes_into;
+pub use crate::rl_lenient::contents::decode_bytes_into;
 #[cfg(feature = "__rendered")]
 pub use crate::rl_lenient::contents::{
-    byte_of, byte_of_body, char_of, char_of_body, is_plain, str_into,
+    byte_of, byte_of_body, char_of, char_of_body, decode_str_into, is_plain,
 };
 pub use crate::rl_lenient::digits::{float_digits_into, is_plain_integer};
-pub use crate::rl_lenient::found::{Body, Found, bool_of, find};
+pub use crate::rl_lenient::found::{Body, Found, bool_of, parse_literal};
 #[cfg(feature = "__rendered")]
 pub use crate::rl_lenient::found::{Parts, find_float, find_int, shape};
 #[cfg(any(feature = "sources", feature = "settings"))]
 pub use crate::rl_lenient::found::find_negative;
 #[cfg(any(feature = "sources", feature = "settings"))]
 pub use crate::rl_lenient::next_literals::{
-    ListStep, NextLiteral, Rejection, RejectionKind, list_step, next_literal,
+    ListStep, NextLiteral, Rejection, RejectionKind, next_list_literal, next_literal,
 };
 #[cfg(feature = "__rendered")]
 pub use crate::rl_lenient::number_forms::{float_shape, int_shape, shape_negative};
@@ -45,4 +45,4 @@ pub use crate::rl_lenient::segments::{Segment, SegmentValue, Segments, split_seg
 #[cfg(feature = "__rendered")]
 pub use crate::rl_lenient::segments::text_offset;
 #[cfg(feature = "sources")]
-pub use crate::rl_lenient::source_literals::{SourceStep, source_step};
+pub use crate::rl_lenient::source_literals::{SourceStep, next_source_literal};

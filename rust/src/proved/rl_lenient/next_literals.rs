@@ -1,7 +1,7 @@
 // Rendered from crates/rl_lenient/src/next_literals.rt by tools/render, which erases contracts: change that file, and render again.
 //! Functions that return the next literal of a list of literals, or the list's error.
 
-use crate::rl_lenient::found::{Found, find, find_negative, find_truth};
+use crate::rl_lenient::found::{Found, find_negative, find_truth, parse_literal};
 use crate::rl_lexer::{Form, LexKind, Lexeme, Tokens};
 
 /// The next literal of a list: its token, the minus before it, and its parse result. The token may be an invalid
@@ -40,7 +40,7 @@ pub struct Rejection {
     pub at: usize,
 }
 
-/// The result of [`list_step`], which advances over a list of literals by one literal.
+/// The result of [`next_list_literal`], which advances over a list of literals by one literal.
 #[derive(Clone, Copy)]
 pub enum ListStep<'t> {
     /// The end of the list.
@@ -68,7 +68,7 @@ fn alone<'t>(token: Lexeme<'t>, found: Option<Found>) -> NextLiteral<'t> {
 fn take_literal<'t>(tokens: &mut Tokens<'t>) -> Option<NextLiteral<'t>> {
     let token = tokens.next()?;
     match token.form {
-        Form::Literal => Some(alone(token, find(token.text))),
+        Form::Literal => Some(alone(token, parse_literal(token.text))),
         Form::Identifier => {
             let found = find_truth(token.text)?;
             Some(alone(token, Some(found)))
@@ -131,7 +131,7 @@ fn rejection_at(tokens: &Tokens<'_>) -> Rejection {
 /// Consumes the next literal of a list as [`next_literal`] does, and returns it. At the end of the list, and at an
 /// error, returns that instead. Nothing is allocated.
 #[inline(always)]
-pub fn list_step<'t>(tokens: &mut Tokens<'t>) -> ListStep<'t> {
+pub fn next_list_literal<'t>(tokens: &mut Tokens<'t>) -> ListStep<'t> {
     if tokens.rest().is_empty() {
         return ListStep::End;
     }

@@ -2,8 +2,8 @@
 //! Functions that split the text of a number into its parts.
 
 use crate::rl_lenient::digit_runs::{after_minus, read_digit_run, skip_digits};
-use crate::rl_lenient::find;
 use crate::rl_lenient::number_forms::split_radix;
+use crate::rl_lenient::parse_literal;
 use crate::rl_syntax::Kind;
 use crate::rl_syntax::text::{before, split_char, strip_byte};
 
@@ -32,7 +32,7 @@ pub struct FloatParts<'t> {
 /// 128 bits.
 #[inline]
 pub fn integer_parts(text: &str) -> Option<IntegerParts<'_>> {
-    let found = find(text)?;
+    let found = parse_literal(text)?;
     if !matches!(found.kind, Kind::Int) {
         return None;
     }
@@ -74,7 +74,7 @@ fn after_letter(text: &str) -> Option<&str> {
 /// float suffix, as `1f32`, is an integer literal.
 #[inline]
 pub fn float_parts(text: &str) -> Option<FloatParts<'_>> {
-    let found = find(text)?;
+    let found = parse_literal(text)?;
     if !matches!(found.kind, Kind::Float) {
         return None;
     }

@@ -2,7 +2,7 @@
 //! Functions that parse quoted literals, and return the byte offsets of their parts.
 
 use crate::rl_lenient::found::{Body, Found};
-use crate::rl_lenient::units::{is_ascii, piece_code, split_plain, unit};
+use crate::rl_lenient::units::{is_ascii, parse_char_or_escape, piece_code, split_plain};
 use crate::rl_syntax::Kind;
 use crate::rl_syntax::classes::skip_hashes;
 use crate::rl_syntax::text::{after_prefix, before, split_ascii};
@@ -55,7 +55,7 @@ pub fn split_opener(text: &str) -> Option<(QuotedForm, Kind, &str)> {
     if first == first_of(Kind::Char) {
         Some((QuotedForm::Single, Kind::Char, rest))
     } else if first == first_of(Kind::Byte) {
-        // A byte string begins with the letter of a byte literal too.
+        // Byte literals and byte strings begin with the same letter, `b`.
         split_byte_opener(rest)
     } else if first == first_of(Kind::CStr) {
         split_string_opener(Kind::CStr, rest)
@@ -67,7 +67,7 @@ pub fn split_opener(text: &str) -> Option<(QuotedForm, Kind, &str)> {
 /// Returns the text after the characters and escapes at its start that a string literal of the kind may contain. For
 /// `Str` the loop is compiled separately, with the kind as a constant.
 #[inline]
-pub fn skip_units(kind: Kind, text: &str) -> &str {
+pub fn skip_string_content(kind: Kind, text: &str) -> &str {
     match kind {
         Kind::Str => skip_units_of(Kind::Str, text),
         _ => skip_units_of(kind, text),
@@ -79,7 +79,7 @@ pub fn skip_units(kind: Kind, text: &str) -> &str {
 #[inline(always)]
 fn skip_units_of(kind: Kind, text: &str) -> &str {
     let mut rest = text;
-    while let Some((_, after)) = unit(kind, rest) {
+    while let Some((_, after)) = parse_char_or_escape(kind, rest) {
         let (_, following) = split_plain(kind, after);
         rest = following;
     }
@@ -101,7 +101,7 @@ pub(crate) fn has_nul(text: &str) -> bool {
 /// Returns the text after the quote at its start, or `None` if it doesn't begin with the quote of the kind: `'` for
 /// characters and bytes, `"` for strings.
 #[inline(always)]
-pub fn after_quote(kind: Kind, text: &str) -> Option<&str> {
+pub fn strip_quote(kind: Kind, text: &str) -> Option<&str> {
     match split_ascii(text) {
         Some((first, rest)) if first as char == kind.quote() => Some(rest),
         _ => None,
@@ -111,7 +111,7 @@ pub fn after_quote(kind: Kind, text: &str) -> Option<&str> {
 /// Returns the byte offsets of the parts of the quoted literal `text`. `opened`, `closer` and `suffix` are ends of
 /// `text`: those that begin with the body, with the closing quote, and with the suffix.
 #[inline(always)]
-pub fn places(text: &str, opened: &str, closer: &str, suffix: &str, plain: bool) -> Body {
+pub fn part_offsets(text: &str, opened: &str, closer: &str, suffix: &str, plain: bool) -> Body {
     Body {
         lo: text.len() - opened.len(),
         hi: text.len() - closer.len(),
@@ -137,14 +137,14 @@ fn quoted(kind: Kind, body: Body, unit: u32) -> Found {
 /// Returns `None` if it isn't one.
 #[inline(always)]
 pub(crate) fn find_cooked(kind: Kind, text: &str, inside: &str) -> Option<Found> {
-    // All string literals end with one quote. Naming the kind `Str` makes it a constant for the compiler.
+    // Each string literal ends with `"`. Naming the kind `Str` makes this quote a constant for the compiler.
     let (_, following) = split_plain(kind, inside);
-    if let Some(suffix) = after_quote(Kind::Str, following) {
-        return Some(quoted(kind, places(text, inside, following, suffix, true), 0));
+    if let Some(suffix) = strip_quote(Kind::Str, following) {
+        return Some(quoted(kind, part_offsets(text, inside, following, suffix, true), 0));
     }
-    let closer = skip_units(kind, following);
-    let suffix = after_quote(Kind::Str, closer)?;
-    Some(quoted(kind, places(text, inside, closer, suffix, false), 0))
+    let closer = skip_string_content(kind, following);
+    let suffix = strip_quote(Kind::Str, closer)?;
+    Some(quoted(kind, part_offsets(text, inside, closer, suffix, false), 0))
 }
 
 /// Parses `text` as a raw string literal of the kind, where `inside` is the text after its `r`. Returns the byte
@@ -153,21 +153,21 @@ pub(crate) fn find_cooked(kind: Kind, text: &str, inside: &str) -> Option<Found>
 fn raw_places(kind: Kind, text: &str, inside: &str) -> Option<Body> {
     let rest = skip_hashes(inside);
     let hashes = before(inside, rest);
-    let opened = after_quote(Kind::Str, rest)?;
+    let opened = strip_quote(Kind::Str, rest)?;
     let (body, after) = split_last_quote(opened)?;
     let suffix = after_prefix(hashes, after)?;
     if !holds_all(kind, body) {
         return None;
     }
     let closer = &opened[body.len()..];
-    Some(places(text, opened, closer, suffix, true))
+    Some(part_offsets(text, opened, closer, suffix, true))
 }
 
 /// Parses `text` as a raw string literal of the kind, where `inside` is the text after its `r`. Returns `None` if it
 /// isn't one.
 #[inline(always)]
 pub(crate) fn find_raw(kind: Kind, text: &str, inside: &str) -> Option<Found> {
-    // The called function returns only byte offsets. A parse result that it returned would be copied once more.
+    // `raw_places` returns only byte offsets. A parse result that it returned would be copied once more.
     let body = raw_places(kind, text, inside)?;
     Some(quoted(kind, body, 0))
 }
@@ -186,9 +186,9 @@ fn holds_all(kind: Kind, text: &str) -> bool {
 /// it isn't one.
 #[inline(always)]
 pub(crate) fn find_single(kind: Kind, text: &str, inside: &str) -> Option<Found> {
-    let (piece, closer) = unit(kind, inside)?;
-    let suffix = after_quote(Kind::Char, closer)?;
-    let body = places(text, inside, closer, suffix, false);
+    let (piece, closer) = parse_char_or_escape(kind, inside)?;
+    let suffix = strip_quote(Kind::Char, closer)?;
+    let body = part_offsets(text, inside, closer, suffix, false);
     Some(quoted(kind, body, piece_code(kind, piece)))
 }
 

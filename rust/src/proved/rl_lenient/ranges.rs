@@ -11,12 +11,12 @@ use crate::rl_syntax::Kind;
 /// For an empty range the result is empty, and begins where the character or escape of the byte `lo` begins. An escaped
 /// line end after the last byte isn't included.
 ///
-/// `body` contains the byte offsets of the literal's parts, as [`find`](crate::rl_lenient::find) returns them.
+/// `body` contains the byte offsets of the literal's parts, as [`parse_literal`](crate::rl_lenient::parse_literal) returns them.
 #[inline]
 pub fn text_range(kind: Kind, text: &str, body: &Body, lo: usize, hi: usize) -> (usize, usize) {
     let first = body.segments_in(kind, text).text_offset(lo);
     if lo < hi {
-        (first, body.segments_in(kind, text).end_of(hi - 1))
+        (first, body.segments_in(kind, text).text_end_offset(hi - 1))
     } else {
         (first, first)
     }

@@ -3,8 +3,8 @@
 
 use crate::rl_lenient::found::Body;
 #[cfg(feature = "__rendered")]
-use crate::rl_lenient::found::find;
-use crate::rl_lenient::units::{Piece, is_plain, split_plain, unit};
+use crate::rl_lenient::found::parse_literal;
+use crate::rl_lenient::units::{Piece, is_plain_char, parse_char_or_escape, split_plain};
 use crate::rl_syntax::Kind;
 use crate::rl_syntax::text::{before, split_char};
 
@@ -47,7 +47,7 @@ pub struct Segments<'t> {
 
 impl Body {
     /// Returns the segments of the quoted literal `text` of the kind, where `self` contains the byte offsets of its
-    /// parts, as [`find`] returns them. The text isn't parsed again.
+    /// parts, as [`parse_literal`] returns them. The text isn't parsed again.
     #[inline(always)]
     pub fn segments_in<'t>(&self, kind: Kind, text: &'t str) -> Segments<'t> {
         Segments {
@@ -80,7 +80,7 @@ fn split_run(kind: Kind, text: &str) -> (&str, &str) {
         return split_plain(kind, text);
     }
     match split_char(text) {
-        Some((c, rest)) if is_plain(kind, c) => (before(text, rest), rest),
+        Some((c, rest)) if is_plain_char(kind, c) => (before(text, rest), rest),
         _ => ("", text),
     }
 }
@@ -91,7 +91,7 @@ fn split_run(kind: Kind, text: &str) -> (&str, &str) {
 fn value_of<'t>(kind: Kind, piece: Piece) -> SegmentValue<'t> {
     match piece {
         Piece::Character(c) => SegmentValue::Char(c),
-        Piece::Byte(b) if kind.holds_characters() => SegmentValue::Char(b as char),
+        Piece::Byte(b) if kind.decodes_to_chars() => SegmentValue::Char(b as char),
         Piece::Byte(b) => SegmentValue::Byte(b),
         Piece::Nothing => SegmentValue::Nothing,
     }
@@ -109,7 +109,7 @@ pub fn split_segment(kind: Kind, plain: bool, text: &str) -> (SegmentValue<'_>, 
     if !run.is_empty() {
         return (SegmentValue::Text(run), following);
     }
-    let Some((piece, after)) = unit(kind, text) else {
+    let Some((piece, after)) = parse_char_or_escape(kind, text) else {
         unreachable!()
     };
     (value_of(kind, piece), after)
@@ -129,7 +129,7 @@ impl<'t> Segment<'t> {
     /// Returns the byte offset in the literal's text after the part that the byte `at` of the segment's value comes
     /// from. In a segment of plain characters that part is the byte itself. Otherwise it is the whole segment.
     #[inline(always)]
-    pub fn end_of(self, at: usize) -> usize {
+    pub fn text_end_offset(self, at: usize) -> usize {
         match self.value {
             SegmentValue::Text(_) => self.text_offset(at) + 1,
             _ => self.hi,
@@ -142,7 +142,7 @@ impl<'t> Segments<'t> {
     #[cfg(feature = "__rendered")]
     #[inline]
     pub fn of(text: &'t str) -> Option<Segments<'t>> {
-        let found = find(text)?;
+        let found = parse_literal(text)?;
         if !is_quoted(found.kind) {
             return None;
         }
@@ -165,7 +165,7 @@ impl<'t> Segments<'t> {
     /// Returns the byte offset in the literal's text where the next segment begins, or that of the closing quote if no
     /// segment is left.
     #[inline]
-    pub fn at(&self) -> usize {
+    pub fn next_offset(&self) -> usize {
         self.end - self.rest.len()
     }
 
@@ -207,10 +207,10 @@ impl<'t> Segments<'t> {
     /// `at` counts from the start of the next segment's value. At the end of the value, and beyond it, the result is
     /// the offset of the closing quote.
     #[inline]
-    pub fn end_of(self, at: usize) -> usize {
+    pub fn text_end_offset(self, at: usize) -> usize {
         let end = self.end;
         match self.giving(at) {
-            Some((segment, within)) => segment.end_of(within),
+            Some((segment, within)) => segment.text_end_offset(within),
             None => end,
         }
     }

@@ -3,7 +3,7 @@
 
 use crate::rl_syntax::Kind;
 use crate::rl_syntax::classes::{CharClass, skip_class};
-use crate::rl_syntax::scan::{Marks, ascii_len_before, len_before};
+use crate::rl_syntax::scan::{Marks, ascii_len_before_mark, len_before_mark};
 use crate::rl_syntax::text::{ascii_at, split_char};
 
 /// The delimiters of a search that stops at non-ASCII bytes alone. Each is the byte 255, which is non-ASCII itself.
@@ -41,7 +41,7 @@ pub fn is_allowed_in_single_quotes(c: char) -> bool {
 }
 
 /// Returns `true` if a literal of the kind may contain the character unescaped, as its own value.
-pub fn is_plain(kind: Kind, c: char) -> bool {
+pub fn is_plain_char(kind: Kind, c: char) -> bool {
     match kind {
         Kind::Str => !matches!(c, '"' | '\\' | '\r'),
         Kind::ByteStr => c.is_ascii() && !matches!(c, '"' | '\\' | '\r'),
@@ -61,7 +61,7 @@ pub fn allows_code(kind: Kind, code: u32) -> bool {
 /// Whether a literal of the kind may contain the escape `\xHH` of the number `code`. In a literal of characters the
 /// number is below 128, and in a C string it isn't 0.
 fn may_be_hex(kind: Kind, code: u32) -> bool {
-    allows_code(kind, code) && (!kind.holds_characters() || code < 128)
+    allows_code(kind, code) && (!kind.decodes_to_chars() || code < 128)
 }
 
 /// Returns `true` if literals of the kind may contain escapes `\u{..}`: all kinds except byte strings and bytes.
@@ -165,7 +165,7 @@ fn more_digits(first: u32, text: &str, from: usize, after: usize) -> CodeDigits 
 /// Parses the hexadecimal digits and underscores of an escape `\u{..}`. `from` is the byte offset after its brace.
 /// Returns `None` if no digit is at `from`.
 #[inline(always)]
-pub fn code_digits(text: &str, from: usize) -> Option<CodeDigits> {
+pub fn parse_code_digits(text: &str, from: usize) -> Option<CodeDigits> {
     let (first, after) = digit(text, from)?;
     Some(more_digits(first, text, from, after))
 }
@@ -188,7 +188,7 @@ fn unicode_escape(kind: Kind, text: &str, at: usize) -> Option<(char, usize)> {
     let Some((b'{', inside)) = ascii_at(text, at) else {
         return None;
     };
-    let (c, after) = closed_code(text, code_digits(text, inside)?)?;
+    let (c, after) = closed_code(text, parse_code_digits(text, inside)?)?;
     if allows_unicode_escapes(kind) && allows_code(kind, c as u32) {
         Some((c, after))
     } else {
@@ -205,7 +205,7 @@ fn skip_blanks(text: &str) -> &str {
 /// if a literal of the kind doesn't allow the escape.
 #[cfg_attr(debug_assertions, inline)]
 #[cfg_attr(not(debug_assertions), inline(always))]
-pub fn escape(kind: Kind, text: &str, at: usize) -> Option<(Piece, &str)> {
+pub fn parse_escape(kind: Kind, text: &str, at: usize) -> Option<(Piece, &str)> {
     let (letter, after) = ascii_at(text, at)?;
     match letter {
         b'x' => {
@@ -236,7 +236,7 @@ pub fn escape(kind: Kind, text: &str, at: usize) -> Option<(Piece, &str)> {
 #[inline(always)]
 fn character(kind: Kind, text: &str) -> Option<(Piece, &str)> {
     match split_char(text) {
-        Some((c, rest)) if is_plain(kind, c) => Some((Piece::Character(c), rest)),
+        Some((c, rest)) if is_plain_char(kind, c) => Some((Piece::Character(c), rest)),
         Some(('\r', rest)) if kind.is_string() => match split_char(rest) {
             Some(('\n', rest)) => Some((Piece::Byte(b'\n'), rest)),
             _ => None,
@@ -248,9 +248,9 @@ fn character(kind: Kind, text: &str) -> Option<(Piece, &str)> {
 /// Returns the value of the character or escape at the start of the text, and the text after it. Returns `None` if a
 /// literal of the kind doesn't allow it.
 #[inline(always)]
-pub fn unit(kind: Kind, text: &str) -> Option<(Piece, &str)> {
+pub fn parse_char_or_escape(kind: Kind, text: &str) -> Option<(Piece, &str)> {
     match ascii_at(text, 0) {
-        Some((b'\\', at)) => escape(kind, text, at),
+        Some((b'\\', at)) => parse_escape(kind, text, at),
         _ => character(kind, text),
     }
 }
@@ -258,13 +258,13 @@ pub fn unit(kind: Kind, text: &str) -> Option<(Piece, &str)> {
 /// Splits the text before its first delimiter or non-ASCII character. If it contains neither, the first part is the
 /// whole text.
 #[inline(always)]
-pub fn split_ascii_run(marks: Marks, text: &str) -> (&str, &str) {
-    text.split_at(ascii_len_before(marks, text.as_bytes()))
+pub fn split_before_mark_or_non_ascii(marks: Marks, text: &str) -> (&str, &str) {
+    text.split_at(ascii_len_before_mark(marks, text.as_bytes()))
 }
 
 /// Whether all characters of the text are ASCII.
 pub(crate) fn is_ascii(text: &str) -> bool {
-    ascii_len_before(NO_MARK, text.as_bytes()) == text.len()
+    ascii_len_before_mark(NO_MARK, text.as_bytes()) == text.len()
 }
 
 /// Returns the ASCII characters that a string literal of the kind doesn't allow unescaped, as the delimiters of a
@@ -289,15 +289,15 @@ fn ends_of_runs(kind: Kind) -> Marks {
 #[inline(never)]
 fn run_len(kind: Kind, bytes: &[u8]) -> usize {
     match kind {
-        Kind::CStr => len_before(ends_of_runs(Kind::CStr), bytes),
-        _ => len_before(ends_of_runs(Kind::Str), bytes),
+        Kind::CStr => len_before_mark(ends_of_runs(Kind::CStr), bytes),
+        _ => len_before_mark(ends_of_runs(Kind::Str), bytes),
     }
 }
 
 /// Returns the number of leading bytes that a byte string literal may contain unescaped. All of them are ASCII.
 #[inline(never)]
 fn byte_run_len(bytes: &[u8]) -> usize {
-    ascii_len_before(ends_of_runs(Kind::ByteStr), bytes)
+    ascii_len_before_mark(ends_of_runs(Kind::ByteStr), bytes)
 }
 
 /// Returns the number of leading bytes that a string literal of the kind may contain unescaped. At a backslash, 0 is

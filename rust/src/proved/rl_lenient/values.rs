@@ -1,7 +1,7 @@
 // Rendered from crates/rl_lenient/src/values.rt by tools/render, which erases contracts: change that file, and render again.
 //! Functions that return the value of an integer literal with its sign, decode a string literal, and test for a suffix.
 
-use crate::rl_lenient::contents::str_into;
+use crate::rl_lenient::contents::decode_str_into;
 use crate::rl_lenient::digit_runs::is_negative;
 use crate::rl_lenient::found::Found;
 use crate::rl_lenient::next_literals::NextLiteral;
@@ -48,12 +48,12 @@ impl Found {
 
     /// Decodes a string literal, writes its value to the start of `out`, and returns the value's length in bytes. The
     /// length is at most that of the literal's body. `text` must be the literal's text, which was parsed.
-    pub fn str_into(&self, text: &str, out: &mut [u8]) -> usize {
+    pub fn decode_str_into(&self, text: &str, out: &mut [u8]) -> usize {
         let body = self.body_in(text);
         if self.body.plain {
             put(out, 0, body.as_bytes())
         } else {
-            str_into(body, out)
+            decode_str_into(body, out)
         }
     }
 

@@ -3,7 +3,7 @@
 
 use crate::rl_lexer::lex_error::LexKind;
 use crate::rl_lexer::lexeme::{begins_hashed_quote, begins_marked_identifier};
-use crate::rl_syntax::characters::is_start;
+use crate::rl_syntax::characters::is_id_start;
 use crate::rl_syntax::kind::{BYTE_OPENER, BYTE_STR_OPENER, C_STR_OPENER, CHAR_OPENER, STR_OPENER};
 use crate::rl_syntax::text::{begins, begins_with_char, split_char};
 
@@ -74,7 +74,7 @@ fn begins_raw(text: &str) -> bool {
 fn begins_lifetime(text: &str) -> bool {
     match split_char(text) {
         Some(('\'', following)) => match split_char(following) {
-            Some((c, _)) => is_start(c),
+            Some((c, _)) => is_id_start(c),
             None => false,
         },
         _ => false,

@@ -7,12 +7,12 @@ use crate::rl_lexer::lexeme::{Form, number_or_other, rebuilt, word_or_mark};
 use crate::rl_lexer::no_token::{begins_raw_identifier, opens};
 use crate::rl_lexer::whitespace::{after_block, after_line, is_comment_block, is_comment_line, skip};
 use bad_quote::after_bad_quote;
-use crate::rl_syntax::characters::is_start;
-use crate::rl_syntax::classes::{skip_white, skip_word};
-use crate::rl_syntax::lanes::{byte_before, is_word_byte, skippable_len};
+use crate::rl_syntax::characters::is_id_start;
+use crate::rl_syntax::classes::{skip_id_continue, skip_white};
+use crate::rl_syntax::lanes::{byte_before, is_ascii_id_continue, literal_free_prefix_len};
 use crate::rl_syntax::lines::split_line;
 #[cfg(feature = "__rendered")]
-use crate::rl_syntax::lines::after_line_feed;
+use crate::rl_syntax::lines::after_first_line_feed;
 use crate::rl_syntax::text::{begins_with_char, split_ascii, split_char, strip_byte, without_first_char};
 
 /// The form of a token that [`Sources`](crate::rl_lexer::Sources) returns.
@@ -52,7 +52,7 @@ pub fn first_source_token(text: &str) -> Option<(SourceForm, &str)> {
 #[inline(always)]
 pub(crate) fn skip_unlikely(text: &str) -> &str {
     let bytes = text.as_bytes();
-    let at = skippable_len(bytes);
+    let at = literal_free_prefix_len(bytes);
     let rest = after_word(byte_before(bytes, at), &text[at..]);
     skip_all_comments(skip_white(rest))
 }
@@ -86,8 +86,8 @@ fn after_any_comment(text: &str) -> Option<&str> {
 /// identifier character. Otherwise the result is `text` itself.
 #[inline(always)]
 fn after_word(before: u8, text: &str) -> &str {
-    if is_word_byte(before) {
-        skip_word(text)
+    if is_ascii_id_continue(before) {
+        skip_id_continue(text)
     } else {
         text
     }
@@ -190,13 +190,13 @@ fn line_end(text: &str) -> &str {
 /// Returns the text after its first LF, or `None` if it contains no LF.
 #[cfg(feature = "__rendered")]
 pub(crate) fn after_first_line(text: &str) -> Option<&str> {
-    after_line_feed(text)
+    after_first_line_feed(text)
 }
 
 /// Returns the text after the identifier at its start, or `None` if it begins with no identifier.
 fn after_name(text: &str) -> Option<&str> {
     match split_char(text) {
-        Some((c, following)) if is_start(c) => Some(skip_word(following)),
+        Some((c, following)) if is_id_start(c) => Some(skip_id_continue(following)),
         _ => None,
     }
 }

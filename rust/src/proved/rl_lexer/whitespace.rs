@@ -3,7 +3,7 @@
 
 use crate::rl_syntax::classes::skip_white;
 use crate::rl_syntax::lanes::byte_at;
-use crate::rl_syntax::lines::after_line_feed;
+use crate::rl_syntax::lines::after_first_line_feed;
 use crate::rl_syntax::scan::{Marks, len_before_near_mark};
 use crate::rl_syntax::text::{begins_with_char, split_ascii, strip_byte};
 
@@ -79,7 +79,7 @@ pub(crate) fn is_comment_block(inside: &str) -> bool {
 
 /// Returns the text after the LF that ends a line comment, or an empty text if the comment is at the end of the text.
 pub(crate) fn after_line(text: &str) -> &str {
-    after_line_feed(text).unwrap_or("")
+    after_first_line_feed(text).unwrap_or("")
 }
 
 /// Returns the text after a block comment, where `text` follows its `/*`. Returns `None` if the comment isn't closed.
@@ -108,7 +108,7 @@ pub(crate) fn after_block(text: &str) -> Option<&str> {
                 depth += 1;
             }
         } else {
-            at += len_before_near_mark(Marks::two(b'*', b'/'), &bytes[at..]);
+            at += len_before_near_mark(Marks::from_two_bytes(b'*', b'/'), &bytes[at..]);
         }
     }
     None

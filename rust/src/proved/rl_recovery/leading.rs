@@ -2,7 +2,7 @@
 //! The literal at the start of a text, optionally with a minus before it.
 
 use crate::rl_lenient::digit_runs::begins_digit;
-use crate::rl_lenient::{Found, find, find_negative};
+use crate::rl_lenient::{Found, find_negative, parse_literal};
 use crate::rl_lexer::{SourceToken, first_source_token};
 use crate::rl_syntax::text::{before, begins, strip_byte};
 
@@ -55,7 +55,7 @@ pub fn leading_literal(text: &str) -> Option<LeadingLiteral<'_>> {
     }
     Some(LeadingLiteral {
         text: literal,
-        found: find(literal),
+        found: parse_literal(literal),
         following,
     })
 }

@@ -3,10 +3,11 @@
 
 use crate::rl_syntax::text::{begins, begins_with_char, split_char};
 
-/// Returns the part of the text where lexing resumes after the error at the text's start, or `None` if there is no such part.
+/// Returns the text from the position where lexing resumes after the error at the start of the given text, or `None` if lexing
+/// doesn't resume.
 ///
-/// Lexing resumes at the LF that ends the line of an unclosed quote. After an unclosed block comment it doesn't resume.
-/// After the quote of an unclosed character or byte literal, an escaped line end continues the line.
+/// Lexing resumes at the LF that ends the line of an unclosed quote. After an unclosed block comment it doesn't resume. After
+/// the quote of an unclosed character or byte literal, an escaped line end continues the line.
 pub(crate) fn lines_after(text: &str) -> Option<&str> {
     if begins(text, "/*") {
         return None;

@@ -9,4 +9,4 @@ mod recovery;
 mod unclosed;
 
 pub use crate::rl_recovery::leading::{LeadingLiteral, leading_literal, leading_signed_literal};
-pub use crate::rl_recovery::recovery::{Recovery, recovery_step};
+pub use crate::rl_recovery::recovery::{Recovery, next_recovered_literal};

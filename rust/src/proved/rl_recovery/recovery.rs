@@ -3,7 +3,7 @@
 
 use crate::rl_recovery::lines::lines_after;
 use crate::rl_recovery::unclosed::Unclosed;
-use crate::rl_lenient::{SourceStep, find};
+use crate::rl_lenient::{SourceStep, parse_literal};
 use crate::rl_lexer::{LexError, SourceToken, Sources, source_error_kind};
 
 /// Consumes tokens up to the next literal and returns it, as [`Sources::next_literal`] does. Returns `None` if the end or the
@@ -138,9 +138,9 @@ fn placed(before: usize, token: SourceToken<'_>) -> SourceToken<'_> {
 /// Returns the next literal of a source and its parse result, or the error before the literal. After an error, lexing resumes
 /// after it. The result is `End` at the text's end. Nothing is allocated.
 #[inline(always)]
-pub fn recovery_step<'t>(source: &mut Recovery<'t>) -> SourceStep<'t> {
+pub fn next_recovered_literal<'t>(source: &mut Recovery<'t>) -> SourceStep<'t> {
     match source.next_literal() {
-        Some(Ok(token)) => SourceStep::Literal(token, find(token.text)),
+        Some(Ok(token)) => SourceStep::Literal(token, parse_literal(token.text)),
         Some(Err(error)) => SourceStep::Rejected(error),
         None => SourceStep::End,
     }

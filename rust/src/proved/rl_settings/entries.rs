@@ -174,7 +174,7 @@ fn take_entry<'t>(tokens: &mut Tokens<'t>, text: &str) -> Result<NextEntry<'t>, 
 /// If [`first_error`](crate::rl_settings::first_error) returns `None` for the text, each group is closed. A caller removes a byte order mark
 /// at the text's start with [`crate::rl_lexer::without_byte_order_mark`].
 #[inline]
-pub fn entry_step<'t>(tokens: &mut Tokens<'t>, text: &str) -> EntryStep<'t> {
+pub fn next_config_entry<'t>(tokens: &mut Tokens<'t>, text: &str) -> EntryStep<'t> {
     if tokens.rest().is_empty() {
         return EntryStep::End;
     }

@@ -62,7 +62,7 @@ impl Groups {
         true
     }
 
-    /// Closes the innermost open group if `closer` is its closing delimiter, and returns whether it is.
+    /// Closes the innermost open group if `closer` is its closing delimiter. Returns whether the group was closed.
     #[inline]
     fn close_group(&mut self, closer: char) -> bool {
         if self.start >= MAX_OPEN {
@@ -76,7 +76,7 @@ impl Groups {
     }
 
     /// Updates the open groups for a token of the form `form` at the byte offset `at`. Returns the kind of error if the token
-    /// is a delimiter that isn't allowed there.
+    /// is a delimiter that the open groups don't allow.
     #[inline]
     fn pass(&mut self, form: Form, at: usize) -> Option<LexKind> {
         let Form::Delimiter(c) = form else {
@@ -107,9 +107,9 @@ impl Groups {
 
 /// Returns the first error of a text's tokens and groups, or `None` if the text has none.
 ///
-/// The errors are those of the lexer, a group with a wrong closing delimiter, and a group inside 128 others. If all of these
-/// are absent and groups are open at the text's end, the error is the innermost of these groups. `lex` of `rl_tokens` returns
-/// the same error. Nothing is allocated.
+/// The errors are those of the lexer, a group with a wrong closing delimiter, and a group inside 128 others. If the text has
+/// none of these errors, and groups are open at its end, the error is the innermost open group. `lex` of `rl_tokens` returns
+/// this error too. Nothing is allocated.
 #[inline]
 pub fn first_error(text: &str) -> Option<LexError> {
     let mut tokens = Tokens::new(text);

@@ -14,10 +14,10 @@ mod syntax_error;
 
 #[cfg(feature = "settings")]
 pub use crate::rl_settings::entries::{
-    DottedName, EntryRejection, EntryStep, NextEntry, entry_step,
+    DottedName, EntryRejection, EntryStep, NextEntry, next_config_entry,
 };
 #[cfg(feature = "settings")]
 pub use crate::rl_settings::groups::first_error;
 #[cfg(feature = "settings")]
-pub use crate::rl_settings::settings::{NextSetting, SettingRejection, SettingStep, settings_step};
+pub use crate::rl_settings::settings::{NextSetting, SettingRejection, SettingStep, next_setting};
 pub use crate::rl_settings::syntax_error::{Part, SyntaxError, SyntaxErrorKind, lexer_error, list_error};

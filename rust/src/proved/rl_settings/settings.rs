@@ -199,7 +199,7 @@ fn take_setting<'t>(
 ///
 /// If [`first_error`](crate::rl_settings::first_error) returns `None` for the text, each group is closed.
 #[inline]
-pub fn settings_step<'t>(tokens: &mut Tokens<'t>, end: usize) -> SettingStep<'t> {
+pub fn next_setting<'t>(tokens: &mut Tokens<'t>, end: usize) -> SettingStep<'t> {
     if tokens.rest().is_empty() {
         return SettingStep::End;
     }

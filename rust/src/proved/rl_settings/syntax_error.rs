@@ -29,9 +29,9 @@ pub enum SyntaxErrorKind {
     NoNumber,
     /// An opening delimiter in a list of literals, where a literal was expected.
     Group,
-    /// A token or group in settings, where this part of a setting was expected.
+    /// A token or group in settings, where the given part of a setting was expected.
     Expected(Part),
-    /// The end of the settings, where this part of a setting was expected.
+    /// The end of the settings, where the given part of a setting was expected.
     EndOfInput(Part),
     /// A setting with a name that an earlier setting has.
     Repeated,

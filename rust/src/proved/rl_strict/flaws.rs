@@ -245,7 +245,7 @@ fn place_in(span: Span, at: usize) -> usize {
 }
 
 /// Returns a flaw at the beginning of `text`: of the kind `at_end` if `text` is empty, of the kind `before` otherwise.
-pub fn end_flaw(at_end: FlawKind, before: FlawKind, text: &str) -> FlawAt<'_> {
+pub fn flaw_at_end_or_before(at_end: FlawKind, before: FlawKind, text: &str) -> FlawAt<'_> {
     match split_char(text) {
         None => make_flaw(at_end, text),
         Some(_) => make_flaw(before, text),
@@ -269,16 +269,20 @@ fn skip_letters<'t>(word: &str, text: &'t str) -> &'t str {
 }
 
 /// Returns the flaw of a text that begins neither as a number nor as a quoted literal.
-pub fn first_flaw(text: &str) -> FlawAt<'_> {
+pub fn non_literal_flaw(text: &str) -> FlawAt<'_> {
     match split_char(text) {
         None => make_flaw(FlawKind::Empty, text),
-        Some(('b' | 'c', rest)) => end_flaw(FlawKind::UnexpectedEnd, FlawKind::NotALiteral, rest),
-        Some(('t', _)) => end_flaw(
+        Some(('b' | 'c', rest)) => flaw_at_end_or_before(
+            FlawKind::UnexpectedEnd,
+            FlawKind::NotALiteral,
+            rest,
+        ),
+        Some(('t', _)) => flaw_at_end_or_before(
             FlawKind::UnexpectedEnd,
             FlawKind::NotALiteral,
             skip_letters("true", text),
         ),
-        Some(('f', _)) => end_flaw(
+        Some(('f', _)) => flaw_at_end_or_before(
             FlawKind::UnexpectedEnd,
             FlawKind::NotALiteral,
             skip_letters("false", text),

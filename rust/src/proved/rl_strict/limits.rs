@@ -36,7 +36,7 @@ pub fn limit_flaw(text: &str, suffix_at: usize) -> Flaw {
 
 /// Returns the flaw of `text` if `reading`, its parse result, is an integer above 128 bits that its suffix doesn't make a
 /// float.
-pub fn limit_of(text: &str, reading: Reading) -> Option<Flaw> {
+pub fn limit_flaw_of_reading(text: &str, reading: Reading) -> Option<Flaw> {
     match oversized_suffix_at(reading) {
         Some(suffix_at) => {
             if is_float_by_suffix(text) {

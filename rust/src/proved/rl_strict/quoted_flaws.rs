@@ -2,7 +2,7 @@
 //! The flaws of invalid escapes and invalid characters in quoted literals.
 
 use crate::rl_strict::flaws::{FlawAt, FlawKind, make_flaw};
-use crate::rl_lenient::units::{CodeDigits, allows_code, allows_unicode_escapes, code_digits};
+use crate::rl_lenient::units::{CodeDigits, allows_code, allows_unicode_escapes, parse_code_digits};
 use crate::rl_syntax::Kind;
 use crate::rl_syntax::text::split_char;
 
@@ -22,7 +22,7 @@ fn hex_flaw(kind: Kind, text: &str) -> FlawAt<'_> {
         return make_flaw(FlawKind::Unclosed, text);
     };
     match first.to_digit(16) {
-        Some(high) if kind.holds_characters() && high > 7 => make_flaw(
+        Some(high) if kind.decodes_to_chars() && high > 7 => make_flaw(
             FlawKind::HexEscapeOutOfRange,
             text,
         ),
@@ -63,7 +63,7 @@ fn digits_flaw(kind: Kind, text: &str, digits: CodeDigits) -> FlawAt<'_> {
 
 /// Returns the first flaw after `\u{`.
 fn first_digit_flaw(kind: Kind, text: &str) -> FlawAt<'_> {
-    if let Some(digits) = code_digits(text, 0) {
+    if let Some(digits) = parse_code_digits(text, 0) {
         return digits_flaw(kind, text, digits);
     }
     match split_char(text) {

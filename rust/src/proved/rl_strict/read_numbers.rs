@@ -5,7 +5,7 @@
 use crate::rl_strict::flaws::FlawKind;
 use crate::rl_lenient::digit_runs::{DigitRun, begins_digit, read_digit_run, skip_digits};
 use crate::rl_lenient::number_forms::split_radix;
-use crate::rl_syntax::characters::is_start;
+use crate::rl_syntax::characters::is_id_start;
 use crate::rl_syntax::classes::{CharClass, skip_class};
 use crate::rl_syntax::text::{split_ascii, split_char};
 
@@ -29,7 +29,7 @@ pub enum Number<'t> {
 #[inline(always)]
 pub(crate) fn skip_suffix(text: &str) -> &str {
     match split_char(text) {
-        Some((first, rest)) if is_start(first) => skip_class(CharClass::Continue, rest),
+        Some((first, rest)) if is_id_start(first) => skip_class(CharClass::Continue, rest),
         _ => text,
     }
 }
@@ -165,7 +165,7 @@ fn read_based(radix: u32, text: &str) -> Result<Number<'_>, Stop<'_>> {
 
 /// Parses all of `text`, which begins with a digit, as a number.
 #[inline]
-pub fn number_of(text: &str) -> Result<Number<'_>, Stop<'_>> {
+pub fn parse_number(text: &str) -> Result<Number<'_>, Stop<'_>> {
     let (radix, digits) = split_radix(text);
     if radix == 10 {
         read_whole(read_digit_run(digits, 10))
@@ -178,5 +178,5 @@ pub fn number_of(text: &str) -> Result<Number<'_>, Stop<'_>> {
 /// text that begins where parsing stopped.
 #[inline(always)]
 pub fn read_number(text: &str) -> Result<Number<'_>, Stop<'_>> {
-    number_of(text)
+    parse_number(text)
 }

@@ -6,10 +6,10 @@ use crate::rl_strict::line_ends::LineEnds;
 use crate::rl_strict::read_numbers::skip_suffix;
 use crate::rl_strict::strict_quoted_flaws::{begins_hash, quote_of};
 use crate::rl_strict::strict_reading::Reading;
-use crate::rl_strict::walk::{open_raw, parse_cooked_content, parse_raw_content, parse_single_unit};
+use crate::rl_strict::walk::{parse_cooked_content, parse_raw_content, parse_single_unit, split_raw_opening};
 use crate::rl_lenient::Body;
-use crate::rl_lenient::quoted_forms::{QuotedForm, places};
-use crate::rl_lenient::units::{Piece, is_allowed_in_single_quotes, piece_code, unit};
+use crate::rl_lenient::quoted_forms::{QuotedForm, part_offsets};
+use crate::rl_lenient::units::{Piece, is_allowed_in_single_quotes, parse_char_or_escape, piece_code};
 use crate::rl_syntax::Kind;
 use crate::rl_syntax::text::split_char;
 
@@ -77,7 +77,7 @@ pub(crate) fn text_at<'t>(
 ) -> Result<Body, FlawAt<'t>> {
     let stretch = parse_cooked_content(ends, kind, inside);
     match stretch.end {
-        Ok(suffix) => Ok(places(
+        Ok(suffix) => Ok(part_offsets(
             text,
             inside,
             stretch.closing,
@@ -99,13 +99,13 @@ pub struct Single {
 /// text after it.
 #[cfg_attr(debug_assertions, inline)]
 #[cfg_attr(not(debug_assertions), inline(always))]
-pub fn split_unit(kind: Kind, text: &str) -> Option<(Piece, &str)> {
+pub fn parse_strict_char_or_escape(kind: Kind, text: &str) -> Option<(Piece, &str)> {
     match split_char(text) {
         None => None,
-        Some(('\\', _)) => unit(kind, text),
+        Some(('\\', _)) => parse_char_or_escape(kind, text),
         Some((first, _)) => {
             if is_allowed_in_single_quotes(first) {
-                unit(kind, text)
+                parse_char_or_escape(kind, text)
             } else {
                 None
             }
@@ -125,7 +125,7 @@ pub(crate) fn unit_at<'t>(
     let stretch = parse_single_unit(ends, kind, inside);
     match stretch.end {
         Ok((piece, suffix)) => Ok(Single {
-            body: places(text, inside, stretch.closing, suffix, false),
+            body: part_offsets(text, inside, stretch.closing, suffix, false),
             unit: piece_code(kind, piece),
         }),
         Err(flaw) => Err(flaw),
@@ -144,7 +144,7 @@ fn opened_at<'t>(
 ) -> Result<Body, FlawAt<'t>> {
     let stretch = parse_raw_content(ends, kind, hashes, opened);
     match stretch.end {
-        Ok(suffix) => Ok(places(
+        Ok(suffix) => Ok(part_offsets(
             text,
             opened,
             stretch.closing,
@@ -164,7 +164,7 @@ fn raw_at<'t>(
     text: &'t str,
     inside: &'t str,
 ) -> Result<Body, FlawAt<'t>> {
-    match open_raw(kind, inside) {
+    match split_raw_opening(kind, inside) {
         Ok((hashes, opened)) => opened_at(ends, kind, text, inside, hashes, opened),
         Err(flaw) => Err(flaw),
     }

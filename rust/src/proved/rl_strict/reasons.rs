@@ -2,7 +2,7 @@
 //! Returns the flaw of a text that isn't a literal token, or has no value.
 
 use crate::rl_strict::flaws::Flaw;
-use crate::rl_strict::limits::limit_of;
+use crate::rl_strict::limits::limit_flaw_of_reading;
 use crate::rl_strict::line_ends::LineEnds;
 use crate::rl_strict::strict_reading::read;
 
@@ -25,7 +25,7 @@ pub fn explain(text: &str) -> Option<Flaw> {
 #[inline]
 pub fn explain_value(text: &str, ends: LineEnds, signed: bool) -> Option<Flaw> {
     match read(text, ends, signed) {
-        Ok(reading) => limit_of(text, reading),
+        Ok(reading) => limit_flaw_of_reading(text, reading),
         Err(flaw) => Some(flaw),
     }
 }

@@ -1,9 +1,9 @@
 // Rendered from crates/rl_strict/src/strict.rt by tools/render, which erases contracts: change that file, and render again.
 //! The characters that raw strings of Rust's grammar may contain, and their closing delimiter.
 
-use crate::rl_lenient::units::split_ascii_run;
+use crate::rl_lenient::units::split_before_mark_or_non_ascii;
 use crate::rl_syntax::Kind;
-use crate::rl_syntax::scan::{Marks, split_before};
+use crate::rl_syntax::scan::{Marks, split_before_mark};
 use crate::rl_syntax::text::after_prefix;
 
 /// The characters at which the search in a raw C string stops: `"`, which may close it, and CR and NUL, which it can't contain.
@@ -38,9 +38,9 @@ pub fn after_closer<'t>(hashes: &str, c: char, after: &'t str) -> Option<&'t str
 #[inline]
 pub fn skip_raw_characters(kind: Kind, text: &str) -> &str {
     match kind {
-        Kind::Str => split_before(Marks::two(b'"', b'\r'), text).1,
-        Kind::ByteStr => split_ascii_run(Marks::two(b'"', b'\r'), text).1,
-        Kind::CStr => split_before(INSIDE_C_STRING, text).1,
+        Kind::Str => split_before_mark(Marks::from_two_bytes(b'"', b'\r'), text).1,
+        Kind::ByteStr => split_before_mark_or_non_ascii(Marks::from_two_bytes(b'"', b'\r'), text).1,
+        Kind::CStr => split_before_mark(INSIDE_C_STRING, text).1,
         _ => text,
     }
 }

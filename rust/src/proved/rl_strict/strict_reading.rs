@@ -1,11 +1,11 @@
 // Rendered from crates/rl_strict/src/strict_reading.rt by tools/render, which erases contracts: change that file, and render again.
 //! Parses a text as one literal token of Rust's grammar, or returns its flaw.
 
-use crate::rl_strict::flaws::{Flaw, FlawAt, FlawKind, end_flaw, first_flaw, make_flaw};
+use crate::rl_strict::flaws::{Flaw, FlawAt, FlawKind, flaw_at_end_or_before, make_flaw, non_literal_flaw};
 use crate::rl_strict::line_ends::LineEnds;
-use crate::rl_strict::read_numbers::{Number, number_of};
+use crate::rl_strict::read_numbers::{Number, parse_number};
 use crate::rl_strict::read_quoted::{Single, quoted_at, text_at, unit_at};
-use crate::rl_strict::walk_units::split;
+use crate::rl_strict::walk_units::split_first_char;
 use crate::rl_lenient::digit_runs::begins_digit;
 use crate::rl_lenient::quoted_forms::split_opener;
 use crate::rl_lenient::units::is_allowed_in_single_quotes;
@@ -64,7 +64,7 @@ fn bare_of(text: &str) -> Option<u8> {
 /// Returns how the text begins.
 #[cfg_attr(debug_assertions, inline)]
 #[cfg_attr(not(debug_assertions), inline(always))]
-pub fn front_of(text: &str) -> Front<'_> {
+pub fn classify_start(text: &str) -> Front<'_> {
     match ascii_at(text, 0) {
         Some((b'"', at)) => Front::Quote(&text[at..]),
         Some((b'\'', at)) => match bare_of(text) {
@@ -78,7 +78,7 @@ pub fn front_of(text: &str) -> Front<'_> {
 
 /// Converts a parsed number, whose suffix is the end of `text`, to a `Reading` with the suffix's byte offset in `text`.
 #[inline(always)]
-pub fn placed(text: &str, number: Number<'_>) -> Reading {
+pub fn reading_of_number(text: &str, number: Number<'_>) -> Reading {
     match number {
         Number::Integer(magnitude, suffix) => {
             Reading::Integer(magnitude, text.len() - suffix.len())
@@ -90,8 +90,8 @@ pub fn placed(text: &str, number: Number<'_>) -> Reading {
 /// Parses all of `text`, which begins with a digit, as a number.
 #[inline(always)]
 fn number_at(text: &str) -> Result<Reading, FlawAt<'_>> {
-    match number_of(text) {
-        Ok(number) => Ok(placed(text, number)),
+    match parse_number(text) {
+        Ok(number) => Ok(reading_of_number(text, number)),
         Err(stop) => Err(FlawAt {
             kind: stop.kind,
             piece: text,
@@ -105,8 +105,8 @@ fn number_at(text: &str) -> Result<Reading, FlawAt<'_>> {
 #[cfg_attr(not(debug_assertions), inline(always))]
 fn negative_at<'t>(text: &'t str, number: &'t str) -> Result<Reading, FlawAt<'t>> {
     if begins_digit(number) {
-        match number_of(number) {
-            Ok(read) => Ok(placed(text, read)),
+        match parse_number(number) {
+            Ok(read) => Ok(reading_of_number(text, read)),
             Err(stop) => Err(FlawAt {
                 kind: stop.kind,
                 piece: text,
@@ -114,7 +114,7 @@ fn negative_at<'t>(text: &'t str, number: &'t str) -> Result<Reading, FlawAt<'t>
             }),
         }
     } else {
-        let flaw = end_flaw(FlawKind::UnexpectedEnd, FlawKind::NoNumber, number);
+        let flaw = flaw_at_end_or_before(FlawKind::UnexpectedEnd, FlawKind::NoNumber, number);
         Err(FlawAt {
             kind: flaw.kind,
             piece: text,
@@ -128,7 +128,7 @@ fn word_flaw(text: &str) -> FlawAt<'_> {
     if begins_with_char(text, '-') {
         make_flaw(FlawKind::Minus, text)
     } else {
-        first_flaw(text).with_piece(text)
+        non_literal_flaw(text).with_piece(text)
     }
 }
 
@@ -158,7 +158,7 @@ fn read_rare(ends: LineEnds, text: &str) -> Result<Reading, FlawAt<'_>> {
 /// the flaw's piece. The caller converts these texts to byte offsets.
 #[inline]
 fn read_at(ends: LineEnds, text: &str) -> Result<Reading, FlawAt<'_>> {
-    match front_of(text) {
+    match classify_start(text) {
         Front::Quote(inside) => match text_at(ends, Kind::Str, text, inside) {
             Ok(body) => Ok(Reading::Text(Kind::Str, body)),
             Err(flaw) => Err(flaw),
@@ -209,8 +209,8 @@ fn signed_at(text: &str, ends: LineEnds, signed: bool) -> Result<Reading, FlawAt
 }
 
 /// Returns the text after its first character, or an empty text. In a file a CR LF is one character.
-pub fn after_first(ends: LineEnds, text: &str) -> &str {
-    match split(ends, text) {
+pub fn skip_first_char(ends: LineEnds, text: &str) -> &str {
+    match split_first_char(ends, text) {
         Some((_, rest)) => rest,
         None => text,
     }
@@ -218,7 +218,7 @@ pub fn after_first(ends: LineEnds, text: &str) -> &str {
 
 /// Converts a flaw to byte offsets in `text` as written. In a file, a CR LF at the flaw's position is one character.
 pub fn flaw_with_offsets(ends: LineEnds, found: FlawAt<'_>, text: &str) -> Flaw {
-    let after = after_first(ends, found.rest);
+    let after = skip_first_char(ends, found.rest);
     Flaw {
         kind: found.kind,
         from: text.len() - found.piece.len(),

@@ -2,15 +2,15 @@
 //! Parses a quoted literal of Rust's grammar in one pass, in a separate text or in a file. The result is the range of its valid
 //! content and its suffix, or its flaw.
 
-use crate::rl_strict::flaws::{FlawAt, FlawKind, end_flaw, make_flaw};
+use crate::rl_strict::flaws::{FlawAt, FlawKind, flaw_at_end_or_before, make_flaw};
 use crate::rl_strict::line_ends::LineEnds;
-use crate::rl_strict::read_quoted::{split_unit, suffix_flaw};
+use crate::rl_strict::read_quoted::{parse_strict_char_or_escape, suffix_flaw};
 use crate::rl_strict::strict::{after_closer, skip_raw_characters};
 use crate::rl_strict::strict_quoted_flaws::{
     ends_raw_content, raw_character_flaw, skip_allowed_hashes, unit_flaw,
 };
-use crate::rl_strict::walk_units::{skip_units, split};
-use crate::rl_lenient::quoted_forms::{QuotedForm, after_quote};
+use crate::rl_strict::walk_units::{skip_units, split_first_char};
+use crate::rl_lenient::quoted_forms::{QuotedForm, strip_quote};
 use crate::rl_lenient::units::{Piece, split_plain};
 use crate::rl_syntax::Kind;
 use crate::rl_syntax::text::{before, split_char};
@@ -20,7 +20,7 @@ use crate::rl_syntax::text::{before, split_char};
 #[inline(always)]
 fn skip_raw<'t>(ends: LineEnds, kind: Kind, hashes: &str, text: &'t str) -> &'t str {
     let mut rest = skip_raw_characters(kind, text);
-    while let Some((c, after)) = split(ends, rest) {
+    while let Some((c, after)) = split_first_char(ends, rest) {
         if ends_raw_content(kind, hashes, c, after) {
             return rest;
         }
@@ -45,7 +45,7 @@ pub struct QuotedContent<'t> {
 #[cfg_attr(not(debug_assertions), inline(always))]
 pub fn parse_cooked_content(ends: LineEnds, kind: Kind, text: &str) -> QuotedContent<'_> {
     let (_, following) = split_plain(kind, text);
-    if let Some(suffix) = after_quote(Kind::Str, following) {
+    if let Some(suffix) = strip_quote(Kind::Str, following) {
         return match suffix_flaw(QuotedForm::Cooked, following, suffix) {
             None => QuotedContent {
                 closing: following,
@@ -60,7 +60,7 @@ pub fn parse_cooked_content(ends: LineEnds, kind: Kind, text: &str) -> QuotedCon
         };
     }
     let closing = skip_units(ends, kind, following);
-    match after_quote(Kind::Str, closing) {
+    match strip_quote(Kind::Str, closing) {
         Some(suffix) => match suffix_flaw(QuotedForm::Cooked, closing, suffix) {
             None => QuotedContent {
                 closing,
@@ -93,13 +93,13 @@ pub struct UnitStretch<'t> {
 #[cfg_attr(debug_assertions, inline)]
 #[cfg_attr(not(debug_assertions), inline(always))]
 pub fn parse_single_unit(ends: LineEnds, kind: Kind, text: &str) -> UnitStretch<'_> {
-    let Some((unit, closing)) = split_unit(kind, text) else {
+    let Some((unit, closing)) = parse_strict_char_or_escape(kind, text) else {
         return UnitStretch {
             closing: text,
             end: Err(unit_flaw(kind, text).with_piece(text)),
         };
     };
-    match after_quote(Kind::Char, closing) {
+    match strip_quote(Kind::Char, closing) {
         Some(suffix) => match suffix_flaw(QuotedForm::Single, closing, suffix) {
             None => UnitStretch {
                 closing,
@@ -112,9 +112,11 @@ pub fn parse_single_unit(ends: LineEnds, kind: Kind, text: &str) -> UnitStretch<
         },
         None => UnitStretch {
             closing: text,
-            end: Err(end_flaw(FlawKind::Unclosed, FlawKind::TwoCharacters, closing).with_piece(
-                text,
-            )),
+            end: Err(flaw_at_end_or_before(
+                FlawKind::Unclosed,
+                FlawKind::TwoCharacters,
+                closing,
+            ).with_piece(text)),
         },
     }
 }
@@ -129,7 +131,7 @@ pub fn parse_raw_content<'t>(
     text: &'t str,
 ) -> QuotedContent<'t> {
     let closing = skip_raw(ends, kind, hashes, text);
-    let Some((c, after)) = split(ends, closing) else {
+    let Some((c, after)) = split_first_char(ends, closing) else {
         return QuotedContent {
             closing,
             plain: true,
@@ -161,7 +163,7 @@ pub fn parse_raw_content<'t>(
 /// hashes.
 #[cfg_attr(debug_assertions, inline)]
 #[cfg_attr(not(debug_assertions), inline(always))]
-pub fn open_raw(kind: Kind, inside: &str) -> Result<(&str, &str), FlawAt<'_>> {
+pub fn split_raw_opening(kind: Kind, inside: &str) -> Result<(&str, &str), FlawAt<'_>> {
     let rest = skip_allowed_hashes(inside);
     let Some((first, opened)) = split_char(rest) else {
         return Err(make_flaw(FlawKind::UnexpectedEnd, rest));

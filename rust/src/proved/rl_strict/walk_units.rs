@@ -2,7 +2,7 @@
 //! Skips the characters and escapes of a quoted literal, where a CR LF may be read as LF.
 
 use crate::rl_strict::line_ends::LineEnds;
-use crate::rl_lenient::units::{escape, split_plain};
+use crate::rl_lenient::units::{parse_escape, split_plain};
 use crate::rl_syntax::Kind;
 use crate::rl_syntax::classes::{CharClass, skip_class};
 use crate::rl_syntax::text::{ascii_at, split_char, strip_byte};
@@ -29,7 +29,7 @@ fn after_line_end(ends: LineEnds, text: &str) -> Option<&str> {
 /// Returns the first character of the text and the text after it, or `None` at the end. In a file the first character of a CR
 /// LF is LF.
 #[inline(always)]
-pub fn split(ends: LineEnds, text: &str) -> Option<(char, &str)> {
+pub fn split_first_char(ends: LineEnds, text: &str) -> Option<(char, &str)> {
     match after_line_end(ends, text) {
         Some(rest) => Some(('\n', rest)),
         None => {
@@ -62,7 +62,7 @@ fn skip_escape(ends: LineEnds, kind: Kind, text: &str, at: usize) -> Option<&str
         let blanks = after_line_end(ends, &text[at..])?;
         return Some(skip_blanks(ends, blanks));
     }
-    let (_, rest) = escape(kind, text, at)?;
+    let (_, rest) = parse_escape(kind, text, at)?;
     Some(rest)
 }
 

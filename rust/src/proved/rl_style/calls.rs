@@ -8,13 +8,13 @@ use crate::rl_lexer::{Form, SourceForm, SourceToken};
 pub enum Calls<'t> {
     /// The next token is outside of macro calls.
     Outside,
-    /// The next token follows this identifier, which may be a macro's name.
+    /// The next token follows the given identifier, which may be a macro's name.
     AfterWord(&'t str),
     /// The next token follows a macro's name, `!`, and perhaps identifiers.
     AfterBang,
     /// The next token follows `#`, or `#!`.
     AfterHash,
-    /// The next token is inside a macro call, nested in this number of brackets.
+    /// The next token is inside a macro call, nested in the given number of brackets.
     Inside(usize),
 }
 
@@ -67,7 +67,7 @@ fn deeper(depth: usize) -> usize {
     if depth < usize::MAX { depth + 1 } else { depth }
 }
 
-/// Returns the position after the identifier `word`.
+/// Returns the position relative to macro calls, after the identifier `word`.
 #[inline(always)]
 fn after_word<'t>(calls: Calls<'t>, word: &'t str) -> Calls<'t> {
     match calls {
@@ -76,7 +76,7 @@ fn after_word<'t>(calls: Calls<'t>, word: &'t str) -> Calls<'t> {
     }
 }
 
-/// Returns the position after the punctuation character `mark`.
+/// Returns the position relative to macro calls, after the punctuation character `mark`.
 #[inline(always)]
 fn after_mark(calls: Calls<'_>, mark: char) -> Calls<'_> {
     match calls {
@@ -88,7 +88,7 @@ fn after_mark(calls: Calls<'_>, mark: char) -> Calls<'_> {
     }
 }
 
-/// Returns the position after the opening bracket `bracket`.
+/// Returns the position relative to macro calls, after the opening bracket `bracket`.
 #[inline]
 fn after_opener(calls: Calls<'_>, bracket: char) -> Calls<'_> {
     match calls {
@@ -99,7 +99,7 @@ fn after_opener(calls: Calls<'_>, bracket: char) -> Calls<'_> {
     }
 }
 
-/// Returns the position after a closing bracket.
+/// Returns the position relative to macro calls, after a closing bracket.
 #[inline]
 fn after_closer(calls: Calls<'_>) -> Calls<'_> {
     match calls {
@@ -108,7 +108,7 @@ fn after_closer(calls: Calls<'_>) -> Calls<'_> {
     }
 }
 
-/// Returns the position after the bracket `bracket`, which may be an opening or a closing one.
+/// Returns the position relative to macro calls, after the opening or closing bracket `bracket`.
 #[inline(always)]
 fn after_bracket(calls: Calls<'_>, bracket: char) -> Calls<'_> {
     if matches!(bracket, '(' | '[' | '{') {
@@ -117,7 +117,7 @@ fn after_bracket(calls: Calls<'_>, bracket: char) -> Calls<'_> {
     after_closer(calls)
 }
 
-/// Returns the position after a token that isn't an identifier, a punctuation character or a bracket.
+/// Returns the position relative to macro calls, after a token that isn't an identifier, a punctuation character or a bracket.
 #[inline(always)]
 fn after_any_other(calls: Calls<'_>) -> Calls<'_> {
     match calls {
@@ -126,7 +126,7 @@ fn after_any_other(calls: Calls<'_>) -> Calls<'_> {
     }
 }
 
-/// Returns the position after a token of the lexer with the form `form` and the text `text`.
+/// Returns the position relative to macro calls, after a token of the lexer with the form `form` and the text `text`.
 #[inline(always)]
 fn after_lexeme<'t>(calls: Calls<'t>, form: Form, text: &'t str) -> Calls<'t> {
     match form {
@@ -137,9 +137,9 @@ fn after_lexeme<'t>(calls: Calls<'t>, form: Form, text: &'t str) -> Calls<'t> {
     }
 }
 
-/// Returns the position after one more token of a source.
+/// Returns the position relative to macro calls, after one more token of a source.
 #[inline(always)]
-pub fn calls_after<'t>(calls: Calls<'t>, token: SourceToken<'t>) -> Calls<'t> {
+pub fn advance_calls<'t>(calls: Calls<'t>, token: SourceToken<'t>) -> Calls<'t> {
     match token.form {
         SourceForm::Token(form) => after_lexeme(calls, form, token.text),
         SourceForm::RawIdentifier => after_word(calls, token.text),

@@ -4,7 +4,7 @@
 use crate::rl_style::codes::put_digits;
 use crate::rl_style::hidden::put_itself;
 use crate::rl_style::style::Style;
-use crate::rl_lenient::units::{Piece, unit};
+use crate::rl_lenient::units::{Piece, parse_char_or_escape};
 use crate::rl_syntax::Kind;
 use crate::rl_syntax::slice_writer::{put_byte, put_char, put_text};
 use crate::rl_syntax::text::{before, split_char, strip_byte};
@@ -52,7 +52,7 @@ fn lettered(zero: bool, byte: u8) -> u8 {
 /// Whether the character or escape at the beginning of the text represents a decimal digit.
 #[inline]
 fn represents_digit(kind: Kind, text: &str) -> bool {
-    match unit(kind, text) {
+    match parse_char_or_escape(kind, text) {
         Some((piece, _)) => ascii_of(kind, piece).is_ascii_digit(),
         None => false,
     }
@@ -166,7 +166,7 @@ fn put_unit(out: &mut [u8], at: usize, kind: Kind, style: Style, unit: &str, byt
 fn put_units(out: &mut [u8], at: usize, kind: Kind, style: Style, inside: &str) -> usize {
     let mut end = at;
     let mut rest = inside;
-    while let Some((piece, after)) = unit(kind, rest) {
+    while let Some((piece, after)) = parse_char_or_escape(kind, rest) {
         let byte = lettered(!represents_digit(kind, after), ascii_of(kind, piece));
         end = put_unit(out, end, kind, style, before(rest, after), byte);
         rest = after;

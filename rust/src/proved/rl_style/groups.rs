@@ -5,7 +5,7 @@ use crate::rl_style::characters::{Manner, begins_base_letter, put_character, put
 use crate::rl_style::style::{DigitGroups, Style};
 use crate::rl_syntax::slice_writer::put_byte;
 use crate::rl_syntax::text::split_char;
-use crate::rl_writing::{ends_group, group_size_for};
+use crate::rl_writing::{digit_group_size, is_digit_group_end};
 
 /// Returns the number of digits in a group, for numbers of the base `base`.
 #[inline]
@@ -38,13 +38,13 @@ fn least_digits(style: Style) -> usize {
 }
 
 /// Whether an underscore follows a digit. `count` is the number of digits in the sequence, and `left` the number of digits
-/// after this one. Groups are counted from the first digit if `from_first` is true, and from the last one otherwise.
+/// after the digit. Groups are counted from the first digit if `from_first` is true, and from the last one otherwise.
 #[inline]
 fn ends(from_first: bool, size: usize, count: usize, left: usize) -> bool {
     if from_first {
-        left > 0 && ends_group(size, count - left)
+        left > 0 && is_digit_group_end(size, count - left)
     } else {
-        ends_group(size, left)
+        is_digit_group_end(size, left)
     }
 }
 
@@ -62,7 +62,7 @@ fn count_digits(run: &str) -> usize {
     count
 }
 
-/// Writes the new form of a digit, and an underscore after it if `ends` is true: its group ends there.
+/// Writes the new form of a digit. If `ends` is true, the digit's group ends, and an underscore is written after the digit.
 #[inline]
 fn put_digit(out: &mut [u8], at: usize, manner: Manner, digit: char, ends: bool) -> usize {
     let end = put_character(out, at, manner, digit);
@@ -77,7 +77,7 @@ fn put_digit(out: &mut [u8], at: usize, manner: Manner, digit: char, ends: bool)
 #[inline]
 fn put_grouped(out: &mut [u8], at: usize, manner: Manner, from_first: bool, run: &str) -> usize {
     let count = count_digits(run);
-    let size = group_size_for(manner.size, least_digits(manner.style), count);
+    let size = digit_group_size(manner.size, least_digits(manner.style), count);
     let mut left = count;
     let mut end = at;
     let mut rest = run;

@@ -5,7 +5,7 @@ use crate::rl_style::codes::put_digits;
 use crate::rl_style::style::Style;
 use crate::rl_syntax::slice_writer::{put_byte, put_char, put_text};
 use crate::rl_syntax::text::split_char;
-use crate::rl_writing::{needs_escape, put_unicode};
+use crate::rl_writing::{needs_escape, put_unicode_escape};
 
 /// Whether the character must be written as a numeric escape: it is invisible, bidirectional or a control character other than
 /// LF, CR and TAB.
@@ -49,14 +49,14 @@ fn put_two(out: &mut [u8], at: usize, c: char) -> usize {
     put_byte(out, end, lower_digit(number % 16))
 }
 
-/// Writes the numeric escape of a character: `\x` for ASCII, and otherwise `\u{..}` with the fewest digits. They are in lower
-/// case.
+/// Writes the numeric escape of a character: `\x` for ASCII, and otherwise `\u{..}` with the fewest digits. The digits are in
+/// lower case.
 #[inline]
 fn put_code(out: &mut [u8], at: usize, c: char) -> usize {
     if c < '\u{80}' {
         return put_two(out, at, c);
     }
-    put_unicode(out, at, c)
+    put_unicode_escape(out, at, c)
 }
 
 /// Writes the numeric escape of a character, with its digits as the style requires.
@@ -79,8 +79,8 @@ fn put_hidden(out: &mut [u8], at: usize, style: Style, zero: bool, c: char) -> u
     put_styled_code(out, at, style, c)
 }
 
-/// Writes the new form of an unescaped character: at most four bytes for each of its own. NUL may be written as `\0` if `zero`
-/// is true.
+/// Writes the new form of an unescaped character: at most four bytes for each byte of the character. NUL may be written as
+/// `\0` if `zero` is true.
 #[inline]
 pub(crate) fn put_itself(out: &mut [u8], at: usize, style: Style, zero: bool, c: char) -> usize {
     if style.hidden && needs_number(c) {

@@ -23,12 +23,12 @@ mod style;
 mod whole;
 
 #[cfg(feature = "sources")]
-pub use crate::rl_style::calls::{Calls, calls_after, is_in_call};
+pub use crate::rl_style::calls::{Calls, advance_calls, is_in_call};
 #[cfg(feature = "sources")]
 pub use crate::rl_style::restylable::{Restylable, Restylables};
 pub use crate::rl_style::rewrite::rewrite_into;
 #[cfg(any(feature = "sources", feature = "settings"))]
-pub use crate::rl_style::rules::{Rule, all_rules, changes};
+pub use crate::rl_style::rules::{Rule, all_rules, is_changed_by_style};
 pub use crate::rl_style::style::{Case, DigitGroups, Separator, Style};
 #[cfg(feature = "sources")]
 pub use crate::rl_style::whole::may_restyle;

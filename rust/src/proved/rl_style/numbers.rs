@@ -11,7 +11,7 @@ use crate::rl_syntax::classes::{CharClass, skip_class};
 use crate::rl_syntax::slice_writer::{put_byte, put_text};
 use crate::rl_syntax::text::{after_prefix, before, split_char};
 
-/// Whether the style drops the underscores of a number with this suffix.
+/// Whether the style drops the underscores of a number with the given suffix.
 #[inline]
 fn drops_underscores(style: Style, suffix: &str) -> bool {
     style.underscores && !begins_base_letter(suffix)
@@ -37,7 +37,7 @@ fn significant(digits: &str) -> &str {
     }
 }
 
-/// Whether the style drops the leading zeros of an integer with this base and this suffix.
+/// Whether the style drops the leading zeros of an integer with the given base and suffix.
 #[inline]
 fn drops_zeros(style: Style, base: u32, suffix: &str) -> bool {
     style.leading_zeros && base == 10 && !begins_base_letter(suffix)
@@ -107,7 +107,7 @@ fn put_suffix(out: &mut [u8], at: usize, style: Style, suffix: &str) -> usize {
     put_text(out, at, suffix)
 }
 
-/// Returns the options by which a number of this base with this suffix is rewritten.
+/// Returns the options for rewriting a number with the given base and suffix.
 #[inline]
 fn number_style(style: Style, base: u32, suffix: &str) -> Manner {
     Manner {

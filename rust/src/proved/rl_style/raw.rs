@@ -8,7 +8,7 @@ use crate::rl_lenient::digit_runs::begins_digit;
 use crate::rl_syntax::Kind;
 use crate::rl_syntax::slice_writer::{put_byte, put_text};
 use crate::rl_syntax::text::split_char;
-use crate::rl_writing::{raw_hashes, write_raw_into};
+use crate::rl_writing::{min_raw_hashes, write_raw_into};
 
 /// Whether the byte is a hash or a dot.
 #[inline]
@@ -25,8 +25,8 @@ fn may_precede_quote(front: &str) -> bool {
     }
 }
 
-/// Whether a raw string of the kind may lose its `r`, where `front` is the text before it. A string without `b` or `c` keeps it
-/// after a hash or a dot.
+/// Whether a raw string of the kind may lose its `r`, where `front` is the text before it. After a hash or a dot, a raw string
+/// without `b` or `c` keeps its `r`.
 #[inline]
 fn may_lose_r(kind: Kind, front: &str) -> bool {
     match kind {
@@ -116,7 +116,7 @@ pub(crate) fn write_raw(
     if !style.raw_hashes {
         return put_text(out, 0, text);
     }
-    let Some(hashes) = raw_hashes(kind, inside) else {
+    let Some(hashes) = min_raw_hashes(kind, inside) else {
         unreachable!()
     };
     let at = write_raw_into(kind, hashes, inside, out);

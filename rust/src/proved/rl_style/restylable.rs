@@ -1,7 +1,7 @@
 // Rendered from crates/rl_style/src/restylable.rt by tools/render, which erases contracts: change that file, and render again.
 //! The literals of a source that a style may rewrite.
 
-use crate::rl_style::calls::{Calls, calls_after, is_in_call};
+use crate::rl_style::calls::{Calls, advance_calls, is_in_call};
 use crate::rl_lexer::{Form, LexError, SourceForm, SourceToken, Sources};
 use crate::rl_syntax::text::{begins_with_char, strip_byte};
 
@@ -28,14 +28,14 @@ pub struct Restylable<'t> {
     /// Whether the literal may be a field of a tuple. A field has only one name, so it isn't rewritten.
     ///
     /// A field is a number after one dot, as in `t.0`, or a number that a single `:` follows, after `{`, `,`, `]` or a doc
-    /// comment, as in `S { #[a] 0: x }`. White space and plain comments may be between these.
+    /// comment, as in `S { #[a] 0: x }`. White space and plain comments may be between these tokens.
     pub is_field: bool,
     /// Whether the literal is inside a macro call, a macro's definition or an attribute, where a macro may depend on the
     /// literal's text.
     ///
     /// Only tokens are considered. A call is an identifier, `!` and a bracket, with other identifiers between `!` and the
-    /// bracket allowed, as in `macro_rules! m {`. An attribute begins with `#[` or `#![`. Each extends to its closing bracket.
-    /// A keyword of all editions isn't a macro's name: `return !(1)`.
+    /// bracket allowed, as in `macro_rules! m {`. An attribute begins with `#[` or `#![`. Calls and attributes extend to their
+    /// closing brackets. A keyword of all editions isn't a macro's name: `return !(1)`.
     pub in_macro: bool,
 }
 
@@ -49,7 +49,7 @@ pub struct Restylables<'t> {
     calls: Calls<'t>,
 }
 
-/// Returns the state after one more dot. `is_joined` is true if the dot directly follows the token before it.
+/// Describes the last token after one more dot. `is_joined` is true if the dot directly follows the token before it.
 #[inline]
 fn one_more(last: Last, is_joined: bool) -> Last {
     match last {
@@ -58,7 +58,7 @@ fn one_more(last: Last, is_joined: bool) -> Last {
     }
 }
 
-/// Returns the state after the token `token`, where `last` is the state before it. The token before it ends at `end`.
+/// Describes the last token after the token `token`, where `last` describes the token before it, which ends at `end`.
 #[inline]
 fn last_after(last: Last, end: usize, token: SourceToken<'_>) -> Last {
     match token.form {
@@ -69,7 +69,7 @@ fn last_after(last: Last, end: usize, token: SourceToken<'_>) -> Last {
     }
 }
 
-/// Whether the text begins with one colon. `::` is another token.
+/// Whether the text begins with one colon, and not with `::`, which is another token.
 #[inline]
 fn begins_one_colon(text: &str) -> bool {
     match strip_byte(text, b':') {
@@ -78,8 +78,8 @@ fn begins_one_colon(text: &str) -> bool {
     }
 }
 
-/// Whether a number is a field of a tuple. `last` is the token before it, and `rest` the text after it, without white space and
-/// comments at its beginning.
+/// Whether a number is a field of a tuple. `last` describes the token before the number, and `rest` is the text after the
+/// number, without white space and comments at its beginning.
 #[inline]
 fn names_field(last: Last, rest: &str) -> bool {
     match last {
@@ -89,7 +89,7 @@ fn names_field(last: Last, rest: &str) -> bool {
     }
 }
 
-/// Whether the literal `token` may be a field of a tuple. `rest` is the text after it.
+/// Whether the literal `token` may be a field of a tuple. `rest` is the text after the literal.
 #[inline]
 fn is_field(last: Last, token: SourceToken<'_>, rest: &str) -> bool {
     matches!(token.text.as_bytes(), [b'0'..=b'9', ..]) && names_field(last, rest)
@@ -116,7 +116,7 @@ impl<'t> Restylables<'t> {
             let (before, around) = (last, calls);
             last = last_after(before, end, token);
             end = token.hi;
-            calls = calls_after(around, token);
+            calls = advance_calls(around, token);
             if token.is_literal() {
                 self.last = last;
                 self.end = end;

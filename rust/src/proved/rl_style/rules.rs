@@ -75,7 +75,7 @@ impl Rule {
 }
 
 impl Style {
-    /// Returns a style that has only this rule of the style, and no other rule.
+    /// Returns a style that has the rule `rule` as this style has it, and no other rule.
     #[inline]
     pub fn only(self, rule: Rule) -> Style {
         let keep = Style::KEEP;
@@ -155,7 +155,12 @@ impl Style {
 ///
 /// Returns the flaw of [`explain`](crate::rl_strict::explain) if `text` isn't a literal token.
 #[inline]
-pub fn changes(front: &str, text: &str, style: Style, out: &mut [u8]) -> Result<bool, Flaw> {
+pub fn is_changed_by_style(
+    front: &str,
+    text: &str,
+    style: Style,
+    out: &mut [u8],
+) -> Result<bool, Flaw> {
     let len = rewrite_into(front, text, style, out)?;
     let is_same = &out[..len] == text.as_bytes();
     Ok(!is_same)

@@ -54,9 +54,9 @@ pub struct Style {
     /// The sizes of a number's digit groups. Groups are counted from the last digit, and in a float's fraction from the first.
     /// The digits of an exponent aren't divided into groups.
     ///
-    /// If the style drops leading zeros, it drops them before it groups the digits. If it drops underscores, only those between
-    /// groups remain; otherwise underscores at the end of a sequence of digits remain too. A number whose suffix begins with `b`,
-    /// `o` or `x` is unchanged.
+    /// If the style drops leading zeros, it drops them before it groups the digits. If it drops underscores, only those
+    /// between groups remain. Otherwise underscores at the end of a sequence of digits remain too. A number whose suffix
+    /// begins with `b`, `o` or `x` is unchanged.
     pub digit_groups: Option<DigitGroups>,
     /// Whether a float that ends with its dot gets a zero: `1.` becomes `1.0`. The number is equal, but `concat!` makes a
     /// different text from it.
@@ -84,7 +84,7 @@ pub struct Style {
     pub raw: bool,
     /// Whether invisible and bidirectional characters are replaced by numeric escapes: a control character except LF, CR and
     /// TAB, as `\x1b`, and a character that changes the direction of text or has no width, as `\u{202e}`. A raw string that
-    /// contains one becomes a string with escapes, with the exception of `raw`.
+    /// contains one becomes a string with escapes. But after a hash or a dot, a raw string without `b` or `c` stays raw.
     pub hidden: bool,
 }
 

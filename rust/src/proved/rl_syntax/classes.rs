@@ -1,7 +1,7 @@
 // Rendered from crates/rl_syntax/src/classes.rt by tools/render, which erases contracts: change that file, and render again.
 //! Classes of characters, and functions that return the text after its leading characters of one class.
 
-use crate::rl_syntax::characters::{is_continue, is_white, is_xid_continue};
+use crate::rl_syntax::characters::{is_id_continue, is_white, is_xid_continue};
 #[cfg(any(feature = "sources", feature = "settings"))]
 use crate::rl_syntax::lanes::run_len;
 use crate::rl_syntax::text::{split_ascii, split_char};
@@ -42,7 +42,7 @@ pub enum CharClass {
 #[cfg_attr(not(debug_assertions), inline(always))]
 fn is_in_class(class: CharClass, c: char) -> bool {
     match class {
-        CharClass::Continue => is_continue(c),
+        CharClass::Continue => is_id_continue(c),
         CharClass::Numeral => c.is_ascii_digit() || c == '_',
         CharClass::Underscore => c == '_',
         CharClass::White => is_white(c),
@@ -105,7 +105,7 @@ fn skip_run<const WORD: bool>(text: &str) -> &str {
 /// Returns the text after the identifier characters at its start.
 #[cfg(any(feature = "sources", feature = "settings"))]
 #[inline(always)]
-pub fn skip_word(text: &str) -> &str {
+pub fn skip_id_continue(text: &str) -> &str {
     skip_run::<true>(text)
 }
 

@@ -1,9 +1,9 @@
 // Rendered from crates/rl_syntax/src/kind.rt by tools/render, which erases contracts: change that file, and render again.
 //! The kinds of literals, and their names in messages.
 
-// These constants are the opening texts of quoted literals, prefix and quote. `Kind::opener` returns one of them for a
-// kind. The lexer uses the constants, because the compiler makes a test of a text's start from a constant, but not from
-// the result of a call.
+// The constants whose names end with `_OPENER` are the opening texts of quoted literals, prefix and quote.
+// `Kind::opener` returns one of them for a kind. The lexer uses the constants, because the compiler makes a test of a
+// text's start from a constant, but not from the result of a call.
 pub const STR_OPENER: &str = "\"";
 
 pub const BYTE_STR_OPENER: &str = "b\"";
@@ -14,7 +14,7 @@ pub const BYTE_OPENER: &str = "b'";
 
 pub const CHAR_OPENER: &str = "'";
 
-/// The kind of a literal. Error messages name a kind by its [`word`](Kind::word).
+/// The kind of a literal. Error messages name a kind by its [`description`](Kind::description).
 #[derive(Clone, Copy, PartialEq, Eq, Debug)]
 pub enum Kind {
     /// A string literal: `"text"` or `r"text"`.
@@ -43,7 +43,7 @@ impl Kind {
 
     /// Returns `true` if the values of the kind's literals are characters: for `Str` and `Char`. The values of the
     /// other quoted kinds are bytes.
-    pub fn holds_characters(self) -> bool {
+    pub fn decodes_to_chars(self) -> bool {
         matches!(self, Kind::Str | Kind::Char)
     }
 
@@ -76,7 +76,7 @@ impl Kind {
 
     /// Returns the name of the kind in error messages, as `string literal`.
     #[cfg(feature = "__rendered")]
-    pub fn word(self) -> &'static str {
+    pub fn description(self) -> &'static str {
         match self {
             Kind::Str => "string literal",
             Kind::ByteStr => "byte string literal",
@@ -89,12 +89,12 @@ impl Kind {
         }
     }
 
-    /// Returns the name of the kind in the `display` of its tokens: its [`word`](Kind::word), except for `C-string literal`.
+    /// Returns the name of the kind in the `display` of its tokens: its [`description`](Kind::description), except for `C-string literal`.
     #[cfg(feature = "__rendered")]
-    pub fn shown(self) -> &'static str {
+    pub fn display_name(self) -> &'static str {
         match self {
             Kind::CStr => "C-string literal",
-            _ => self.word(),
+            _ => self.description(),
         }
     }
 

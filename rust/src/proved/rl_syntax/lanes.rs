@@ -31,7 +31,7 @@ fn ends_among<const WORD: bool>(bytes: &[u8], at: usize) -> u64 {
 
 /// Returns `true` if the byte is an ASCII character that continues an identifier.
 #[inline(always)]
-pub fn is_word_byte(byte: u8) -> bool {
+pub fn is_ascii_id_continue(byte: u8) -> bool {
     byte.is_ascii_alphanumeric() || byte == b'_'
 }
 
@@ -39,7 +39,7 @@ pub fn is_word_byte(byte: u8) -> bool {
 #[inline(always)]
 fn is_run_byte<const WORD: bool>(byte: u8) -> bool {
     if WORD {
-        is_word_byte(byte)
+        is_ascii_id_continue(byte)
     } else {
         byte == b' ' || 8 < byte && byte < 14
     }
@@ -138,7 +138,7 @@ fn likely_among(bytes: &[u8], at: usize) -> u64 {
 /// Returns a number of leading bytes that can be skipped in a search for literals: neither a literal nor a comment
 /// begins at one of them. Sixteen bytes are tested at once. The search stops where sixteen bytes or fewer are left.
 #[inline(never)]
-pub fn skippable_len(bytes: &[u8]) -> usize {
+pub fn literal_free_prefix_len(bytes: &[u8]) -> usize {
     if bytes.is_empty() || is_likely(bytes[0]) {
         return 0;
     }
@@ -173,7 +173,7 @@ pub fn line_len(bytes: &[u8]) -> usize {
         }
         at += LANES;
     }
-    stop_by_eight::<false>(Marks::two(b'\n', b'\n'), bytes, at)
+    stop_by_eight::<false>(Marks::from_two_bytes(b'\n', b'\n'), bytes, at)
 }
 
 /// Returns the byte at the offset `at`, or 0 if `at` isn't below the length.

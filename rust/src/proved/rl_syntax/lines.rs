@@ -12,7 +12,7 @@ pub fn split_line(text: &str) -> (&str, &str) {
 
 /// Returns the text after its first line feed, or `None` if it has no line feed.
 #[inline(always)]
-pub fn after_line_feed(text: &str) -> Option<&str> {
+pub fn after_first_line_feed(text: &str) -> Option<&str> {
     let (_, from) = split_line(text);
     let (_, following) = split_ascii(from)?;
     Some(following)

@@ -22,7 +22,7 @@ pub struct Marks {
 impl Marks {
     /// Creates the delimiters for a search that looks for `first` and `second`.
     #[inline(always)]
-    pub fn two(first: u8, second: u8) -> Marks {
+    pub fn from_two_bytes(first: u8, second: u8) -> Marks {
         Marks {
             first,
             second,
@@ -130,13 +130,13 @@ fn stop<const HIGH: bool>(marks: Marks, bytes: &[u8]) -> usize {
 /// Returns the number of bytes before the first delimiter, or the number of all bytes if there is no delimiter. The
 /// function is inlined, so `marks` is a constant in each caller.
 #[inline(always)]
-pub fn len_before(marks: Marks, bytes: &[u8]) -> usize {
+pub fn len_before_mark(marks: Marks, bytes: &[u8]) -> usize {
     stop::<false>(marks, bytes)
 }
 
 /// Returns the number of bytes before the first delimiter, or the number of all bytes if there is no delimiter. It is
 /// for a delimiter that is probably near the start, as in the tokens of a source: sixteen bytes are tested at once,
-/// where [`len_before`] tests sixty-four.
+/// where [`len_before_mark`] tests sixty-four.
 #[inline(always)]
 pub fn len_before_near_mark(marks: Marks, bytes: &[u8]) -> usize {
     stop_by_sixteen::<false>(marks, bytes, 0)
@@ -145,19 +145,19 @@ pub fn len_before_near_mark(marks: Marks, bytes: &[u8]) -> usize {
 /// Returns the number of bytes before the first delimiter or non-ASCII byte, or the number of all bytes if there is
 /// neither. The function is inlined, so `marks` is a constant in each caller.
 #[inline(always)]
-pub fn ascii_len_before(marks: Marks, bytes: &[u8]) -> usize {
+pub fn ascii_len_before_mark(marks: Marks, bytes: &[u8]) -> usize {
     stop::<true>(marks, bytes)
 }
 
 /// Splits the text before its first delimiter. If it has no delimiter, the first part is the whole text.
 #[inline(always)]
-pub fn split_before(marks: Marks, text: &str) -> (&str, &str) {
+pub fn split_before_mark(marks: Marks, text: &str) -> (&str, &str) {
     text.split_at(len_before_near_mark(marks, text.as_bytes()))
 }
 
 /// Returns the first delimiter in the text and the text after it, or `None` if the text has no delimiter.
 #[inline(always)]
 pub fn split_after_mark(marks: Marks, text: &str) -> Option<(u8, &str)> {
-    let (_, from) = split_before(marks, text);
+    let (_, from) = split_before_mark(marks, text);
     split_ascii(from)
 }

@@ -59,7 +59,7 @@ impl Span {
     /// The result begins where the table's entry for the first byte begins, and ends where the entry for the last byte
     /// ends. The result for an empty span is empty, and begins where the entry for the byte at `lo` begins. For an
     /// offset outside the table, the table's last entry is used.
-    pub fn looked_up(self, table: &[Span]) -> Span {
+    pub fn mapped_by(self, table: &[Span]) -> Span {
         let first = entry_at(table, self.lo);
         let hi = if self.lo < self.hi {
             entry_at(table, self.hi - 1).hi

@@ -32,7 +32,7 @@ fn named_escape(kind: Kind, c: char) -> Option<&'static str> {
 /// below U+0020, U+007F, and in literals of bytes every byte above 127.
 #[inline]
 fn is_written_as_number(kind: Kind, c: char) -> bool {
-    c < ' ' || c == '\u{7f}' || ('\u{7f}' < c && !kind.holds_characters())
+    c < ' ' || c == '\u{7f}' || ('\u{7f}' < c && !kind.decodes_to_chars())
 }
 
 /// Returns the hexadecimal digit of the value `digit`, in upper case.

@@ -1,7 +1,7 @@
 // Rendered from crates/rl_writing/src/ascii.rt by tools/render, which erases contracts: change that file, and render again.
 //! Functions that write string and character literals in ASCII, with `\u{..}` for each non-ASCII character.
 
-use crate::rl_writing::numerals::{put_grouped, put_reversed};
+use crate::rl_writing::numerals::{put_digits_reversed, put_grouped};
 #[cfg(feature = "writers")]
 use crate::rl_syntax::Kind;
 use crate::rl_syntax::slice_writer::{put, put_byte};
@@ -15,9 +15,9 @@ use crate::rl_syntax::written_unit::escape;
 /// Writes the escape `\u{..}` of the character `c` after the first `at` bytes of the slice `out`, and returns the
 /// offset after the escape. The character's number is in base 16, in lower case.
 #[inline]
-pub fn put_unicode(out: &mut [u8], at: usize, c: char) -> usize {
+pub fn put_unicode_escape(out: &mut [u8], at: usize, c: char) -> usize {
     let mut room = [0; 21];
-    let count = put_reversed(u128::from(c), 16, false, &mut room);
+    let count = put_digits_reversed(u128::from(c), 16, false, &mut room);
     let at = put(out, at, b"\\u{");
     let at = put_grouped(out, at, &room[..count], 0);
     put_byte(out, at, b'}')
@@ -29,7 +29,7 @@ pub fn put_unicode(out: &mut [u8], at: usize, c: char) -> usize {
 #[inline]
 fn put_ascii(out: &mut [u8], at: usize, kind: Kind, c: char) -> usize {
     if c >= '\u{80}' {
-        return put_unicode(out, at, c);
+        return put_unicode_escape(out, at, c);
     }
     match escape(kind, c, &mut [0; 4]) {
         Some(text) => put_text(out, at, text),

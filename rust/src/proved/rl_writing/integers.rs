@@ -2,7 +2,7 @@
 //! A function that writes an integer literal, and the style in which it writes.
 
 use crate::rl_writing::base::Base;
-use crate::rl_writing::numerals::{group_size_for, put_grouped, put_reversed};
+use crate::rl_writing::numerals::{digit_group_size, put_digits_reversed, put_grouped};
 use crate::rl_syntax::IntegerType;
 use crate::rl_syntax::slice_writer::put_text;
 
@@ -42,9 +42,9 @@ pub fn write_integer_into(
     out: &mut [u8],
 ) -> usize {
     let mut room = [0; 128];
-    let count = put_reversed(value, style.base.radix(), style.upper, &mut room);
+    let count = put_digits_reversed(value, style.base.radix(), style.upper, &mut room);
     let at = put_text(out, 0, style.base.prefix());
-    let size = group_size_for(style.group, style.least, count);
+    let size = digit_group_size(style.group, style.least, count);
     let at = put_grouped(out, at, &room[..count], size);
     put_text(out, at, suffix_of(suffix))
 }

@@ -15,7 +15,7 @@ mod integers;
 mod numerals;
 mod raw_strings;
 
-pub use crate::rl_writing::ascii::put_unicode;
+pub use crate::rl_writing::ascii::put_unicode_escape;
 #[cfg(feature = "writers")]
 pub use crate::rl_writing::ascii::{write_char_ascii_into, write_str_ascii_into};
 #[cfg(feature = "writers")]
@@ -24,5 +24,5 @@ pub use crate::rl_writing::base::Base;
 pub use crate::rl_writing::hiding::{is_invisible_or_bidi, needs_escape};
 #[cfg(feature = "writers")]
 pub use crate::rl_writing::integers::{IntegerStyle, write_integer_into};
-pub use crate::rl_writing::numerals::{ends_group, group_size_for};
-pub use crate::rl_writing::raw_strings::{raw_form, raw_hashes, write_raw_into};
+pub use crate::rl_writing::numerals::{digit_group_size, is_digit_group_end};
+pub use crate::rl_writing::raw_strings::{min_raw_hashes, raw_text_and_hashes, write_raw_into};

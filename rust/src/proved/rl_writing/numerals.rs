@@ -31,10 +31,10 @@ fn divided(number: u128, by: u8) -> (u128, u8) {
     }
 }
 
-/// Writes the digits of `value` in the base `radix` to the start of `room`, the last digit first, and returns their
-/// number. The value must fit as many bits as `room` has bytes.
+/// Writes the digits of `value` in the base `radix` to the start of `room`, the last digit first, and returns the number of
+/// digits. The value must fit as many bits as `room` has bytes.
 #[inline]
-pub fn put_reversed(value: u128, radix: u8, upper: bool, room: &mut [u8]) -> usize {
+pub fn put_digits_reversed(value: u128, radix: u8, upper: bool, room: &mut [u8]) -> usize {
     let mut left = value;
     let mut count = 0;
     loop {
@@ -50,7 +50,7 @@ pub fn put_reversed(value: u128, radix: u8, upper: bool, room: &mut [u8]) -> usi
 /// Returns the size of the groups in which `count` digits are written: 0, which means no groups, if `count` is below
 /// `least`, and otherwise `group`.
 #[inline]
-pub fn group_size_for(group: usize, least: usize, count: usize) -> usize {
+pub fn digit_group_size(group: usize, least: usize, count: usize) -> usize {
     if count < least { 0 } else { group }
 }
 
@@ -58,7 +58,7 @@ pub fn group_size_for(group: usize, least: usize, count: usize) -> usize {
 /// digit. The digits are counted from the end of the number at which the first group begins. If `digits` or `group` is 0, the
 /// result is `false`.
 #[inline]
-pub fn ends_group(group: usize, digits: usize) -> bool {
+pub fn is_digit_group_end(group: usize, digits: usize) -> bool {
     group > 0 && digits > 0 && digits % group == 0
 }
 
@@ -72,7 +72,7 @@ pub fn put_grouped(out: &mut [u8], at: usize, digits: &[u8], group: usize) -> us
     while left > 0 {
         left -= 1;
         end = put_byte(out, end, digits[left]);
-        if ends_group(group, left) {
+        if is_digit_group_end(group, left) {
             end = put_byte(out, end, b'_');
         }
     }

@@ -15,9 +15,9 @@ fn raw_may_contain(kind: Kind, c: char) -> bool {
     }
 }
 
-/// Returns the number of hashes that a raw string needs so that it doesn't end after the character `c`: 1 after a
-/// quote, one more after each hash that follows a quote directly, and 0 after any other text. `opened` is the result
-/// for the character before `c`.
+/// Returns the number of hashes that a raw string needs so that it doesn't end after the character `c`. It is 1 after a quote,
+/// one more after each hash that directly follows a quote or its hashes, and 0 otherwise. `opened` is the result for the
+/// character before `c`.
 #[inline]
 fn hashes_opened(opened: usize, c: char) -> usize {
     match c {
@@ -34,7 +34,7 @@ fn hashes_opened(opened: usize, c: char) -> usize {
 /// character, in a C string a NUL, or if it needs more than 255 hashes (the Rust Reference, sections Raw string
 /// literals, Raw byte string literals, Raw C string literals).
 #[inline]
-pub fn raw_hashes(kind: Kind, text: &str) -> Option<usize> {
+pub fn min_raw_hashes(kind: Kind, text: &str) -> Option<usize> {
     let mut needed: usize = 0;
     let mut opened = 0;
     let mut rest = text;
@@ -49,17 +49,17 @@ pub fn raw_hashes(kind: Kind, text: &str) -> Option<usize> {
     if needed < 256 { Some(needed) } else { None }
 }
 
-/// Returns the text between the quotes of the raw byte string or raw C string whose value is the bytes `value`, and the
-/// fewest hashes for it, as [`raw_hashes`] returns them.
+/// Returns the text between the quotes of the raw byte string or raw C string whose value is the bytes `value`, and the fewest
+/// hashes for it, as [`min_raw_hashes`] returns them.
 ///
-/// Returns `None` if no raw string has this value: the bytes aren't UTF-8, which every literal is, or `raw_hashes`
-/// returns `None` for them.
+/// Returns `None` if no raw string has this value. Either the bytes aren't UTF-8, and can't be in a literal, or
+/// `min_raw_hashes` returns `None` for them.
 #[inline]
-pub fn raw_form(kind: Kind, value: &[u8]) -> Option<(&str, usize)> {
+pub fn raw_text_and_hashes(kind: Kind, value: &[u8]) -> Option<(&str, usize)> {
     let Ok(text) = core::str::from_utf8(value) else {
         return None;
     };
-    match raw_hashes(kind, text) {
+    match min_raw_hashes(kind, text) {
         Some(hashes) => Some((text, hashes)),
         None => None,
     }
@@ -86,7 +86,7 @@ fn raw_opener(kind: Kind) -> &'static str {
     }
 }
 
-/// Writes the raw string of the kind that contains `text`, with `hashes` hashes, to the start of `out`. [`raw_hashes`]
+/// Writes the raw string of the kind that contains `text`, with `hashes` hashes, to the start of `out`. [`min_raw_hashes`]
 /// returns the fewest hashes for a text.
 ///
 /// Returns the literal's length in bytes: at most that of the text, plus twice the hashes, plus four. `out` must have

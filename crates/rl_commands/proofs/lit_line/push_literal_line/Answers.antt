@@ -22,7 +22,7 @@ returns-in-Float g c =
 pub returns-in-Bool : goal.returns-in-Bool
 returns-in-Bool g c =
     let truth = c.in-Bool.truth.value in
-    let word : chars c.truth_word.result.now ≡ truth_text truth = ap chars c.truth_word.ensures ∙ truth_chars _
+    let word : chars c.bool_word.result.now ≡ truth_text truth = ap chars c.bool_word.ensures ∙ truth_chars _
     ∙ ap truth_text c.value.ensures in
     rw c.in-Bool.is (on_ok_weaker c.push_line_of_kind-in-Bool.result (λ e. appends_is (literal_line Bool (Truth truth) []) _ _
     (rw (word, no_chars) at e)) c.push_line_of_kind-in-Bool.ensures)

@@ -11,8 +11,8 @@ returns g c =
     let t = c.args.literal.now.text in
     let reads : ReadsAs kind (chars t) = subst (λ (k : Kind). ReadsAs k (chars t)) c.found.ensures.kind
     (found_reads t c.found.result c.found.ensures.found) in
-    on_ok_weaker c.push_found.result (λ a. (
+    on_ok_weaker c.push_found_line.result (λ a. (
       a.0,
       kind_lined kind (chars t) a.0 reads (subst (λ z. IsLineOf (chars z) a.0) c.text.ensures a.1),
       a.2,
-    )) c.push_found.ensures
+    )) c.push_found_line.ensures

@@ -3,8 +3,8 @@ use Rattle.rl_flaws.proofs.ClosedLemmas.{begins_quote, closed_none, closed_piece
 use Rattle.rl_flaws.proofs.WalkLemmas.{rest_room}
 use Rattle.rl_flaws.proofs.flaws.judge_closed.Goals as goal
 
-pub placed-requires : goal.placed-requires
-placed-requires c =
+pub invalid_piece_with_offsets-requires : goal.invalid_piece_with_offsets-requires
+invalid_piece_with_offsets-requires c =
     let quote : chars c.args.closing.now ≡ 39 ∷ chars c.without_first_char-suffix.result.now =
     begins_quote _ c.requires.1 ∙ ap (λ z. 39 ∷ z) (sym c.without_first_char-suffix.ensures.rest) in
     let piece : IsUtf8 c.in-Some.found.piece.now = search rules in
@@ -28,5 +28,5 @@ returns-in-Some-clause-gives c =
     let piece : IsUtf8 c.in-Some.found.piece.now = search rules in
     let rest : IsUtf8 c.in-Some.found.rest.now = search rules in
     closed_takes c.args.ends c.args.kind c.args.closing _ _ _ c.in-Some.found _ c.requires.0 quote piece rest
-    c.in-Some.ensures.flaw c.in-Some.ensures.piece c.placed.ensures.kind c.placed.ensures.from c.placed.ensures.lo
-    c.placed.ensures.hi c.placed.ensures.end
+    c.in-Some.ensures.flaw c.in-Some.ensures.piece c.invalid_piece_with_offsets.ensures.kind c.invalid_piece_with_offsets.ensures.from c.invalid_piece_with_offsets.ensures.lo
+    c.invalid_piece_with_offsets.ensures.hi c.invalid_piece_with_offsets.ensures.end

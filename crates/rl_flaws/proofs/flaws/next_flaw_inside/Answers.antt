@@ -5,17 +5,17 @@ use Rattle.rl_flaws.proofs.FlawLemmas.{inside_left, inside_less, inside_takes, s
 use Rattle.rl_flaws.proofs.PieceLemmas.{good_left}
 use Rattle.rl_flaws.proofs.flaws.next_flaw_inside.Goals as goal
 
-pub placed-requires : goal.placed-requires
-placed-requires c =
+pub invalid_piece_with_offsets-requires : goal.invalid_piece_with_offsets-requires
+invalid_piece_with_offsets-requires c =
     let piece : IsUtf8 c.in-Err.found.piece.now = search rules in
     let rest : IsUtf8 c.in-Err.found.rest.now = search rules in
-    let fits = rest_room c.args.ends _ _ c.requires.2 piece (IfErr-at_err _ c.in-Err.is c.walk-stretch.ensures.piece) in
-    let room = rest_room c.args.ends _ _ c.requires.2 rest (IfErr-at_err _ c.in-Err.is c.walk-stretch.ensures.stop) in
+    let fits = rest_room c.args.ends _ _ c.requires.2 piece (IfErr-at_err _ c.in-Err.is c.parse_quoted_content-stretch.ensures.piece) in
+    let room = rest_room c.args.ends _ _ c.requires.2 rest (IfErr-at_err _ c.in-Err.is c.parse_quoted_content-stretch.ensures.stop) in
     record { piece = omega (arith, fits, c.requires.1); rest = omega (arith, room, c.requires.1) }
 
 pub returns-in-Ok-clause-gives : goal.returns-in-Ok-clause-gives
 returns-in-Ok-clause-gives c = record {
-  none = inr (IfOk-at_ok _ c.in-Ok.is c.walk-stretch.ensures.token);
+  none = inr (IfOk-at_ok _ c.in-Ok.is c.parse_quoted_content-stretch.ensures.token);
   over = refl;
   same = record { same_ends = refl; same_len = refl };
 }
@@ -24,31 +24,31 @@ pub returns-in-Err : goal.returns-in-Err
 returns-in-Err c =
     let piece : IsUtf8 c.in-Err.found.piece.now = search rules in
     let rest : IsUtf8 c.in-Err.found.rest.now = search rules in
-    let closing : IsUtf8 c.walk-stretch.result.closing.now = search rules in
-    let piece_in = IfErr-at_err _ c.in-Err.is c.walk-stretch.ensures.piece in
-    let stop_in = IfErr-at_err _ c.in-Err.is c.walk-stretch.ensures.stop in
+    let closing : IsUtf8 c.parse_quoted_content-stretch.result.closing.now = search rules in
+    let piece_in = IfErr-at_err _ c.in-Err.is c.parse_quoted_content-stretch.ensures.piece in
+    let stop_in = IfErr-at_err _ c.in-Err.is c.parse_quoted_content-stretch.ensures.stop in
     let room = rest_room c.args.ends _ _ c.requires.2 piece piece_in in
     record {
       gives = inside_takes c.args.ends c.args.opened c.args.rest _ _ c.in-Err.found _ _ piece rest piece_in stop_in
-          (IfErr-at_err _ c.in-Err.is c.walk-stretch.ensures.flaw) c.quote.ensures.value
-          c.placed.ensures.kind c.placed.ensures.from c.placed.ensures.lo c.placed.ensures.hi c.placed.ensures.end
+          (IfErr-at_err _ c.in-Err.is c.parse_quoted_content-stretch.ensures.flaw) c.quote.ensures.value
+          c.invalid_piece_with_offsets.ensures.kind c.invalid_piece_with_offsets.ensures.from c.invalid_piece_with_offsets.ensures.lo c.invalid_piece_with_offsets.ensures.hi c.invalid_piece_with_offsets.ensures.end
           c.requires.0 c.left_after.ensures;
       less = inside_less c.args.ends c.args.opened c.args.rest _ _ (is_string c.args.opened.kind)
           (is_flaw_of_unit c.in-Err.found.kind)
           (is_single c.args.opened.kind && not (is_flaw_after_quote c.in-Err.found.kind)) _ room
-          (IfErr-at_err _ c.in-Err.is c.walk-stretch.ensures.some) c.left_after.ensures;
+          (IfErr-at_err _ c.in-Err.is c.parse_quoted_content-stretch.ensures.some) c.left_after.ensures;
       left = inside_left c.args.ends c.args.opened c.args.rest _ _
           (is_string c.args.opened.kind && is_flaw_of_unit c.in-Err.found.kind) (is_single c.args.opened.kind)
           (not (is_flaw_after_quote c.in-Err.found.kind)) _ c.requires room refl c.left_after.ensures;
       same = stays_open c.args.ends _ _ _ (is_string c.args.opened.kind && is_flaw_of_unit c.in-Err.found.kind)
           (is_single c.args.opened.kind && not (is_flaw_after_quote c.in-Err.found.kind)) _ c.left_after.ensures;
       good = λ e. good_left c.args.opened c.args.rest _ _ _ _ c.requires.0 c.requires.1 c.before-good.utf8 closing
-          c.before-good.ensures.cut c.before-good.ensures.chars (c.walk-stretch.ensures.good e) refl;
+          c.before-good.ensures.cut c.before-good.ensures.chars (c.parse_quoted_content-stretch.ensures.good e) refl;
     }
 
 pub returns-in-Ok-clause-good : goal.returns-in-Ok-clause-good
 returns-in-Ok-clause-good c =
-    let closing : IsUtf8 c.walk-stretch.result.closing.now = search rules in
+    let closing : IsUtf8 c.parse_quoted_content-stretch.result.closing.now = search rules in
     λ e. good_left c.args.opened c.args.rest _ _ _ _ c.requires.0 c.requires.1 c.before-good.utf8 closing
     c.before-good.ensures.cut
-    c.before-good.ensures.chars (c.walk-stretch.ensures.good e) refl
+    c.before-good.ensures.chars (c.parse_quoted_content-stretch.ensures.good e) refl

@@ -1,4 +1,4 @@
--- The loop's invariant: the rest of the text has the same text after its first dot.
+-- The loop's invariant: after the first dot, the whole text and its rest have one text.
 use Rattle.rl_syntax.proofs.Common.{◌≡◌, length}
 use Rattle.rl_flaws.specs.FloatRange.{after_point}
 use denote.Text.{Utf8}

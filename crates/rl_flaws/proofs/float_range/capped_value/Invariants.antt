@@ -1,4 +1,4 @@
--- The loop's invariant: the value is that of the digits read so far.
+-- The loop's invariant: the number computed so far is the value of the digits read so far.
 use Rattle.rl_syntax.proofs.Common.{◌≡◌, ◌⊎◌, ◌≤◌, ◌<◌, ◌*◌, ◌^◌, ◌++◌, ℕ, List, length}
 use Rattle.rl_lenient.proofs.Names.{place_value}
 use Rattle.rl_flaws.specs.FloatRange.{digits_only}

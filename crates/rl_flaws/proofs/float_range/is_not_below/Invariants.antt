@@ -1,4 +1,4 @@
--- The loop's invariant: the result of the comparison is that for the remaining digits.
+-- The loop's invariant: comparing the remaining digits gives the result of comparing all digits.
 use Rattle.rl_syntax.proofs.Common.{◌≡◌, length}
 use Rattle.rl_flaws.specs.FloatRange.{digits_only}
 use Rattle.rl_flaws.specs.Mirrors.Floats.{not_below}

@@ -3,16 +3,16 @@ use Rattle.rl_lenient.proofs.Names.{Int}
 use Rattle.rl_fronts.proofs.NumberFoundLemmas.{int_number, is_float, float_kind}
 use Rattle.rl_fronts.proofs.digits.found_number.Goals as goal
 
-pub found_in-requires : goal.found_in-requires
-found_in-requires c = (Int, int_number _ _ c.requires c.in-Int.is)
+pub parse_known_literal-requires : goal.parse_known_literal-requires
+parse_known_literal-requires c = (Int, int_number _ _ c.requires c.in-Int.is)
 
 pub returns-in-Int-clause-found : goal.returns-in-Int-clause-found
 returns-in-Int-clause-found c =
-    let f = c.found_in.ensures in
+    let f = c.parse_known_literal.ensures in
     inl (f.found, inl (f.kind Int (int_number _ _ c.requires c.in-Int.is)))
 
 pub returns-in-Int-clause-kind : goal.returns-in-Int-clause-kind
-returns-in-Int-clause-kind c = c.found_in.ensures.kind Int (int_number _ _ c.requires c.in-Int.is) ∙ sym c.in-Int.is
+returns-in-Int-clause-kind c = c.parse_known_literal.ensures.kind Int (int_number _ _ c.requires c.in-Int.is) ∙ sym c.in-Int.is
 
 pub unreachable-requires : goal.unreachable-requires
 unreachable-requires c = let (n, x, r) = is_float _ _ c.requires c.in_default.not-Int in c.in-None.ensures.none n x r

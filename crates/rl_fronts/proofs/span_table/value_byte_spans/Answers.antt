@@ -21,13 +21,13 @@ loop-segment-preserved g c =
 pub overflow_add-end : goal.overflow_add-end
 overflow_add-end g c =
     let fits : c.args.base.hi < 18446744073709551616 = search rules in
-    let at : c.at.result ≡ c.loop-segment.segments.at = c.at.ensures
+    let at : c.next_offset.result ≡ c.loop-segment.segments.at = c.next_offset.ensures
     ∙ ap (λ (s : SegmentsState). s.at) c.in_default.ensures.stays in
     omega (arith, fits, at, c.loop-segment.invariant.same_end, c.requires)
 
 pub returns : goal.returns
 returns g c =
-    let at : c.at.result ≡ c.loop-segment.segments.at = c.at.ensures
+    let at : c.next_offset.result ≡ c.loop-segment.segments.at = c.next_offset.ensures
     ∙ ap (λ (s : SegmentsState). s.at) c.in_default.ensures.stays in
     tabled_all _ _ _ _ _ c.loop-segment.invariant c.in_default.ensures.none
     (c.in_ok-push.ensures.items ∙ ap (λ n. c.loop-segment.spans.items ++ (span_from c.args.base n n ∷ [])) at)

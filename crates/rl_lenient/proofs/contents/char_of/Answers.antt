@@ -4,15 +4,15 @@ use Rattle.std.specs.Str.{chars}
 use Rattle.rl_lenient.proofs.FoundContents.{unit_of}
 use Rattle.rl_lenient.proofs.contents.char_of.Goals as goal
 
-pub found_in-requires : goal.found_in-requires
-found_in-requires c = (Char, c.requires)
+pub parse_known_literal-requires : goal.parse_known_literal-requires
+parse_known_literal-requires c = (Char, c.requires)
 
 pub unreachable-requires : goal.unreachable-requires
 unreachable-requires c =
-    let f = c.found_in.ensures in c.in-None.ensures.value ((unit_of Char _ _ (f.kind Char c.requires) refl
+    let f = c.parse_known_literal.ensures in c.in-None.ensures.value ((unit_of Char _ _ (f.kind Char c.requires) refl
     f.found).character refl)
 
 pub returns : goal.returns
 returns c =
-    let f = c.found_in.ensures in
+    let f = c.parse_known_literal.ensures in
     record { reads = subst (λ n. HasContents Char (chars c.args.text.now) (Characters (n ∷ []))) (sym c.in-Some.ensures.value.1) (unit_of Char _ _ (f.kind Char c.requires) refl f.found).reads }

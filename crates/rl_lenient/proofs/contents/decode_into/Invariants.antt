@@ -1,4 +1,4 @@
--- The buffer begins with the decoded value of the passed text, and has room for the rest after it.
+-- The loop's invariant: the buffer begins with the decoded value of the text so far, and has room for the value of the rest.
 use Rattle.rl_syntax.proofs.Common.{◌≡◌, length}
 use denote.Text.{Utf8}
 use denote.Shadow.{shadow}

@@ -1,4 +1,4 @@
--- The buffer begins with the digits of the passed text, and has room for the rest after them.
+-- The loop's invariant: the buffer begins with the digits of the text so far, and has room for the digits of the rest.
 use Rattle.rl_syntax.proofs.Common.{◌≡◌, ◌+◌, ◌≤◌, ◌++◌, ℕ, List, take, length, encode_utf8_all}
 use Rattle.rl_lenient.proofs.Names.{float_digits}
 use denote.Text.{Utf8}

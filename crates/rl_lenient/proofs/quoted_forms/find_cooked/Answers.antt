@@ -16,24 +16,24 @@ use Rattle.rl_lenient.proofs.quoted_forms.find_cooked.Goals as goal
 pub split_plain-requires : goal.split_plain-requires
 split_plain-requires c = (front_sound _ _ c.requires).has
 
-pub skip_units-closer-requires : goal.skip_units-closer-requires
-skip_units-closer-requires c = (front_sound _ _ c.requires).has
+pub skip_string_content-closer-requires : goal.skip_string_content-closer-requires
+skip_string_content-closer-requires c = (front_sound _ _ c.requires).has
 
-pub places-requires-clause-closer : goal.places-requires-clause-closer
-places-requires-clause-closer c =
+pub part_offsets-requires-clause-closer : goal.part_offsets-requires-clause-closer
+part_offsets-requires-clause-closer c =
     let following : IsUtf8 c.split_plain.result.1.now = search rules in
     tail_chars _ _ _ c.utf8.inside following c.split_plain.ensures.cut
 
-pub places-requires-2-clause-closer : goal.places-requires-2-clause-closer
-places-requires-2-clause-closer c =
+pub part_offsets-requires-2-clause-closer : goal.part_offsets-requires-2-clause-closer
+part_offsets-requires-2-clause-closer c =
     let cut = c.split_plain.ensures in
-    let (w, run) = cooked_units _ _ _ _ _ _ cut.cut cut.plain c.skip_units-closer.ensures.run.1 in
-    tail_chars _ _ _ c.utf8.inside c.skip_units-closer.utf8 run.text_is
+    let (w, run) = cooked_units _ _ _ _ _ _ cut.cut cut.plain c.skip_string_content-closer.ensures.run.1 in
+    tail_chars _ _ _ c.utf8.inside c.skip_string_content-closer.utf8 run.text_is
 
 pub returns-in-Some-clause-found : goal.returns-in-Some-clause-found
 returns-in-Some-clause-found c =
     let cut = c.split_plain.ensures in
-    let at = c.places.ensures in
+    let at = c.part_offsets.ensures in
     let string = (front_sound _ _ c.requires).has in
     let (w, run) = cooked_units _ _ _ _ _ _ cut.cut cut.plain (row_start c.args.kind (chars c.split_plain.result.1.now))
     in
@@ -46,19 +46,19 @@ returns-in-Some-clause-found c =
 pub returns-in_err-suffix-clause-none : goal.returns-in_err-suffix-clause-none
 returns-in_err-suffix-clause-none c =
     let cut = c.split_plain.ensures in
-    let (w, run) = cooked_units _ _ _ _ _ _ cut.cut cut.plain c.skip_units-closer.ensures.run.1 in
-    if_none _ (only_quoted _ _ _ _ c.requires (cooked_none _ _ _ _ run c.skip_units-closer.ensures.stuck
+    let (w, run) = cooked_units _ _ _ _ _ _ cut.cut cut.plain c.skip_string_content-closer.ensures.run.1 in
+    if_none _ (only_quoted _ _ _ _ c.requires (cooked_none _ _ _ _ run c.skip_string_content-closer.ensures.stuck
     c.in_err-suffix.ensures.none))
 
 pub returns-clause-found : goal.returns-clause-found
 returns-clause-found c =
     let cut = c.split_plain.ensures in
-    let at = c.places-2.ensures in
+    let at = c.part_offsets-2.ensures in
     let string = (front_sound _ _ c.requires).has in
-    let (w, run) = cooked_units _ _ _ _ _ _ cut.cut cut.plain c.skip_units-closer.ensures.run.1 in
+    let (w, run) = cooked_units _ _ _ _ _ _ cut.cut cut.plain c.skip_string_content-closer.ensures.run.1 in
     let parts = cooked_found _ _ _ _ _ _ string run at.body c.in_ok-suffix.ensures.some in
     let plain = at.plain ∙ no_run (is_plain c.args.kind) _ _ _ _ _ (sym at.body ∙ cut.cut)
-    c.skip_units-closer.ensures.run.1.text_is cut.stops (λ e. c.in_default.ensures.none _
+    c.skip_string_content-closer.ensures.run.1.text_is cut.stops (λ e. c.in_default.ensures.none _
     (e ∙ c.in_ok-suffix.ensures.some)) in
     quoted_found _ _ _ _ _ c.utf8.text (form_at _ _ _ _ _ _ _ c.requires parts at.suffix at.stands plain
     (opener_lo CookedForm _ _ _ _ (λ e. cc) c.utf8.text c.utf8.inside c.requires at.lo)) (no_unit _ _ string)

@@ -18,8 +18,8 @@ pub returns-in_err-suffix-clause-none : goal.returns-in_err-suffix-clause-none
 returns-in_err-suffix-clause-none c = if_none _ (only_quoted _ _ _ _ c.requires
     (single_none _ _ _ (sym c.in_ok-piece.ensures.value) c.in_err-suffix.ensures.none))
 
-pub places-body-requires-clause-closer : goal.places-body-requires-clause-closer
-places-body-requires-clause-closer c =
+pub part_offsets-body-requires-clause-closer : goal.part_offsets-body-requires-clause-closer
+part_offsets-body-requires-clause-closer c =
     let closer : IsUtf8 c.in_ok-piece.closer.now = search rules in
     tail_chars _ _ _ c.utf8.inside closer (unit_sound _ _ _ (sym c.in_ok-piece.ensures.value)).text_is
 
@@ -31,7 +31,7 @@ piece_code-requires-clause-one c = unit_one _ _ _ (front_sound _ _ c.requires).h
 
 pub returns-clause-found : goal.returns-clause-found
 returns-clause-found c =
-    let at = c.places-body.ensures in
+    let at = c.part_offsets-body.ensures in
     let single = (front_sound _ _ c.requires).has in
     let parts = single_found _ _ _ _ _ single (sym c.in_ok-piece.ensures.value) at.body c.in_ok-suffix.ensures.some in
     quoted_found _ _ _ _ _ c.utf8.text (form_at _ _ _ _ _ _ _ c.requires parts at.suffix at.stands at.plain

@@ -46,14 +46,14 @@ range_from-closer-requires c =
     let (cut, text) = closed_cut _ _ _ opened body after c.in_ok-body.ensures.some.0 in
     λ some. IsCharBoundary-at_seam _ _ _ cut text
 
-pub places-requires-clause-opened : goal.places-requires-clause-opened
-places-requires-clause-opened c =
+pub part_offsets-requires-clause-opened : goal.part_offsets-requires-clause-opened
+part_offsets-requires-clause-opened c =
     let rest = c.skip_hashes-rest.ensures.following in
     tail_step _ _ _ (opened _ _ _ _ c.utf8.text c.utf8.inside c.requires)
     (tail_step _ _ _ rest c.in_ok-opened.ensures.following)
 
-pub places-requires-clause-suffix : goal.places-requires-clause-suffix
-places-requires-clause-suffix c =
+pub part_offsets-requires-clause-suffix : goal.part_offsets-requires-clause-suffix
+part_offsets-requires-clause-suffix c =
     let opened : IsUtf8 c.in_ok-opened.opened.now = search rules in
     let body : IsUtf8 c.in_ok-body.body.now = search rules in
     let after : IsUtf8 c.in_ok-body.after.now = search rules in
@@ -68,11 +68,11 @@ returns-clause-some c =
     let opened : IsUtf8 c.in_ok-opened.opened.now = search rules in
     let body : IsUtf8 c.in_ok-body.body.now = search rules in
     let after : IsUtf8 c.in_ok-body.after.now = search rules in
-    let at = c.places.ensures in
+    let at = c.part_offsets.ensures in
     let b = c.in_ok-body.ensures.some in
     let string = (front_sound _ _ c.requires).has in
     let begins = closer_is _ _ _ _ opened body after b.0 c.range_from-closer.ensures.value in
-    let last = at.body ∙ ap (λ z. chars (body_in c.args.text.now c.places.result) ++ z) begins in
+    let last = at.body ∙ ap (λ z. chars (body_in c.args.text.now c.part_offsets.result) ++ z) begins in
     let same = append_cancel_right _ _ _ (sym last ∙ b.0) in
     let held = ap (list_all (is_raw c.args.kind)) same ∙ sym c.if-not-holds_all.ensures in
     let (v, parts) = raw_found _ _ _ _ c.skip_hashes-rest.ensures.rest c.before-hashes.ensures.chars _ _ _

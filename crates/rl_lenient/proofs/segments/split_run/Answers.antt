@@ -20,7 +20,7 @@ pub returns-in-Some-clause-plain : goal.returns-in-Some-clause-plain
 returns-in-Some-clause-plain c =
     let one : chars c.before-in-Some.result.now ≡ c.in-Some.c ∷ [] = append_cancel_right _ _ (chars c.in-Some.rest.now)
     (sym c.before-in-Some.ensures.chars ∙ c.in-Some.ensures.chars) in
-    ap (list_all (is_plain c.args.kind)) one ∙ and_from _ _ (sym c.is_plain.ensures ∙ c.if-is_plain.true) refl
+    ap (list_all (is_plain c.args.kind)) one ∙ and_from _ _ (sym c.is_plain_char.ensures ∙ c.if-is_plain_char.true) refl
 
 pub returns-in_default-clause-cut : goal.returns-in_default-clause-cut
 returns-in_default-clause-cut c = ap (λ z. z ++ chars c.args.text.now) (sym chars-nil)

@@ -1,4 +1,4 @@
--- At most five digits precede this digit, so the value before it is below 16 to the fifth.
+-- At most five digits precede a further digit of an escape `\u{..}`, so their value is below 16 to the fifth.
 use Rattle.rl_syntax.proofs.Common.{◌<◌, ◌≤◌, ◌^◌, arith, common_steps}
 use Rattle.std.proofs.Math.Nat.{pow-le-pow_right}
 use Rattle.rl_lenient.proofs.units.more_digits.Goals as goal

@@ -5,7 +5,7 @@ use Rattle.rl_lexer.proofs.lexeme.word_or_mark.Goals as goal
 pub returns-in-Word-clause-found : goal.returns-in-Word-clause-found
 returns-in-Word-clause-found c =
     word_found (chars c.args.text.now) (chars c.in_ok-byte.following.now) _ c.in_ok-byte.byte c.in_ok-byte.ensures.some
-    (c.in-Word.ensures.word refl) c.skip_word.ensures.rest
+    (c.in-Word.ensures.word refl) c.skip_id_continue.ensures.rest
 
 pub returns-in-Mark-clause-found : goal.returns-in-Mark-clause-found
 returns-in-Mark-clause-found c =
@@ -16,7 +16,7 @@ pub returns-in-Prefix-clause-found : goal.returns-in-Prefix-clause-found
 returns-in-Prefix-clause-found c =
     prefix_word_found (chars c.args.text.now) (chars c.in_ok-byte.following.now) _ c.in_ok-byte.byte
     c.in_ok-byte.ensures.some (c.in-Prefix.ensures.prefix refl) (c.if-continues_word.ensures refl)
-    c.skip_word-in-Prefix.ensures.rest
+    c.skip_id_continue-in-Prefix.ensures.rest
 
 pub returns-in-Slash-clause-found : goal.returns-in-Slash-clause-found
 returns-in-Slash-clause-found c =

@@ -1,4 +1,5 @@
--- One iteration of the loop: at a closing delimiter, an opening delimiter, another `*` or `/`, or other bytes.
+-- One iteration of the loop that searches for the end of a block comment. It is at a closing delimiter, an opening delimiter,
+-- another `*` or `/`, or other bytes.
 use Rattle.rl_syntax.proofs.Common.{arith, ◌+◌, ◌≡◌, [], Some, get_or, sym, ◌∙◌, ap, drop, IsCharBoundary-after_ascii}
 use Rattle.std.proofs.Math.ListN.{drop_of_length-le}
 use Rattle.rl_lexer.specs.Mirrors.SkippedAt.{after_block}
@@ -76,7 +77,7 @@ loop-at-preserved c =
       within = inside;
       shallow = omega arith;
       same =
-          block_runs _ s (c.loop-at.at + 1) c.loop-at.depth c.len_before_near_mark-at.result c.two.ensures
+          block_runs _ s (c.loop-at.at + 1) c.loop-at.depth c.len_before_near_mark-at.result c.from_two_bytes.ensures
           c.len_before_near_mark-at.ensures
           ∙ sym (block_goes s c.loop-at.at c.loop-at.depth c.loop-at-test.true (λ p q. c.if-byte-eq42.false p)
           (λ p q. c.if-byte-eq47.false p)) ∙ c.loop-at.invariant.same;

@@ -1,4 +1,4 @@
--- The white space and comments after leading white space are skipped too.
+-- After the leading white space of a text, the white space and comments that follow are skipped too.
 use Rattle.rl_syntax.proofs.Common.{chars}
 use Rattle.rl_syntax.specs.Texts.{is_white}
 use Rattle.rl_syntax.proofs.TailLemmas.{tail_step}

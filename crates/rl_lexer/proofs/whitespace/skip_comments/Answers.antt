@@ -1,4 +1,4 @@
--- The white space and comments after a comment are skipped too.
+-- After a comment at the start of a text, the white space and comments that follow are skipped too.
 use Rattle.rl_syntax.proofs.Common.{arith, sym, common_steps, chars}
 use Rattle.rl_syntax.specs.Texts.{is_white}
 use Rattle.rl_syntax.proofs.TailLemmas.{tail_step}

@@ -4,7 +4,7 @@ use Rattle.rl_scan.proofs.EndingLemmas.{keeps_same}
 use Rattle.rl_scan.proofs.exit.scan_listed.Goals as goal
 
 pub returns-in-Ok : goal.returns-in-Ok
-returns-in-Ok g c = inr (string_texts c.push_all_listed.new.paths.items, c.in-Ok.ensures.all, c.scan_paths.ensures)
+returns-in-Ok g c = inr (string_texts c.push_listed_paths.new.paths.items, c.in-Ok.ensures.all, c.scan_paths.ensures)
 
 pub returns-in-Err : goal.returns-in-Err
 returns-in-Err g c = inl (

@@ -1,4 +1,5 @@
--- Each iteration reads one token. At the end the whole text is lexed, or the result is its first error.
+-- The loop over a text's tokens reads one token in each iteration. At the end, the whole text is lexed, or the result is the
+-- text's first error.
 use Rattle.rl_syntax.proofs.Common.{◌≡◌, [], ◌∙◌}
 use Rattle.rl_settings.specs.Groups.{open_in}
 use Rattle.rl_settings.proofs.GroupLemmas.{passed_none, passed_more, error_at_end, whole_at_end, rejected_token, error_told, told_end}

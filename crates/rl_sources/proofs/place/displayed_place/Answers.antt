@@ -11,8 +11,8 @@ returns-then-options-clause-place c = (
   c.if-options.true,
   (
     chars c.args.rest.now,
-    c.at-line.result,
-    c.at-line.ensures.place.place,
+    c.position_of-line.result,
+    c.position_of-line.ensures.place.place,
     omega (
       arith,
       c.requires.lo,

@@ -9,19 +9,19 @@ use Rattle.rl_sources.proofs.step.push_literal_token.Goals as goal
 pub returns-then-not-picks-clause-shown : goal.returns-then-not-picks-clause-shown
 returns-then-not-picks-clause-shown g c =
     let text = c.args.token.text.now in
-    let is_label = found_label text c.label_of-label.result.now c.kind_of.result c.find-found.result
-    c.find-found.ensures.none
-    c.find-found.ensures.found c.kind_of.ensures c.label_of-label.ensures in
-    let read : IsFoundIn text c.find-found.result = record {
-      none = c.find-found.ensures.none;
-      some = c.find-found.ensures.found;
+    let is_label = found_label text c.label_of-label.result.now c.kind_of.result c.parse_literal-found.result
+    c.parse_literal-found.ensures.none
+    c.parse_literal-found.ensures.found c.kind_of.ensures c.label_of-label.ensures in
+    let read : IsFoundIn text c.parse_literal-found.result = record {
+      none = c.parse_literal-found.ensures.none;
+      some = c.parse_literal-found.ensures.found;
     } in
     let picks = picks_found c.args.options.now (bytes_before (chars c.args.places.now) c.args.token.lo) text
-    c.find-found.result _ _ _ _ c.is_some.ensures
+    c.parse_literal-found.result _ _ _ _ c.is_some.ensures
     (rw c.before-before.ensures at c.find_wrong-wrong.ensures.some)
     (rw c.before-before.ensures at c.find_wrong-wrong.ensures.none)
     c.if-not-picks.ensures in
-    not_picked c.args.options.now (chars c.args.places.now) text c.find-found.result _ c.args.token.lo c.args.token.hi
+    not_picked c.args.options.now (chars c.args.places.now) text c.parse_literal-found.result _ c.args.token.lo c.args.token.hi
     (chars (string_bytes c.args.out.now)) is_label read (λ p. false≢true (picks.1 p))
 
 pub before-before-requires : goal.before-before-requires
@@ -32,7 +32,7 @@ before-before-requires g c = rest_boundary c.args.places.now c.args.places.now c
 pub push_picked-requires : goal.push_picked-requires
 push_picked-requires g c = record {
   begins = c.requires;
-  is_read = record { none = c.find-found.ensures.none; some = c.find-found.ensures.found };
+  is_read = record { none = c.parse_literal-found.ensures.none; some = c.parse_literal-found.ensures.found };
   wrong = rw c.before-before.ensures at c.find_wrong-wrong.ensures.some;
   right = rw c.before-before.ensures at c.find_wrong-wrong.ensures.none;
 }
@@ -40,18 +40,18 @@ push_picked-requires g c = record {
 pub returns-clause-shown : goal.returns-clause-shown
 returns-clause-shown g c =
     let text = c.args.token.text.now in
-    let is_label = found_label text c.label_of-label.result.now c.kind_of.result c.find-found.result
-    c.find-found.ensures.none
-    c.find-found.ensures.found c.kind_of.ensures c.label_of-label.ensures in
-    let read : IsFoundIn text c.find-found.result = record {
-      none = c.find-found.ensures.none;
-      some = c.find-found.ensures.found;
+    let is_label = found_label text c.label_of-label.result.now c.kind_of.result c.parse_literal-found.result
+    c.parse_literal-found.ensures.none
+    c.parse_literal-found.ensures.found c.kind_of.ensures c.label_of-label.ensures in
+    let read : IsFoundIn text c.parse_literal-found.result = record {
+      none = c.parse_literal-found.ensures.none;
+      some = c.parse_literal-found.ensures.found;
     } in
     let picks = picks_found c.args.options.now (bytes_before (chars c.args.places.now) c.args.token.lo) text
-    c.find-found.result _ _ _ _ c.is_some.ensures
+    c.parse_literal-found.result _ _ _ _ c.is_some.ensures
     (rw c.before-before.ensures at c.find_wrong-wrong.ensures.some)
     (rw c.before-before.ensures at c.find_wrong-wrong.ensures.none)
     c.if-not-picks.ensures in
-    on_ok_weaker c.push_picked.result (picked_line c.args.options.now (chars c.args.places.now) text c.find-found.result
+    on_ok_weaker c.push_picked.result (picked_line c.args.options.now (chars c.args.places.now) text c.parse_literal-found.result
     _
     c.args.token.lo c.args.token.hi _ _ is_label read (picks.0 refl)) c.push_picked.ensures.shown

@@ -7,8 +7,8 @@ use Rattle.rl_strict.proofs.read_quoted.opened_at.Goals as goal
 pub parse_raw_content-stretch-requires-clause-string : goal.parse_raw_content-stretch-requires-clause-string
 parse_raw_content-stretch-requires-clause-string c = (front_sound _ _ c.requires.front).has
 
-pub places-requires : goal.places-requires
-places-requires c =
+pub part_offsets-requires : goal.part_offsets-requires
+part_offsets-requires c =
     let closing : IsUtf8 c.parse_raw_content-stretch.result.closing.now = search rules in
     let suffix : IsUtf8 c.in-Ok.suffix.now = search rules in
     let left = IfOk-at_ok _ c.in-Ok.is c.parse_raw_content-stretch.ensures.left in
@@ -23,11 +23,11 @@ places-requires c =
 pub returns-in-Ok-clause-reads : goal.returns-in-Ok-clause-reads
 returns-in-Ok-clause-reads c =
     let (n, few, e) = c.requires.hashes in
-    let at = c.places.ensures in
+    let at = c.part_offsets.ensures in
     let walk = c.parse_raw_content-stretch.ensures in
     let closing : IsUtf8 c.parse_raw_content-stretch.result.closing.now = search rules in
     let suffix : IsUtf8 c.in-Ok.suffix.now = search rules in
-    raw_reads c.args.ends c.args.kind n _ _ _ _ _ (chars c.args.hashes.now) c.places.result
+    raw_reads c.args.ends c.args.kind n _ _ _ _ _ (chars c.args.hashes.now) c.part_offsets.result
     c.parse_raw_content-stretch.result.plain c.requires.front e c.requires.opened walk.stop walk.rest
     (IfOk-at_ok _ c.in-Ok.is walk.left) (IfOk-at_ok _ c.in-Ok.is walk.quote) (IfOk-at_ok _ c.in-Ok.is walk.suffix)
     walk.plain c.utf8.text c.utf8.inside c.utf8.opened closing suffix at.stands at.body at.suffix at.lo

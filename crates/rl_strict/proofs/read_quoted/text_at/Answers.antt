@@ -7,8 +7,8 @@ use Rattle.rl_strict.proofs.read_quoted.text_at.Goals as goal
 pub parse_cooked_content-stretch-requires : goal.parse_cooked_content-stretch-requires
 parse_cooked_content-stretch-requires c = (front_sound _ _ c.requires).has
 
-pub places-requires : goal.places-requires
-places-requires c =
+pub part_offsets-requires : goal.part_offsets-requires
+part_offsets-requires c =
     let closing : IsUtf8 c.parse_cooked_content-stretch.result.closing.now = search rules in
     record {
       opened = opened _ _ _ _ c.utf8.text c.utf8.inside c.requires;
@@ -18,11 +18,11 @@ places-requires c =
 
 pub returns-in-Ok-clause-reads : goal.returns-in-Ok-clause-reads
 returns-in-Ok-clause-reads c =
-    let at = c.places.ensures in
+    let at = c.part_offsets.ensures in
     let walk = c.parse_cooked_content-stretch.ensures in
     let closing : IsUtf8 c.parse_cooked_content-stretch.result.closing.now = search rules in
     let suffix : IsUtf8 c.in-Ok.suffix.now = search rules in
-    cooked_reads c.args.ends _ _ _ _ _ c.places.result c.parse_cooked_content-stretch.result.plain c.requires walk.run walk.rest
+    cooked_reads c.args.ends _ _ _ _ _ c.part_offsets.result c.parse_cooked_content-stretch.result.plain c.requires walk.run walk.rest
     (IfOk-at_ok _ c.in-Ok.is walk.quote) (IfOk-at_ok _ c.in-Ok.is walk.strict) (IfOk-at_ok _ c.in-Ok.is walk.plain)
     c.utf8.text c.utf8.inside closing suffix at.stands at.body at.suffix at.lo (at.plain ∙ c.plain_of.ensures)
 

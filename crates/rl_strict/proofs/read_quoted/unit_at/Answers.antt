@@ -9,8 +9,8 @@ use Rattle.rl_strict.proofs.read_quoted.unit_at.Goals as goal
 pub parse_single_unit-stretch-requires : goal.parse_single_unit-stretch-requires
 parse_single_unit-stretch-requires c = (front_sound _ _ c.requires).has
 
-pub places-requires : goal.places-requires
-places-requires c =
+pub part_offsets-requires : goal.part_offsets-requires
+part_offsets-requires c =
     let closing : IsUtf8 c.parse_single_unit-stretch.result.closing.now = search rules in
     record {
       opened = opened _ _ _ _ c.utf8.text c.utf8.inside c.requires;
@@ -25,12 +25,12 @@ piece_code-requires c =
 
 pub returns-in-Ok-clause-reads : goal.returns-in-Ok-clause-reads
 returns-in-Ok-clause-reads c =
-    let at = c.places.ensures in
+    let at = c.part_offsets.ensures in
     let walk = c.parse_single_unit-stretch.ensures in
-    let quoted = single_quoted _ _ _ _ _ _ c.places.result c.requires (front_sound _ _ c.requires).has
+    let quoted = single_quoted _ _ _ _ _ _ c.part_offsets.result c.requires (front_sound _ _ c.requires).has
     (IfOk-at_ok _ c.in-Ok.is walk.unit) (IfOk-at_ok _ c.in-Ok.is walk.quote) at.body at.suffix at.stands at.plain
     c.utf8.text c.utf8.inside at.lo in
-    unit_reads c.args.ends _ _ c.places.result c.piece_code.result
+    unit_reads c.args.ends _ _ c.part_offsets.result c.piece_code.result
     (form_token _ Form _ _ c.requires (IfOk-at_ok _ c.in-Ok.is walk.whole))
     (quoted_found _ _ _ _ _ c.utf8.text quoted c.piece_code.ensures refl)
 

@@ -1,16 +1,16 @@
 use Rattle.rl_strict.proofs.ReadValues.{flaw_explains, value_explains, value_of}
 use Rattle.rl_strict.proofs.reasons.explain_value.Goals as goal
 
-pub limit_of-requires : goal.limit_of-requires
-limit_of-requires c = (c.args.ends, c.args.signed, c.in-Ok.ensures.reads, c.in-Ok.ensures.token)
+pub limit_flaw_of_reading-requires : goal.limit_flaw_of_reading-requires
+limit_flaw_of_reading-requires c = (c.args.ends, c.args.signed, c.in-Ok.ensures.reads, c.in-Ok.ensures.token)
 
 pub returns-in-Ok-clause-none : goal.returns-in-Ok-clause-none
-returns-in-Ok-clause-none c = value_of c.args.ends c.args.signed _ _ c.limit_of.result c.limit_of.ensures.none
+returns-in-Ok-clause-none c = value_of c.args.ends c.args.signed _ _ c.limit_flaw_of_reading.result c.limit_flaw_of_reading.ensures.none
     c.in-Ok.ensures.reads c.in-Ok.ensures.token
 
 pub returns-in-Ok-clause-some : goal.returns-in-Ok-clause-some
-returns-in-Ok-clause-some c = value_explains c.args.ends c.args.signed _ c.limit_of.result c.in-Ok.ensures.token
-    c.limit_of.ensures.some
+returns-in-Ok-clause-some c = value_explains c.args.ends c.args.signed _ c.limit_flaw_of_reading.result c.in-Ok.ensures.token
+    c.limit_flaw_of_reading.ensures.some
 
 pub returns-in-Err-clause-some : goal.returns-in-Err-clause-some
 returns-in-Err-clause-some c = flaw_explains c.args.ends c.args.signed _ _ c.in-Err.ensures.flaw

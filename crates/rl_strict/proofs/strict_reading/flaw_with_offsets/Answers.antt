@@ -18,7 +18,7 @@ overflow_sub-result-3 c =
     let rest : IsUtf8 c.args.found.rest.now = search rules in
     omega (
       arith,
-      c.after_first-after.ensures.shorter,
+      c.skip_first_char-after.ensures.shorter,
       rest_length c.args.ends c.args.text.now c.args.found.rest.now c.utf8.text rest c.requires.rest,
     )
 
@@ -40,15 +40,15 @@ returns-clause-lo c =
 
 pub returns-clause-hi : goal.returns-clause-hi
 returns-clause-hi c =
-    let is_rest = step_in c.args.ends _ _ _ c.requires.rest c.after_first-after.ensures.rest in
+    let is_rest = step_in c.args.ends _ _ _ c.requires.rest c.skip_first_char-after.ensures.rest in
     record {
-      after = chars c.after_first-after.result.now;
+      after = chars c.skip_first_char-after.result.now;
       place = record {
         is_rest = is_rest;
         at_is = omega (
           arith,
-          rest_length c.args.ends c.args.text.now c.after_first-after.result.now c.utf8.text c.after_first-after.utf8 is_rest,
+          rest_length c.args.ends c.args.text.now c.skip_first_char-after.result.now c.utf8.text c.skip_first_char-after.utf8 is_rest,
         );
       };
-      after_is = c.after_first-after.ensures.read;
+      after_is = c.skip_first_char-after.ensures.read;
     }

@@ -5,7 +5,7 @@ use Rattle.rl_strict.proofs.ReadNumbers.{read_ok, read_token}
 use Rattle.rl_strict.proofs.strict_reading.number_at.Goals as goal
 
 pub returns-in-Ok-clause-reads : goal.returns-in-Ok-clause-reads
-returns-in-Ok-clause-reads c = λ ends. number_reads ends _ c.in-Ok.number _ c.placed.ensures
+returns-in-Ok-clause-reads c = λ ends. number_reads ends _ c.in-Ok.number _ c.reading_of_number.ensures
     (read_ok _ (Ok c.in-Ok.number) c.requires c.in-Ok.ensures.value) c.in-Ok.ensures.following
     (read_token _ (Ok c.in-Ok.number) c.requires c.in-Ok.ensures.value)
 

@@ -48,12 +48,12 @@ pub returns-in-None-suffix_flaw-clause-plain : goal.returns-in-None-suffix_flaw-
 returns-in-None-suffix_flaw-clause-plain c =
     let cut = c.split_plain.ensures in
     plain_not c.args.ends _ _ _ _ _ c.skip_units-closing.ensures.rest cut.cut cut.stops
-    (λ e. c.in_default.ensures.none _ (e ∙ c.in-Some-after_quote.ensures.some))
+    (λ e. c.in_default.ensures.none _ (e ∙ c.in-Some-strip_quote.ensures.some))
 
 pub returns-in-None-suffix_flaw-clause-closes : goal.returns-in-None-suffix_flaw-clause-closes
 returns-in-None-suffix_flaw-clause-closes c = cooked_good c.args.ends _ _ _ _ c.requires
     (units_of c.args.ends _ _ _ _ _ c.requires c.split_plain.ensures.cut c.split_plain.ensures.plain
-    c.skip_units-closing.ensures.run) c.in-Some-after_quote.ensures.some c.in-None-suffix_flaw.ensures.flaw
+    c.skip_units-closing.ensures.run) c.in-Some-strip_quote.ensures.some c.in-None-suffix_flaw.ensures.flaw
 
 pub returns-in-Some-suffix_flaw-2-clause-run : goal.returns-in-Some-suffix_flaw-2-clause-run
 returns-in-Some-suffix_flaw-2-clause-run c = units_of c.args.ends _ _ _ _ _ c.requires c.split_plain.ensures.cut
@@ -69,23 +69,23 @@ returns-in-Some-suffix_flaw-2-clause-stops c =
     cooked_bad c.args.ends _ _ _ _ c.in-Some-suffix_flaw-2.flaw c.requires
     (units_of c.args.ends _ _ _ _ _ c.requires cut.cut cut.plain c.skip_units-closing.ensures.run)
     (units_in c.args.ends _ _ _ _ _ c.requires cut.cut cut.plain c.skip_units-closing.ensures.rest)
-    c.in-Some-after_quote.ensures.some c.in-Some-suffix_flaw-2.ensures.flaw c.in-Some-suffix_flaw-2.ensures.piece
+    c.in-Some-strip_quote.ensures.some c.in-Some-suffix_flaw-2.ensures.flaw c.in-Some-suffix_flaw-2.ensures.piece
 
-pub returns-in-None-after_quote-clause-run : goal.returns-in-None-after_quote-clause-run
-returns-in-None-after_quote-clause-run c = units_of c.args.ends _ _ _ _ _ c.requires c.split_plain.ensures.cut
+pub returns-in-None-strip_quote-clause-run : goal.returns-in-None-strip_quote-clause-run
+returns-in-None-strip_quote-clause-run c = units_of c.args.ends _ _ _ _ _ c.requires c.split_plain.ensures.cut
     c.split_plain.ensures.plain c.skip_units-closing.ensures.run
 
-pub returns-in-None-after_quote-clause-rest : goal.returns-in-None-after_quote-clause-rest
-returns-in-None-after_quote-clause-rest c = units_in c.args.ends _ _ _ _ _ c.requires c.split_plain.ensures.cut
+pub returns-in-None-strip_quote-clause-rest : goal.returns-in-None-strip_quote-clause-rest
+returns-in-None-strip_quote-clause-rest c = units_in c.args.ends _ _ _ _ _ c.requires c.split_plain.ensures.cut
     c.split_plain.ensures.plain c.skip_units-closing.ensures.rest
 
-pub returns-in-None-after_quote-clause-stops : goal.returns-in-None-after_quote-clause-stops
-returns-in-None-after_quote-clause-stops c =
+pub returns-in-None-strip_quote-clause-stops : goal.returns-in-None-strip_quote-clause-stops
+returns-in-None-strip_quote-clause-stops c =
     let cut = c.split_plain.ensures in
     cooked_stuck c.args.ends _ _ _ _ _ _ c.requires
     (units_of c.args.ends _ _ _ _ _ c.requires cut.cut cut.plain c.skip_units-closing.ensures.run)
     (units_in c.args.ends _ _ _ _ _ c.requires cut.cut cut.plain c.skip_units-closing.ensures.rest)
-    c.skip_units-closing.ensures.stuck c.in-None-after_quote.ensures.none
+    c.skip_units-closing.ensures.stuck c.in-None-strip_quote.ensures.none
     (ap (λ k. found_flaw k (chars c.with_piece.result.rest.now)) c.with_piece.ensures.0
     ∙ ap (λ z. found_flaw c.unit_flaw.result.kind (chars z)) c.with_piece.ensures.1 ∙ c.unit_flaw.ensures)
     (ap chars c.with_piece.ensures.2)
@@ -101,12 +101,12 @@ returns-in-Some-suffix_flaw-clause-at c = inr (chars c.in-Some.suffix.now, c.in-
 
 pub returns-in-Some-suffix_flaw-2-clause-at : goal.returns-in-Some-suffix_flaw-2-clause-at
 returns-in-Some-suffix_flaw-2-clause-at c = inr (
-  chars c.in-Some-after_quote.suffix.now,
+  chars c.in-Some-strip_quote.suffix.now,
   c.in-Some-suffix_flaw-2.ensures.flaw,
 )
 
-pub returns-in-None-after_quote-clause-at : goal.returns-in-None-after_quote-clause-at
-returns-in-None-after_quote-clause-at c = inl (
+pub returns-in-None-strip_quote-clause-at : goal.returns-in-None-strip_quote-clause-at
+returns-in-None-strip_quote-clause-at c = inl (
   c.with_piece.ensures.2,
   unit_over _ _ _ _ (ap (λ k. found_flaw k (chars c.with_piece.result.rest.now)) c.with_piece.ensures.0
       ∙ ap (λ z. found_flaw c.unit_flaw.result.kind (chars z)) c.with_piece.ensures.1 ∙ c.unit_flaw.ensures),

@@ -16,18 +16,18 @@ returns-in-None-suffix_flaw-clause-rest c = unit_in c.args.ends _ _ _ c.requires
 
 pub returns-in-None-suffix_flaw-clause-closes : goal.returns-in-None-suffix_flaw-clause-closes
 returns-in-None-suffix_flaw-clause-closes c = single_good c.args.ends _ _ _ _ c.requires (sym c.in-Some.ensures.rest)
-    c.in-Some-after_quote.ensures.some c.in-None-suffix_flaw.ensures.flaw
+    c.in-Some-strip_quote.ensures.some c.in-None-suffix_flaw.ensures.flaw
 
 pub returns-in-None-suffix_flaw-clause-whole : goal.returns-in-None-suffix_flaw-clause-whole
 returns-in-None-suffix_flaw-clause-whole c = single_good Text _ _ _ _ c.requires (sym c.in-Some.ensures.rest)
-    c.in-Some-after_quote.ensures.some c.in-None-suffix_flaw.ensures.flaw
+    c.in-Some-strip_quote.ensures.some c.in-None-suffix_flaw.ensures.flaw
 
 pub returns-in-Some-suffix_flaw-clause-rest : goal.returns-in-Some-suffix_flaw-clause-rest
 returns-in-Some-suffix_flaw-clause-rest c = unit_in c.args.ends _ _ _ c.requires (sym c.in-Some.ensures.rest)
 
 pub returns-in-Some-suffix_flaw-clause-stops : goal.returns-in-Some-suffix_flaw-clause-stops
 returns-in-Some-suffix_flaw-clause-stops c = single_bad c.args.ends _ _ _ _ c.in-Some-suffix_flaw.flaw c.requires
-    (sym c.in-Some.ensures.rest) c.in-Some-after_quote.ensures.some c.in-Some-suffix_flaw.ensures.flaw
+    (sym c.in-Some.ensures.rest) c.in-Some-strip_quote.ensures.some c.in-Some-suffix_flaw.ensures.flaw
     c.in-Some-suffix_flaw.ensures.piece
 
 pub returns-in-None-clause-rest : goal.returns-in-None-clause-rest
@@ -36,17 +36,17 @@ returns-in-None-clause-rest c = self_in c.args.ends _
 pub returns-in-None-clause-stops : goal.returns-in-None-clause-stops
 returns-in-None-clause-stops c = single_unclosed c.args.ends _ _ _ _ _ _ c.requires (sym c.in-Some.ensures.rest)
     c.in-None.ensures.none (ap (λ k. found_flaw k (chars c.with_piece-in-None.result.rest.now))
-    c.with_piece-in-None.ensures.0 ∙ ap (λ z. found_flaw c.end_flaw.result.kind (chars z)) c.with_piece-in-None.ensures.1 ∙
-    c.end_flaw.ensures) (ap chars c.with_piece-in-None.ensures.2)
+    c.with_piece-in-None.ensures.0 ∙ ap (λ z. found_flaw c.flaw_at_end_or_before.result.kind (chars z)) c.with_piece-in-None.ensures.1 ∙
+    c.flaw_at_end_or_before.ensures) (ap chars c.with_piece-in-None.ensures.2)
 
 pub returns-in_default-clause-good : goal.returns-in_default-clause-good
 returns-in_default-clause-good c = inr (refl, no_unit _ _ (sym c.in_default.ensures.rest))
 
 pub returns-in-None-suffix_flaw-clause-good : goal.returns-in-None-suffix_flaw-clause-good
-returns-in-None-suffix_flaw-clause-good c = inl (sym c.in-Some.ensures.rest, unit_quoted _ _ c.in-Some-after_quote.ensures.some)
+returns-in-None-suffix_flaw-clause-good c = inl (sym c.in-Some.ensures.rest, unit_quoted _ _ c.in-Some-strip_quote.ensures.some)
 
 pub returns-in-Some-suffix_flaw-clause-good : goal.returns-in-Some-suffix_flaw-clause-good
-returns-in-Some-suffix_flaw-clause-good c = inl (sym c.in-Some.ensures.rest, unit_quoted _ _ c.in-Some-after_quote.ensures.some)
+returns-in-Some-suffix_flaw-clause-good c = inl (sym c.in-Some.ensures.rest, unit_quoted _ _ c.in-Some-strip_quote.ensures.some)
 
 pub returns-in-None-clause-good : goal.returns-in-None-clause-good
 returns-in-None-clause-good c = inr (refl, no_quote_unit _ _ _ (sym c.in-Some.ensures.rest) c.in-None.ensures.none)
@@ -60,7 +60,7 @@ returns-in_default-clause-at c = inl (
 
 pub returns-in-Some-suffix_flaw-clause-at : goal.returns-in-Some-suffix_flaw-clause-at
 returns-in-Some-suffix_flaw-clause-at c = inr (
-  chars c.in-Some-after_quote.suffix.now,
+  chars c.in-Some-strip_quote.suffix.now,
   c.in-Some-suffix_flaw.ensures.flaw,
 )
 

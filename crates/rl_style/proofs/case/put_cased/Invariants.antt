@@ -1,4 +1,4 @@
--- The loop's invariant: the characters read so far are in the slice, in the given case. The others fit after them.
+-- The loop's invariant: the slice contains the characters read so far, in the given case. It has space for the others.
 use Rattle.rl_syntax.proofs.Common.{◌≡◌, ◌+◌, ◌++◌, ℕ, List, take, length, map, encode_utf8_all}
 use denote.Text.{Utf8}
 use denote.Shadow.{shadow}

@@ -1,4 +1,4 @@
--- The loop's invariant: the text that is still to be written fits after the bytes in the slice.
+-- The loop's invariant: after the bytes already written, the slice has space for the text that is still to be written.
 use Rattle.rl_syntax.proofs.Common.{◌≡◌, ◌≤◌, ◌+◌, ◌++◌, take, length, flat_map, encode_utf8_all}
 use denote.Text.{Utf8}
 use denote.Shadow.{shadow}

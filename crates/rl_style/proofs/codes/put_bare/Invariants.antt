@@ -1,4 +1,5 @@
--- The loop's invariant: the characters read so far are in the slice, without underscores. The others fit after them.
+-- The loop's invariant: the slice contains the characters read so far, without underscores and in the given case. It has space
+-- for the others.
 use Rattle.rl_syntax.proofs.Common.{◌≡◌, ◌≤◌, ◌+◌, ◌++◌, ℕ, List, take, length, map, encode_utf8_all}
 use denote.Text.{Utf8}
 use denote.Shadow.{shadow}

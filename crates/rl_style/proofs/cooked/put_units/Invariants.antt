@@ -1,4 +1,5 @@
--- The loop's invariant: the new forms of the characters and escapes read so far are in the slice. The others fit after them.
+-- The loop's invariant: the slice contains the new forms of the characters and escapes read so far. It has space for the
+-- others.
 use Rattle.rl_syntax.proofs.Common.{◌≡◌, ◌≤◌, ◌+◌, ◌*◌, List, take, length}
 use denote.Text.{Utf8}
 use denote.Shadow.{shadow}

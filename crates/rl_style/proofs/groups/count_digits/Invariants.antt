@@ -1,4 +1,5 @@
--- The loop's invariant: the digits counted so far, and those of the rest, are the digits of the sequence.
+-- The loop's invariant: the number of digits counted so far, plus the number of digits of the rest, is the number of digits of
+-- the sequence.
 use Rattle.rl_syntax.proofs.Common.{◌≡◌, ◌≤◌, ◌+◌, length}
 use denote.Text.{Utf8}
 use denote.Shadow.{shadow}

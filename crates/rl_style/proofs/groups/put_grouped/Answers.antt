@@ -19,7 +19,7 @@ loop-c-preserved-then-c-ne95 c =
     let first = c.in-Some.c in
     let m = c.args.manner in
     let f : ℕ → List ℕ = number_character m.style m.drops m.hex in
-    let test : ℕ → Bool = ends c.args.from_first c.group_size_for-size.result c.count_digits-count.result in
+    let test : ℕ → Bool = ends c.args.from_first c.digit_group_size-size.result c.count_digits-count.result in
     let after : List ℕ = chars c.in-Some.after.now in
     let other : (first == 95) ≡ false = ne_eqb first 95 c.if-c-ne95.true in
     let count : l.left ≡ 1 + length (without_underscores after) = l.invariant.left
@@ -47,7 +47,7 @@ loop-c-preserved-then-left-eq0 c =
     let first = c.in-Some.c in
     let m = c.args.manner in
     let f : ℕ → List ℕ = number_character m.style m.drops m.hex in
-    let test : ℕ → Bool = ends c.args.from_first c.group_size_for-size.result c.count_digits-count.result in
+    let test : ℕ → Bool = ends c.args.from_first c.digit_group_size-size.result c.count_digits-count.result in
     let after : List ℕ = chars c.in-Some.after.now in
     let under : (first == 95) ≡ true = ap (λ z. z == 95) c.if-c-ne95.false in
     let count : l.left ≡ length (without_underscores (first ∷ after)) = l.invariant.left
@@ -75,7 +75,7 @@ loop-c-preserved c =
     let first = c.in-Some.c in
     let m = c.args.manner in
     let f : ℕ → List ℕ = number_character m.style m.drops m.hex in
-    let test : ℕ → Bool = ends c.args.from_first c.group_size_for-size.result c.count_digits-count.result in
+    let test : ℕ → Bool = ends c.args.from_first c.digit_group_size-size.result c.count_digits-count.result in
     let after : List ℕ = chars c.in-Some.after.now in
     let under : (first == 95) ≡ true = ap (λ z. z == 95) c.if-c-ne95.false in
     let count : l.left ≡ length (without_underscores (first ∷ after)) = l.invariant.left
@@ -98,12 +98,12 @@ returns-clause-bytes c =
     let l = c.loop-c in
     let m = c.args.manner in
     let f : ℕ → List ℕ = number_character m.style m.drops m.hex in
-    let test : ℕ → Bool = ends c.args.from_first c.group_size_for-size.result c.count_digits-count.result in
+    let test : ℕ → Bool = ends c.args.from_first c.digit_group_size-size.result c.count_digits-count.result in
     sym (l.invariant.whole
     ∙ ap (λ z. take l.end l.out ++ encode_utf8_all (run_placed f test z)) c.in_default.ensures.chars
     ∙ append-nil (take l.end l.out))
     ∙ ap (λ z. take c.args.at c.args.out.now ++ encode_utf8_all z) (placed_groups m.drops m.hex m.style.exponent_plus
     m.style.hex_digits m.style.exponent_letter c.args.from_first m.size (least_by m.style.digit_groups)
-    c.group_size_for-size.result c.count_digits-count.result (chars c.args.run.now) c.requires.no_plus
-    (c.group_size_for-size.ensures ∙ ap (λ n. group_size m.size n c.count_digits-count.result) c.least_digits.ensures)
+    c.digit_group_size-size.result c.count_digits-count.result (chars c.args.run.now) c.requires.no_plus
+    (c.digit_group_size-size.ensures ∙ ap (λ n. group_size m.size n c.count_digits-count.result) c.least_digits.ensures)
     c.count_digits-count.ensures.digits)

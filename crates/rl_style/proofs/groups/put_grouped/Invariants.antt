@@ -1,4 +1,5 @@
--- The loop's invariant: the text that is still to be written fits after the bytes in the slice, and `left` digits remain.
+-- The loop's invariant: after the bytes already written, the slice has space for the text that is still to be written. Of this
+-- text, `left` characters are digits.
 use Rattle.rl_syntax.proofs.Common.{◌≡◌, ◌≤◌, ◌+◌, ◌*◌, ◌++◌, take, length, encode_utf8_all}
 use denote.Text.{Utf8}
 use denote.Shadow.{shadow}

@@ -1,4 +1,4 @@
--- The loop's invariant: the rest of the text, without its leading zeros, is the text without them.
+-- The loop's invariant: after the leading zeros and underscores are dropped from both, the text and its rest are equal.
 use Rattle.rl_syntax.proofs.Common.{◌≡◌, ◌≤◌, length}
 use denote.Text.{Utf8}
 use denote.Shadow.{shadow}

@@ -1,4 +1,4 @@
--- The loop's invariant: the text after the last character that isn't an underscore, and the underscores after this character.
+-- The loop's invariant: the characters read so far are a text without underscores at its end, and then only underscores.
 use Rattle.rl_syntax.proofs.Common.{◌≡◌, ◌++◌, ℕ, true, List, length}
 use denote.Text.{Utf8}
 use denote.Shadow.{shadow}

@@ -1,6 +1,6 @@
 use Rattle.rl_syntax.proofs.Common.{ℕ, ◌==◌, ◌∙◌, cond, is_ascii_digit, leb, lit<, refl, not, zip2_splat, zip2_splat_left, chunk}
 use Rattle.std.proofs.Common.{bit_or}
-use Rattle.rl_syntax.specs.Mirrors.RunsAt.{is_word_byte}
+use Rattle.rl_syntax.specs.Mirrors.RunsAt.{is_ascii_id_continue}
 use Rattle.rl_syntax.specs.Mirrors.UnlikelyAt.{is_likely_mark}
 use Rattle.rl_syntax.proofs.LaneLemmas.{both, either, lane}
 use Rattle.rl_syntax.proofs.RunLanes.{joined, splat_is}
@@ -21,12 +21,12 @@ returns c =
     let long = near-length 0 at bs some (lit< tt) room in
     let here_long = near-length 1 at bs some (lit< tt) room in
     let next_long = near-length 2 at bs some (lit< tt) room in
-    let no_words = lanes_of (λ p. not (is_word_byte p)) (λ x. x.0) xs (before_is at bs some room)
+    let no_words = lanes_of (λ p. not (is_ascii_id_continue p)) (λ x. x.0) xs (before_is at bs some room)
     (joined _ _ _ v (joined _ _ _ v (joined (λ a b. cond (leb a b) 255 0) _ _ v (splat_is v 16 26 long)
     (joined _ _ _ v (zip2_splat {Y = ℕ} bit_or v 16 32 long) (splat_is v 16 97 long)))
     (joined (λ a b. cond (leb a b) 255 0) _ _ v (splat_is v 16 10 long) (zip2_splat {Y = ℕ} _ v 16 48 long)))
     (zip2_splat {Y = ℕ} _ v 16 95 long)
-    ∙ same_lanes _ (λ p. lane (not (is_word_byte p))) refl v (near_low 0 at bs some (lit< tt) room fits)) in
+    ∙ same_lanes _ (λ p. lane (not (is_ascii_id_continue p))) refl v (near_low 0 at bs some (lit< tt) room fits)) in
     let here = here_is at bs some in
     let low = near_low 1 at bs some (lit< tt) room fits in
     let marks = lanes_of is_likely_mark (λ x. x.1) xs here

@@ -1,4 +1,4 @@
--- The method `starts_with` compares bytes.
+-- The method `starts_with` compares the bytes of two texts.
 use Rattle.rl_syntax.proofs.Common.{◌∙◌}
 use Rattle.std.proofs.lemmas.Str.Pattern.{starts_text}
 use Rattle.rl_syntax.proofs.BeginsLemmas.{begins_bytes, starts_begins}

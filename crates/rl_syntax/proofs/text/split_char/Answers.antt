@@ -1,4 +1,4 @@
--- The text begins with the UTF-8 encoding of the character.
+-- If the text begins with the character, its bytes begin with the UTF-8 encoding of the character.
 use Rattle.rl_syntax.proofs.Common.{rules, chars_past_char}
 use Rattle.rl_syntax.proofs.text.split_char.Goals as goal
 

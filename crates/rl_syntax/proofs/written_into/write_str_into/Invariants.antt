@@ -1,4 +1,5 @@
--- The slice contains the written forms of the passed characters, and has room for the rest after them.
+-- The loop's invariant: the slice contains the written forms of the characters so far, and has room for those of the other
+-- characters.
 use Rattle.rl_syntax.proofs.Common.{◌≡◌, ◌+◌, ◌*◌, ◌≤◌, ◌++◌, ℕ, List, take, length, Utf8, shadow, chars, IsUtf8}
 use Rattle.rl_syntax.specs.declared.kind.Kind.TheVariants.{Str}
 use Rattle.rl_syntax.proofs.WritingLemmas.{begun}

@@ -1,4 +1,4 @@
--- The slice contains the written forms of the passed characters, and has room for the rest after them.
+-- The loop's invariant: the slice contains the written forms of the passed characters. It has space for the others.
 use Rattle.rl_syntax.proofs.Common.{◌≡◌, ◌+◌, ◌*◌, ◌≤◌, ◌++◌, List, ℕ, length, take, chars, flat_map, Utf8, shadow}
 use Rattle.rl_syntax.specs.declared.kind.Kind.TheVariants.{Str}
 use Rattle.rl_syntax.specs.Quoted.{opener}

@@ -1,4 +1,4 @@
--- The written text, with the groups of the remaining digits, is the text to write.
+-- The loop's invariant: the text written so far, followed by the remaining digits in groups, is the text to write.
 use Rattle.rl_syntax.proofs.Common.{◌≡◌, ◌+◌, ◌≤◌, ◌++◌, length, take}
 use Rattle.std.specs.Prelude.{reverse}
 use Rattle.rl_writing.specs.Integers.{grouped}

@@ -1,4 +1,4 @@
--- The slice contains the counted hashes.
+-- The loop's invariant: the slice contains as many hashes as the loop has counted.
 use Rattle.rl_syntax.proofs.Common.{◌≡◌, ◌+◌, ◌++◌, length, replicate, take}
 use Rattle.rl_syntax.specs.Texts.{code}
 use Rattle.rl_writing.proofs.raw_strings.put_hashes.Given as goal

@@ -44,7 +44,7 @@ returns-in-Err-clause-rejected g c = λ all gone h. inr (record {
   list = gone ++ c.loop-alloc.list.items;
   rest = trees_in c.loop-alloc.input;
   leads = c.loop-alloc.invariant.leads all gone h;
-  memory = inr (c.memory.ensures ∙ ap memory_at c.call_site.ensures);
+  memory = inr (c.out_of_memory.ensures ∙ ap memory_at c.call_site.ensures);
 })
 
 pub returns-clause-read : goal.returns-clause-read

@@ -43,9 +43,9 @@ const VERBOSE: Setting = Setting {
 fn settings() {
     check(TABLE, "attr_settings", |text| {
         value_or_error(read(Global, text, 4), |attrs| {
-            set(attrs.string(Global, NAME), attrs.missing(NAME))
-                + &set(attrs.number::<u16>(Global, PORT), attrs.missing(PORT))
-                + &set(attrs.truth(VERBOSE), attrs.missing(VERBOSE))
+            set(attrs.string(Global, NAME), attrs.missing_error(NAME))
+                + &set(attrs.number::<u16>(Global, PORT), attrs.missing_error(PORT))
+                + &set(attrs.bool(VERBOSE), attrs.missing_error(VERBOSE))
         })
     });
 }
@@ -64,17 +64,17 @@ fn required_settings() {
         value_or_error(read(Global, text, 4), |attrs| {
             required(attrs.required_string(Global, NAME))
                 + &required(attrs.required_number::<u16>(Global, PORT))
-                + &required(attrs.required_truth(VERBOSE))
+                + &required(attrs.required_bool(VERBOSE))
         })
     });
 }
 
 /// Reads a `bool` setting with the default `true`, and then with the default `false`.
 #[test]
-fn truth_or() {
+fn bool_or() {
     check(TABLE, "attr_truth_or", |text| {
         value_or_error(read(Global, text, 4), |attrs| {
-            required(attrs.truth_or(VERBOSE, true)) + &required(attrs.truth_or(VERBOSE, false))
+            required(attrs.bool_or(VERBOSE, true)) + &required(attrs.bool_or(VERBOSE, false))
         })
     });
 }

@@ -100,7 +100,7 @@ fn called(words: &str, bytes: &[u8], streams: Streams) -> String {
         held: Vec::new(),
         streams,
     };
-    let ending = rl_commands::call(Global, &words, &mut input, &mut output);
+    let ending = rl_commands::run_with_arguments(Global, &words, &mut input, &mut output);
     // If the output ends inside a character, it isn't shown.
     String::from_utf8(output.held).unwrap_or_default() + &ended(&ending)
 }

@@ -21,9 +21,9 @@ fn every_allocation() {
     check(TABLE, "all_failing", |text| {
         let failing = &Failing::new(Global);
         let token = Literal::from_text(failing, text, HERE).unwrap();
-        failing.fail(1, u64::MAX);
+        failing.fail_from_to(1, u64::MAX);
         let answer = Lit::new(failing, token);
-        failing.succeed();
+        failing.stop_failing();
         match &answer {
             Ok(Lit::Int(it)) => format!("Int {} {}", it.base10_digits(), it.suffix()),
             Ok(Lit::Float(it)) => format!("Float {} {}", it.base10_digits(), it.suffix()),
@@ -53,9 +53,9 @@ fn all_but_the_first() {
         let Ok(Lit::Str(literal)) = Lit::new(failing, token) else {
             panic!("no string");
         };
-        failing.fail(2, u64::MAX);
+        failing.fail_from_to(2, u64::MAX);
         let value = literal.value(failing);
-        failing.succeed();
+        failing.stop_failing();
         let borrows = literal.value_ref().is_some();
         match value {
             Ok(value) => format!("{borrows} {}", value.len()),

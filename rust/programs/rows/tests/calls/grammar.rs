@@ -129,7 +129,7 @@ fn segments() {
             Some(format!(
                 "{}..{} ",
                 text_offset(text, at)?,
-                segments().end_of(at)
+                segments().text_end_offset(at)
             ))
         });
         format!("{lines}\n{table}\n{}", each.collect::<String>())

@@ -1,7 +1,7 @@
 //! Functions that show values, spans and errors as the rows contain them.
 
 use navyspindle_programs::rattle_std::alloc::Global;
-use navyspindle_programs::rl_commands::line_of;
+use navyspindle_programs::rl_commands::output_line;
 use navyspindle_programs::rl_tokens::{lex, Error, Literal, Span, TokenStream, TokenTree};
 use navyspindle_programs::rust_literals::Lit;
 use std::collections::hash_map::DefaultHasher;
@@ -52,7 +52,7 @@ pub fn debug_or_error<T: Debug>(answer: Result<T, Error>) -> String {
 
 /// Shows a literal's line, as `rl_tool` prints it.
 pub fn line(literal: &Lit) -> String {
-    line_of(Global, literal).unwrap().as_str().to_owned()
+    output_line(Global, literal).unwrap().as_str().to_owned()
 }
 
 /// Shows a literal's `Debug` and span.

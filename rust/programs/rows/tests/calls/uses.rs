@@ -3,42 +3,44 @@
 use crate::rows::{check, check_headings};
 use crate::shown::{self, at, debug_or_error, value_or_error};
 use navyspindle_programs::rattle_std::alloc::Global;
-use navyspindle_programs::rl_grammar::{find, next_literal};
+use navyspindle_programs::rl_grammar::{next_literal, parse_literal};
 use navyspindle_programs::rl_tokens::{parse_all, ParseBuffer, Span, Tokens};
 use navyspindle_programs::rust_literals::read_all;
-use navyspindle_rows::rl_uses::callers::grammar::string_in;
-use navyspindle_rows::rl_uses::callers::lenient::integer_in;
+use navyspindle_rows::rl_uses::callers::grammar::string_lit_value;
+use navyspindle_rows::rl_uses::callers::lenient::integer_literal_value;
 use navyspindle_rows::rl_uses::callers::literals::literal_count;
-use navyspindle_rows::rl_uses::callers::recovery::first_literal;
-use navyspindle_rows::rl_uses::callers::settings::is_lexed;
+use navyspindle_rows::rl_uses::callers::recovery::literal_at_start;
+use navyspindle_rows::rl_uses::callers::settings::can_be_lexed;
 use navyspindle_rows::rl_uses::callers::strict::first_bad_byte;
-use navyspindle_rows::rl_uses::callers::style::write_lower;
-use navyspindle_rows::rl_uses::callers::writing::write_ascii;
+use navyspindle_rows::rl_uses::callers::style::write_lower_hex;
+use navyspindle_rows::rl_uses::callers::writing::write_ascii_string_literal;
 use navyspindle_rows::rl_uses::examples::attributes::{
-    host_in, host_of, missing_at, string_setting,
+    missing_host_offset, optional_host, required_host, string_setting,
 };
 use navyspindle_rows::rl_uses::examples::buffers::{
-    first_in_group, mark_after_name, port, trees_left, trees_of,
+    first_integer_in_group, integer_tree_count, parse_port, punct_after_ident, remaining_tree_count,
 };
 use navyspindle_rows::rl_uses::examples::grammar::{
-    contents, digits_of_hex, exponent_of, first_escape, integer_of, is_plain_string, is_rust,
-    is_value, place_after_escape, reason, reason_in_file, suffix_of, why_no_value,
+    decoded_string, exponent_of, first_escape_offset, hex_digits, integer_value, is_plain_string,
+    is_rust_literal, is_signed_literal, second_value_byte_offset, suffix_of, why_invalid,
+    why_invalid_in_file, why_no_value,
 };
 use navyspindle_rows::rl_uses::examples::literals::{
-    after_literal, code_of, digits_or_text, first_flaw, second_string,
+    first_value_flaw, float_digits_or_text, second_string, text_after_literal, value_as_number,
 };
-use navyspindle_rows::rl_uses::examples::own::{mark_in_string, set_value};
+use navyspindle_rows::rl_uses::examples::own::{punct_in_string, value_after_equals};
 use navyspindle_rows::rl_uses::examples::quoted::{
-    brace_in_file, bytes_len, c_string_len, literal_in_file, string_of, string_value,
+    brace_offset_in_file, byte_string_len, c_string_len, inner_literal_span, string_literal_text,
+    string_value,
 };
 use navyspindle_rows::rl_uses::examples::tokens::{
-    after_comments, all_places, first_delimiter, first_docs, is_name, no_token, second_token,
-    text_at,
+    after_comments, first_delimiter, is_identifier, leading_doc_comment, lex_error_kind,
+    literal_and_error_offsets, second_token, text_at,
 };
 use navyspindle_rows::rl_uses::{
-    backslash_in_path, bad_literals, control_strings, count_literals, evaluate,
-    format as formatted, read_attribute, read_config, read_mount, read_number, write_raw,
-    write_upper, Attribute, Item, ItemList,
+    backslash_in_path, bad_literals, count_literals, evaluate, format as formatted, read_attribute,
+    read_config, read_mount, read_number, strings_with_control_characters, write_raw,
+    write_upper_hex, Attribute, Item, ItemList,
 };
 use std::fmt::Debug;
 
@@ -114,9 +116,10 @@ fn rejected_list() {
 #[test]
 fn lint() {
     check(TABLE, "lint", |text| {
-        value_or_error(control_strings(Global, text, FILE), |spans| {
-            spans.iter().map(|it| at(*it) + " ").collect::<String>() + "\n"
-        })
+        value_or_error(
+            strings_with_control_characters(Global, text, FILE),
+            |spans| spans.iter().map(|it| at(*it) + " ").collect::<String>() + "\n",
+        )
     });
 }
 
@@ -191,7 +194,7 @@ fn mount() {
 fn values() {
     check(TABLE, "values", |text| {
         let literal = next_literal(&mut Tokens::new(text)).unwrap();
-        let found = find(text).map(|found| (found.signed(text), found.has_suffix(text)));
+        let found = parse_literal(text).map(|found| (found.signed(text), found.has_suffix(text)));
         let (signed, value) = (literal.signed(), literal.value());
         format!("{signed:?} {} {value:?}\n{found:?}", literal.has_suffix())
     });
@@ -219,7 +222,7 @@ fn raw() {
 fn upper() {
     check(TABLE, "upper", |text| {
         let mut out = [0; 64];
-        match write_upper(text, &mut out) {
+        match write_upper_hex(text, &mut out) {
             Some(len) => String::from_utf8(out[..len].to_vec()).unwrap(),
             None => "none".to_owned(),
         }
@@ -252,80 +255,80 @@ fn examples() {
         examples! {
             text_at("let a = 12;", Span::new(0, 8, 10));
             second_token("a /* b */ 1.5");
-            no_token("\"a");
-            first_docs("/// Docs.");
-            all_places(Global, "f(\"a);\nlet b = 'x';\ng('ab');");
+            lex_error_kind("\"a");
+            leading_doc_comment("/// Docs.");
+            literal_and_error_offsets(Global, "f(\"a);\nlet b = 'x';\ng('ab');");
             after_comments("/* one */ two");
-            is_name("port");
+            is_identifier("port");
             first_delimiter(Global, "[1, 2]");
-            first_in_group(Global, "(0x10, 2)");
-            mark_after_name(Global, "port = 80");
-            trees_left(Global, "= 80");
-            trees_left(Global, "= a");
-            port(Global, "8_080");
-            port(Global, "1 'a'");
-            trees_of(Global, "12");
-            set_value(Global, "= 80");
-            mark_in_string(Global, "\"+\"");
-            is_rust("0xFF_u8");
-            is_rust("-1");
-            integer_of("0x1F_u8");
-            integer_of("1.5");
+            first_integer_in_group(Global, "(0x10, 2)");
+            punct_after_ident(Global, "port = 80");
+            remaining_tree_count(Global, "= 80");
+            remaining_tree_count(Global, "= a");
+            parse_port(Global, "8_080");
+            parse_port(Global, "1 'a'");
+            integer_tree_count(Global, "12");
+            value_after_equals(Global, "= 80");
+            punct_in_string(Global, "\"+\"");
+            is_rust_literal("0xFF_u8");
+            is_rust_literal("-1");
+            integer_value("0x1F_u8");
+            integer_value("1.5");
             suffix_of("0xFF_u8");
-            digits_of_hex("-0xF_F_u8");
-            digits_of_hex("255");
+            hex_digits("-0xF_F_u8");
+            hex_digits("255");
             exponent_of("1_0.5E+3f64");
             exponent_of("1.5");
-            reason("\"a\\q\"");
-            reason("0b102");
-            reason("0b101");
-            reason_in_file("\"a\rb\"");
-            reason_in_file("\"a\r\nb\"");
-            is_value("-1.5");
-            is_value("-\"a\"");
+            why_invalid("\"a\\q\"");
+            why_invalid("0b102");
+            why_invalid("0b101");
+            why_invalid_in_file("\"a\rb\"");
+            why_invalid_in_file("\"a\r\nb\"");
+            is_signed_literal("-1.5");
+            is_signed_literal("-\"a\"");
             why_no_value("-340282366920938463463374607431768211456");
             why_no_value("-1e");
             why_no_value("-1");
             is_plain_string("\"a\"");
             is_plain_string("\"\\n\"");
-            contents(Global, "\"a\\x41\"");
-            first_escape("\"a\\x41\\n\"");
-            place_after_escape("\"\\u{e4}b\"");
-            place_after_escape("\"\\x41b\"");
-            place_after_escape("5");
+            decoded_string(Global, "\"a\\x41\"");
+            first_escape_offset("\"a\\x41\\n\"");
+            second_value_byte_offset("\"\\u{e4}b\"");
+            second_value_byte_offset("\"\\x41b\"");
+            second_value_byte_offset("5");
             string_value(Global, "\"a\\x41\"");
-            string_of(Global, "a\tb");
-            bytes_len(Global, "b\"a\\xFF\"");
+            string_literal_text(Global, "a\tb");
+            byte_string_len(Global, "b\"a\\xFF\"");
             c_string_len(Global, "c\"a\\n\"");
-            brace_in_file(Global, "  \"\\u{e4}\\n{x}\"");
-            literal_in_file(Global, "\"\\x20\\\"a\\\"\"");
-            literal_in_file(Global, "\"\\u{31}, 2\"");
-            code_of(Global, "b'a'");
-            code_of(Global, "true");
-            digits_or_text(Global, "1_0.5e3_f64");
-            digits_or_text(Global, "abc");
-            first_flaw(Global, "\"a\\q\" 1");
-            after_literal(Global, "1.5, 2");
+            brace_offset_in_file(Global, "  \"\\u{e4}\\n{x}\"");
+            inner_literal_span(Global, "\"\\x20\\\"a\\\"\"");
+            inner_literal_span(Global, "\"\\u{31}, 2\"");
+            value_as_number(Global, "b'a'");
+            value_as_number(Global, "true");
+            float_digits_or_text(Global, "1_0.5e3_f64");
+            float_digits_or_text(Global, "abc");
+            first_value_flaw(Global, "\"a\\q\" 1");
+            text_after_literal(Global, "1.5, 2");
             second_string(Global, "1 \"a\" 'b'");
-            host_of(Global, "host = \"a\", port = 80");
-            host_in(Global, "host = \"a\", port = 80");
-            host_in(Global, "port = 80");
-            missing_at(Global, "port = 80");
+            optional_host(Global, "host = \"a\", port = 80");
+            required_host(Global, "host = \"a\", port = 80");
+            required_host(Global, "port = 80");
+            missing_host_offset(Global, "port = 80");
             string_setting(Global, "host = \"a\", port = 80", "host");
-            string_in(Global, "\"a\\x41\"");
-            string_in(Global, "5");
-            integer_in("-0x1F");
-            integer_in("1u8");
+            string_lit_value(Global, "\"a\\x41\"");
+            string_lit_value(Global, "5");
+            integer_literal_value("-0x1F");
+            integer_literal_value("1u8");
             literal_count(Global, "1 \"a\" // two");
-            first_literal("1.5, 2");
-            first_literal("a");
-            is_lexed("f(1, \"a\")");
-            is_lexed("(1]");
+            literal_at_start("1.5, 2");
+            literal_at_start("a");
+            can_be_lexed("f(1, \"a\")");
+            can_be_lexed("(1]");
             first_bad_byte("0b102");
             first_bad_byte("0b101");
-            write_lower("0xAB_u8", &mut [0; 64]);
-            write_lower("a", &mut [0; 64]);
-            write_ascii("é", &mut [0; 64]);
+            write_lower_hex("0xAB_u8", &mut [0; 64]);
+            write_lower_hex("a", &mut [0; 64]);
+            write_ascii_string_literal("é", &mut [0; 64]);
         }
     });
 }

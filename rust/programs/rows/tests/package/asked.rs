@@ -157,7 +157,7 @@ fn check_name(text: &str, ours: &Settings, proved: &Attrs, name: &'static str) {
     };
     let string = expect(proved_told(proved.string(Global, b)), string_told);
     assert_eq!(told(ours.string(a)), string, "{text:?} {name}");
-    let truth = expect(proved_told(proved.truth(b)), |_, _, answer| answer);
+    let truth = expect(proved_told(proved.bool(b)), |_, _, answer| answer);
     assert_eq!(told(ours.bool(a)), truth, "{text:?} {name}");
     let number = proved_told(proved.number::<u16>(Global, b));
     let number = expect(number, number_told::<u16>);
@@ -165,7 +165,7 @@ fn check_name(text: &str, ours: &Settings, proved: &Attrs, name: &'static str) {
     let number = proved_told(proved.number::<f64>(Global, b));
     let number = expect(number, number_told::<f64>);
     assert_eq!(told(ours.number::<f64>(a)), number, "{text:?} {name}");
-    let missing = proved_told::<u8>(Err(proved.missing(b)));
+    let missing = proved_told::<u8>(Err(proved.missing_error(b)));
     assert_eq!(
         told::<u8>(Err(ours.missing_error(a))),
         missing,

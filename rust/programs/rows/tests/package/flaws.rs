@@ -130,7 +130,7 @@ fn check_kind(text: &str, proved: &Proved, expected: Kind, read: [Result<Lit, Pa
             (Err(error), Some(flaw)) => check_flaw(text, error, flaw),
             (Err(error), None) => {
                 let found = match proved.kind() {
-                    Some(kind) => kind.word(),
+                    Some(kind) => kind.description(),
                     None => "text without a value",
                 };
                 let words = format!("expected {expected}, found {found}");

@@ -14,7 +14,7 @@ pub fn check(text: &str) {
     assert_eq!(index.lines(), read.matches('\n').count() + 1, "{text:?}");
     let characters = read.char_indices().map(|(at, c)| (at, Some(c)));
     for (at, c) in characters.chain([(read.len(), None)]) {
-        let spot = places.at(&text[front + at..]);
+        let spot = places.position_of(&text[front + at..]);
         let (line, column) = (spot.line, spot.column);
         let place = LineColumn { line, column };
         let column = at - line_start + 1;

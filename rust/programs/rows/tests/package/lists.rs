@@ -48,7 +48,7 @@ fn check_item(text: &str, range: Range<usize>, ours: &Lit, proved: &Proved, span
 fn rejection_in(text: &str) -> (Range<usize>, String) {
     let mut tokens = rl_tokens::Tokens::new(text);
     let rejection = loop {
-        match rl_grammar::list_step(&mut tokens) {
+        match rl_grammar::next_list_literal(&mut tokens) {
             rl_grammar::ListStep::Literal(_) => {}
             rl_grammar::ListStep::End => panic!("{text:?}"),
             rl_grammar::ListStep::Rejected(rejection) => break rejection,

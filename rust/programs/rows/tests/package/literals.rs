@@ -33,7 +33,7 @@ fn line_of(literal: &Lit) -> String {
 
 /// Shows a literal of the translated libraries, in the form that `rl_tool` prints.
 fn proved_line(literal: &Proved) -> String {
-    rl_commands::line_of(Global, literal)
+    rl_commands::output_line(Global, literal)
         .unwrap()
         .as_str()
         .to_owned()
@@ -65,7 +65,9 @@ pub fn check_same(ours: &Lit, proved: &Proved) {
 pub fn check_closely(ours: &Lit, proved: &Proved) {
     check_same(ours, proved);
     let text = proved.text();
-    let word = proved.kind().map_or("text without a value", Kind::word);
+    let word = proved
+        .kind()
+        .map_or("text without a value", Kind::description);
     assert_eq!(ours.kind().to_string(), word, "{text:?}");
     assert_eq!(
         (&*ours.to_string(), &*ours.clone().into_text()),
@@ -75,7 +77,7 @@ pub fn check_closely(ours: &Lit, proved: &Proved) {
     assert_eq!(format!("{ours:*>9}"), format!("{text:*>9}"));
     let name = proved.kind().map_or("LitVerbatim", Kind::struct_name);
     assert_eq!(format!("{ours:?}"), format!("{name}({text:?})"));
-    let Some(found) = rl_grammar::find(text) else {
+    let Some(found) = rl_grammar::parse_literal(text) else {
         assert!(matches!(ours, Lit::Verbatim(_)), "{text:?}");
         flaws::check_verbatim(ours, proved);
         return;

@@ -35,9 +35,9 @@ fn asking(
     mut call: impl FnMut(usize) -> bool,
 ) -> std::vec::Vec<usize> {
     let asks = |i: &usize| {
-        failing.fail(1, 0);
+        failing.fail_from_to(1, 0);
         assert!(call(*i), "call {i} fails");
-        failing.succeed() > 0
+        failing.stop_failing() > 0
     };
     (0..calls).filter(asks).collect()
 }
@@ -91,7 +91,7 @@ fn push() {
     for i in 0..4_u32 {
         assert!(list.push(i).is_ok());
     }
-    failing.fail(1, 1);
+    failing.fail_from_to(1, 1);
     let back = list.push(9).map_err(|AllocFailed { value }| value);
     assert_eq!(back, Err(9));
     assert_eq!(*list, [0, 1, 2, 3]);
@@ -104,23 +104,23 @@ fn extend_from_slice() {
     let failing = scant();
     let mut list = Vec::new(&failing);
     assert!(list.extend_from_slice(&[1_u8, 2]).is_ok());
-    failing.fail(1, 9);
+    failing.fail_from_to(1, 9);
     assert_eq!(list.extend_from_slice(&[3; 20]), Err(AllocError));
     assert_eq!(*list, [1, 2]);
     assert_eq!(list.extend_from_slice(&[3; 6]), Ok(()));
     assert_eq!(list.extend_from_slice(&[]), Ok(()));
     assert_eq!(*list, [1, 2, 3, 3, 3, 3, 3, 3]);
-    assert_eq!(failing.succeed(), 1);
+    assert_eq!(failing.stop_failing(), 1);
 
-    failing.fail(1, 9);
+    failing.fail_from_to(1, 9);
     assert_eq!(Vec::<u8, _>::new(&failing).extend_from_slice(&[]), Ok(()));
-    assert_eq!(failing.succeed(), 0);
+    assert_eq!(failing.stop_failing(), 0);
 }
 
 #[test]
 fn what_is_made_of_nothing_asks_for_nothing() {
     let failing = scant();
-    failing.fail(1, 99);
+    failing.fail_from_to(1, 99);
     assert!(Vec::<u64, _>::with_capacity(&failing, 0).is_ok());
     assert!(Vec::<u64, _>::with_capacity(&failing, 1).is_err());
     assert!(Vec::from_slice(&failing, b"").is_ok());
@@ -131,32 +131,32 @@ fn what_is_made_of_nothing_asks_for_nothing() {
     assert!(String::with_capacity(&failing, 1).is_err());
     assert!(String::from_str(&failing, "").is_ok());
     assert!(String::from_str(&failing, "a").is_err());
-    assert_eq!(failing.succeed(), 5);
-    assert_eq!(failing.held(), 0);
+    assert_eq!(failing.stop_failing(), 5);
+    assert_eq!(failing.blocks_in_use(), 0);
 }
 
 #[test]
 fn what_no_block_can_hold_is_not_asked_for() {
     let failing = scant();
-    failing.fail(1, 0);
+    failing.fail_from_to(1, 0);
     assert!(Vec::<u64, _>::with_capacity(&failing, usize::MAX).is_err());
     assert!(Vec::<u64, _>::with_capacity(&failing, usize::MAX / 16 + 1).is_err());
     assert!(Vec::<u8, _>::with_capacity(&failing, usize::MAX / 2 + 1).is_err());
     assert!(String::with_capacity(&failing, usize::MAX).is_err());
-    assert_eq!(failing.succeed(), 0);
+    assert_eq!(failing.stop_failing(), 0);
 }
 
 #[test]
 fn texts() {
     let failing = scant();
     let mut text = text_of(&failing, "abcd", 4);
-    failing.fail(1, 99);
+    failing.fail_from_to(1, 99);
     assert_eq!(text.push('e'), Err(AllocError));
     assert_eq!(text.push('\u{20ac}'), Err(AllocError));
     assert_eq!(text.push_str("efg"), Err(AllocError));
     assert_eq!(text.push_str(""), Ok(()));
     assert_eq!(text.as_str(), "abcd");
-    assert_eq!(failing.succeed(), 3);
+    assert_eq!(failing.stop_failing(), 3);
 }
 
 /// A value whose `fmt` writes half of its text and then fails.
@@ -175,12 +175,12 @@ fn write_and_writeln() {
     let mut text = text_of(&failing, "ab", 6);
     // The values are named because Rust joins literal arguments with the text when it compiles.
     let (word, number, rest) = ("cd", 123_456, "cdef");
-    failing.fail(1, 99);
+    failing.fail_from_to(1, 99);
     assert_eq!(write!(text, "{word}-{number}"), Err(AllocError));
     assert_eq!(text.as_str(), "ab");
     assert_eq!(write!(text, "{rest}"), Ok(()));
     assert_eq!(text.as_str(), "abcdef");
-    failing.succeed();
+    failing.stop_failing();
 
     let mut text = text_of(&failing, "ab", 2);
     assert_eq!(write!(text, "cd {Broken} ef"), Err(AllocError));
@@ -195,16 +195,16 @@ fn formats() {
     let failing = scant();
     let (number, word, more, nothing) = (5, "abcdefgh", "i", "");
     assert!(format!(in &failing; "cd {Broken} ef").is_err());
-    failing.fail(1, 1);
+    failing.fail_from_to(1, 1);
     assert!(format!(in &failing; "{number}").is_err());
-    failing.fail(2, 2);
+    failing.fail_from_to(2, 2);
     assert!(format!(in &failing; "{word}{more}").is_err());
-    assert_eq!(failing.succeed(), 2);
-    failing.fail(1, 9);
+    assert_eq!(failing.stop_failing(), 2);
+    failing.fail_from_to(1, 9);
     assert!(format!(in &failing; "{nothing}").is_ok());
-    assert_eq!(failing.held(), 0);
+    assert_eq!(failing.blocks_in_use(), 0);
 
-    failing.succeed();
+    failing.stop_failing();
     let text = text_of(&failing, "ab", 2);
     let padded = format!(in &failing; "[{text:>4}] [{text:-<3}] [{text:.1}] {text:?}");
     assert!(padded.is_ok_and(|padded| padded.as_str() == "[  ab] [ab-] [a] \"ab\""));
@@ -217,13 +217,13 @@ fn room_stays() {
     text.truncate(3);
     assert_eq!((text.len(), text.as_str()), (3, "a\u{e9}"));
     text.clear();
-    failing.fail(1, 1);
+    failing.fail_from_to(1, 1);
     assert_eq!(text.push_str("abcd"), Ok(()));
-    failing.succeed();
+    failing.stop_failing();
 
     let mut list = list_of(&failing, &[0; 40]);
     list.truncate(3);
-    failing.fail(1, 1);
+    failing.fail_from_to(1, 1);
     assert_eq!(list.extend_from_slice(&[1; 37]), Ok(()));
     assert_eq!((list.pop(), list.len()), (Some(1), 39));
 }
@@ -233,21 +233,21 @@ fn blocks_that_are_held() {
     let failing = scant();
     {
         assert!(String::from_utf8(list_of(&failing, b"a\xff")).is_err());
-        assert_eq!(failing.held(), 0);
+        assert_eq!(failing.blocks_in_use(), 0);
         let good = String::from_utf8(list_of(&failing, b"a\xc3\xa9"));
         assert!(good.is_ok_and(|text| text.as_str() == "a\u{e9}"));
-        assert_eq!(failing.held(), 0);
+        assert_eq!(failing.blocks_in_use(), 0);
         let text = text_of(&failing, "ab", 2);
         let bytes = text_of(&failing, "abc", 3).into_bytes();
-        assert_eq!(failing.held(), 2);
+        assert_eq!(failing.blocks_in_use(), 2);
         let mut items = bytes.into_iter();
         assert_eq!(items.next(), Some(97));
-        assert_eq!(failing.held(), 2);
+        assert_eq!(failing.blocks_in_use(), 2);
         let rest = items.collect(&failing);
-        assert!(rest.is_ok_and(|rest| *rest == *b"bc" && failing.held() == 2));
+        assert!(rest.is_ok_and(|rest| *rest == *b"bc" && failing.blocks_in_use() == 2));
         assert_eq!(text.as_str(), "ab");
     }
-    assert_eq!(failing.held(), 0);
+    assert_eq!(failing.blocks_in_use(), 0);
 }
 
 /// Returns item number `i` of a sequence without repetitions, in an irregular order.
@@ -261,7 +261,7 @@ fn sets() {
     let mut set = BTreeSet::new(&failing);
     let mut failures = 0;
     for i in 0..2000 {
-        failing.fail(1, u64::MAX);
+        failing.fail_from_to(1, u64::MAX);
         match set.insert(item(i)) {
             Ok(is_new) => assert!(is_new),
             Err(failed) => {
@@ -270,26 +270,26 @@ fn sets() {
                 for j in 0..i {
                     assert!(matches!(set.insert(item(j)), Ok(false)));
                 }
-                failing.succeed();
+                failing.stop_failing();
                 assert!(matches!(set.insert(item(i)), Ok(true)));
             }
         }
-        failing.succeed();
+        failing.stop_failing();
         assert!(matches!(set.insert(item(i)), Ok(false)));
     }
     // Allocations fail at the first item, at the six items at which the first row grows, and at some items at which a row is split.
     // Rattle's set allocates at other items.
     assert!(failures > 7);
-    assert!(failing.held() > 0);
+    assert!(failing.blocks_in_use() > 0);
     drop(set);
-    assert_eq!(failing.held(), 0);
+    assert_eq!(failing.blocks_in_use(), 0);
 }
 
 #[test]
 fn the_first_item_of_a_set() {
     let failing = scant();
     let mut set = BTreeSet::new(&failing);
-    failing.fail(1, 1);
+    failing.fail_from_to(1, 1);
     assert!(matches!(set.insert(5), Err(AllocFailed { value: 5 })));
     assert!(matches!(set.insert(5), Ok(true)));
 }
@@ -299,19 +299,19 @@ fn maps() {
     let failing = scant();
     let mut map = HashMap::new(&failing);
     for i in 0..500 {
-        failing.fail(1, u64::MAX);
+        failing.fail_from_to(1, u64::MAX);
         if let Err(failed) = map.insert(i, i + 1) {
             assert_eq!(failed.value, (i, i + 1));
             for j in 0..i {
                 assert!(matches!(map.insert(j, j + 1), Ok(Some(had)) if had == j + 1));
             }
-            failing.succeed();
+            failing.stop_failing();
             assert!(matches!(map.insert(i, i + 1), Ok(None)));
         }
     }
     assert_eq!(map.len(), 500);
     drop(map);
-    assert_eq!(failing.held(), 0);
+    assert_eq!(failing.blocks_in_use(), 0);
 }
 
 #[test]
@@ -324,14 +324,14 @@ fn errors() {
 #[test]
 fn items_without_a_size_need_no_block() {
     let failing = scant();
-    failing.fail(1, u64::MAX);
+    failing.fail_from_to(1, u64::MAX);
     let mut list: Vec<(), Scant<'_>> = Vec::new(&failing);
     for _ in 0..3 {
         assert!(list.push(()).is_ok());
     }
-    assert_eq!((list.len(), failing.held()), (3, 0));
+    assert_eq!((list.len(), failing.blocks_in_use()), (3, 0));
     drop(list);
-    assert_eq!(failing.held(), 0);
+    assert_eq!(failing.blocks_in_use(), 0);
 }
 
 #[test]

@@ -82,31 +82,31 @@ fn failures_in_the_middle() {
 #[test]
 fn failing_memory() {
     let failing = Failing::new(Global);
-    failing.fail(1, 1);
+    failing.fail_from_to(1, 1);
     let failed = BufReader::new(&failing, b"abc".as_slice()).err();
     assert_eq!(
         failed.map(|error| error.kind()),
         Some(ErrorKind::OutOfMemory)
     );
-    failing.succeed();
+    failing.stop_failing();
 
     let mut pieces = reader(b"a\nb\nc\nd\n".as_slice()).split(&failing, b'\n');
     assert_eq!(pieces.next().map(piece).as_deref(), Some("\"a\""));
-    failing.fail(1, 1);
+    failing.fail_from_to(1, 1);
     let failed = pieces.next().map(piece);
     assert_eq!(failed.as_deref(), Some("Err(OutOfMemory, None)"));
     for _ in 0..3 {
         assert!(pieces.next().is_none());
     }
-    failing.succeed();
+    failing.stop_failing();
 
     let mut rows = reader(b"a\nb\nc\nd\n".as_slice()).lines(&failing);
     assert_eq!(rows.next().map(line).as_deref(), Some("\"a\""));
-    failing.fail(1, 1);
+    failing.fail_from_to(1, 1);
     let failed = rows.next().map(line);
     assert_eq!(failed.as_deref(), Some("Err(OutOfMemory, None)"));
     for _ in 0..3 {
         assert!(rows.next().is_none());
     }
-    assert_eq!(failing.held(), 0);
+    assert_eq!(failing.blocks_in_use(), 0);
 }

@@ -117,10 +117,10 @@ fn a_growth_that_fails_at_first_reads_nothing() {
     let failing = Failing::new(Global);
     let mut script = Script::new(&[], DIGITS);
     let mut list = Vec::new(&failing);
-    failing.fail(1, 1);
+    failing.fail_from_to(1, 1);
     let failed = told(script.take(600).read_to_end(&mut list));
     assert_eq!(failed, "Err(OutOfMemory, None)");
-    assert_eq!((list.len(), failing.succeed()), (0, 1));
+    assert_eq!((list.len(), failing.stop_failing()), (0, 1));
     assert_eq!(script.asked(), []);
 }
 
@@ -131,16 +131,16 @@ fn a_failed_growth_loses_no_byte() {
     {
         let mut list = Vec::new(&failing);
         let mut front = script.take(1 << 30);
-        failing.fail(2, u64::MAX);
+        failing.fail_from_to(2, u64::MAX);
         let failed = told(front.read_to_end(&mut list));
         assert_eq!(failed, "Err(OutOfMemory, None)");
-        assert_eq!((list.len(), failing.succeed()), (512, 2));
+        assert_eq!((list.len(), failing.stop_failing()), (512, 2));
         assert_eq!(told(front.read_to_end(&mut list)), "Ok(2488)");
-        assert_eq!((list.len(), failing.succeed()), (3000, 3));
-        assert_eq!(failing.held(), 1);
+        assert_eq!((list.len(), failing.stop_failing()), (3000, 3));
+        assert_eq!(failing.blocks_in_use(), 1);
     }
     assert_eq!(script.asked(), [512, 512, 1024, 2048, 1096]);
-    assert_eq!(failing.held(), 0);
+    assert_eq!(failing.blocks_in_use(), 0);
 }
 
 #[test]

@@ -51,7 +51,7 @@ fn a_list_that_cannot_grow_is_unchanged() {
     let failing = Failing::new(Global);
     let mut list = Vec::new(&failing);
     assert_eq!(told(list.write_all(b"abcdefgh")), "Ok(())");
-    failing.fail(1, 1);
+    failing.fail_from_to(1, 1);
     let failed = told(list.write_all(b"ij"));
     assert_eq!(failed, "Err(OutOfMemory, None)");
     assert_eq!(text(&list), "abcdefgh");
@@ -133,11 +133,11 @@ fn a_failure_keeps_what_is_not_written() {
 #[test]
 fn room_that_is_not_there() {
     let failing = Failing::new(Global);
-    failing.fail(1, 1);
+    failing.fail_from_to(1, 1);
     let failed = BufWriter::new(&failing, &mut Taker::new(&[])).err();
     assert_eq!(
         failed.map(|error| error.kind()),
         Some(ErrorKind::OutOfMemory)
     );
-    assert_eq!(failing.held(), 0);
+    assert_eq!(failing.blocks_in_use(), 0);
 }

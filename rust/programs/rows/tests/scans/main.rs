@@ -86,7 +86,7 @@ fn answer(line: &str) -> Vec<u8> {
         handed: Bytes::new(Global),
     };
     let mut reported = Bytes::new(Global);
-    let ending = rl_scan::call(
+    let ending = rl_scan::run_with_arguments(
         Global,
         &words,
         console,

@@ -18,7 +18,7 @@ impl<A: Allocator> Attrs<A> {
     pub fn required_string(&self, alloc: A, setting: Setting) -> Result<String<A>, SettingError<A>> {
         match self.string(alloc, setting) {
             Ok(Some(text)) => Ok(text),
-            Ok(None) => Err(self.missing(setting)),
+            Ok(None) => Err(self.missing_error(setting)),
             Err(error) => Err(error),
         }
     }
@@ -38,7 +38,7 @@ impl<A: Allocator> Attrs<A> {
         N::Err: Display + Drop, {
         match self.number::<N>(alloc, setting) {
             Ok(Some(number)) => Ok(number),
-            Ok(None) => Err(self.missing(setting)),
+            Ok(None) => Err(self.missing_error(setting)),
             Err(error) => Err(error),
         }
     }
@@ -47,12 +47,12 @@ impl<A: Allocator> Attrs<A> {
     ///
     /// # Errors
     ///
-    /// Returns the errors of [`Attrs::truth`]. Returns `Missing` at the end of the settings if no attribute has the
+    /// Returns the errors of [`Attrs::bool`]. Returns `Missing` at the end of the settings if no attribute has the
     /// setting's name.
-    pub fn required_truth(&self, setting: Setting) -> Result<bool, SettingError<A>> {
-        match self.truth(setting) {
+    pub fn required_bool(&self, setting: Setting) -> Result<bool, SettingError<A>> {
+        match self.bool(setting) {
             Ok(Some(truth)) => Ok(truth),
-            Ok(None) => Err(self.missing(setting)),
+            Ok(None) => Err(self.missing_error(setting)),
             Err(error) => Err(error),
         }
     }
@@ -61,9 +61,9 @@ impl<A: Allocator> Attrs<A> {
     ///
     /// # Errors
     ///
-    /// Returns the errors of [`Attrs::truth`].
-    pub fn truth_or(&self, setting: Setting, default: bool) -> Result<bool, SettingError<A>> {
-        let found = self.truth(setting);
+    /// Returns the errors of [`Attrs::bool`].
+    pub fn bool_or(&self, setting: Setting, default: bool) -> Result<bool, SettingError<A>> {
+        let found = self.bool(setting);
         match found {
             Ok(found) => Ok(found.unwrap_or(default)),
             Err(error) => Err(error),

@@ -90,7 +90,7 @@ impl<A: Allocator> From<Error<A>> for SettingError<A> {
 /// [`Span::call_site`].
 impl<A: Allocator> From<AllocError> for SettingError<A> {
     fn from(_failed: AllocError) -> SettingError<A> {
-        SettingError::Text(Error::memory(Span::call_site()))
+        SettingError::Text(Error::out_of_memory(Span::call_site()))
     }
 }
 

@@ -139,13 +139,13 @@ impl<A: Allocator> Attrs<A> {
     ///
     /// Returns `Malformed` at a value that isn't a valid literal or is an integer above 128 bits. Returns `Kind` at any
     /// other literal that is neither `true` nor `false`.
-    pub fn truth(&self, setting: Setting) -> Result<Option<bool>, SettingError<A>> {
+    pub fn bool(&self, setting: Setting) -> Result<Option<bool>, SettingError<A>> {
         self.found_truth(setting)
     }
 
     /// Returns the error `Missing` for the required setting `setting`, at the end of the settings. A caller that
     /// requires a setting returns this error if the setting's value is `None`.
-    pub fn missing(&self, setting: Setting) -> SettingError<A> {
-        SettingError::Missing(setting, self.end())
+    pub fn missing_error(&self, setting: Setting) -> SettingError<A> {
+        SettingError::Missing(setting, self.end_span())
     }
 }

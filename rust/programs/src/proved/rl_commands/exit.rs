@@ -79,7 +79,7 @@ fn show_text<A: Allocator, W: Write>(out: &mut W, text: &str) -> Ending<ProgramE
 ///
 /// The second argument is a command for [`run`], or `--help` or `--version`, which write a text. Other arguments have the usage as
 /// their result.
-pub fn call<A: Allocator + Copy, R: Read, W: Write>(
+pub fn run_with_arguments<A: Allocator + Copy, R: Read, W: Write>(
     alloc: A,
     args: &[String<A>],
     input: &mut R,

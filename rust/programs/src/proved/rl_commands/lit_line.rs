@@ -2,7 +2,7 @@
 //! Writes the output line of a `Lit`.
 
 use crate::rattle_std::prelude::{String};
-use crate::rl_program::{push_found, push_line_of_kind, push_verbatim_line, truth_word};
+use crate::rl_program::{bool_word, push_found_line, push_line_of_kind, push_verbatim_line};
 use crate::rl_quoted::{Quoted, QuotedKind};
 use crate::rl_tokens::Kind;
 use crate::rust_literals::Lit;
@@ -14,7 +14,7 @@ fn push_quoted_literal<K: QuotedKind, A: Allocator + Copy>(
     out: &mut String<A>,
     literal: &Quoted<K, A>,
 ) -> Result<(), AllocError> {
-    push_found(alloc, out, literal.text(), Some(literal.found()))
+    push_found_line(alloc, out, literal.text(), Some(literal.found()))
 }
 
 /// Appends the output line of a literal.
@@ -45,7 +45,7 @@ pub fn push_literal_line<A: Allocator + Copy>(
             number.base10_digits(),
             number.suffix(),
         ),
-        Lit::Bool(truth) => push_line_of_kind(out, Kind::Bool, truth_word(truth.value()), ""),
+        Lit::Bool(truth) => push_line_of_kind(out, Kind::Bool, bool_word(truth.value()), ""),
         Lit::Verbatim(token) => push_verbatim_line(out, token.text()),
     }
 }
@@ -55,7 +55,7 @@ pub fn push_literal_line<A: Allocator + Copy>(
 /// # Errors
 ///
 /// Returns an error if an allocation fails. The error is the standard library's and has no position.
-pub fn line_of<A: Allocator + Copy>(alloc: A, literal: &Lit<A>) -> Result<String<A>, AllocError> {
+pub fn output_line<A: Allocator + Copy>(alloc: A, literal: &Lit<A>) -> Result<String<A>, AllocError> {
     let mut line = String::new(alloc);
     push_literal_line(alloc, &mut line, literal)?;
     Ok(line)

@@ -12,6 +12,6 @@ pub mod run;
 
 pub use crate::rl_commands::attribute_lines::entry_lines;
 pub use crate::rl_commands::command::Command;
-pub use crate::rl_commands::exit::call;
-pub use crate::rl_commands::lit_line::{line_of, push_literal_line};
+pub use crate::rl_commands::exit::run_with_arguments;
+pub use crate::rl_commands::lit_line::{output_line, push_literal_line};
 pub use crate::rl_program::{Ending, ProgramError};

@@ -5,7 +5,7 @@ use crate::rattle_std::prelude::{String, Vec};
 use crate::rl_commands::attribute_lines::attribute_lines;
 use crate::rl_commands::command::Command;
 use crate::rl_commands::list::literal_lines;
-use crate::rl_commands::lit_line::line_of;
+use crate::rl_commands::lit_line::output_line;
 use crate::rl_program::{ProgramError, read_whole, text_of, write_whole};
 use crate::rl_tokens::{Literal, Span};
 use crate::rust_literals::Lit;
@@ -37,7 +37,7 @@ fn literal_line<A: Allocator + Copy>(
 ) -> Result<String<A>, ProgramError<A>> {
     let token = token_of(alloc, bytes)?;
     let literal = literal_of(alloc, token)?;
-    let line = line_of(alloc, &literal)?;
+    let line = output_line(alloc, &literal)?;
     Ok(line)
 }
 

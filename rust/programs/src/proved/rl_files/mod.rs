@@ -16,7 +16,7 @@ pub use crate::rl_files::host::{Host, LONGEST};
 pub use crate::rl_files::memory::{
     MemoryDirectory, MemoryFile, MemoryReplacement, MemoryReplacements, MemoryTree, Unwritable,
 };
-pub use crate::rl_files::path_texts::{escaped_path, path_text};
+pub use crate::rl_files::path_texts::{escaped_non_utf8_path, path_text};
 pub use crate::rl_files::replace::Replace;
 pub use crate::rl_files::tree::{PathError, Tree};
 pub use crate::rl_files::visible::{make_visible, push_visible};

@@ -38,7 +38,7 @@ pub fn path_text<A: Allocator>(alloc: A, bytes: &[u8]) -> Result<String<A>, Allo
 }
 
 /// Returns the escaped bytes if the text represents a path that isn't UTF-8: the text without its NUL. Else the result is `None`.
-pub fn escaped_path(text: &str) -> Option<&str> {
+pub fn escaped_non_utf8_path(text: &str) -> Option<&str> {
     let end = text.len();
     if end == 0 || text.as_bytes()[end - 1] != 0 {
         return None;

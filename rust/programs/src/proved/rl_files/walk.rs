@@ -3,7 +3,7 @@
 
 use crate::rattle_std::prelude::{String, Vec};
 use crate::rl_files::glob::is_excluded;
-use crate::rl_files::path_texts::escaped_path;
+use crate::rl_files::path_texts::escaped_non_utf8_path;
 use crate::rl_files::tree::{PathError, Tree};
 use crate::rattle_std::alloc::{AllocError, Allocator, Global};
 use crate::rattle_std::fmt;
@@ -173,7 +173,7 @@ fn pending_of<A: Allocator>(
 
 /// Returns the entry to visit for a path that the user passed.
 fn entry_given<A: Allocator>(alloc: A, path: String<A>) -> Result<WalkEntry<A>, AllocError> {
-    if let Some(shown) = escaped_path(path.as_str()) {
+    if let Some(shown) = escaped_non_utf8_path(path.as_str()) {
         return Ok(WalkEntry::BadPath(String::from_str(alloc, shown)?));
     }
     Ok(WalkEntry::Directory(None, path))

@@ -3,7 +3,7 @@
 
 use crate::rattle_std::prelude::{String, Vec, vec};
 use crate::rl_lenient::contents::decode_into;
-use crate::rl_lenient::found::found_in;
+use crate::rl_lenient::found::parse_known_literal;
 use crate::rl_tokens::{Error, Kind};
 use crate::rattle_std::alloc::{AllocError, Allocator};
 
@@ -38,7 +38,7 @@ fn body_bytes<A: Allocator>(
 ///
 /// Returns `Memory` at `Span::call_site` if an allocation fails.
 pub fn str_of<A: Allocator>(alloc: A, text: &str) -> Result<String<A>, Error<A>> {
-    let found = found_in(text);
+    let found = parse_known_literal(text);
     str_of_body(alloc, found.body_in(text), found.body.plain)
 }
 
@@ -49,12 +49,12 @@ pub fn str_of<A: Allocator>(alloc: A, text: &str) -> Result<String<A>, Error<A>>
 ///
 /// Returns `Memory` at `Span::call_site` if an allocation fails.
 pub fn bytes_of<A: Allocator>(alloc: A, text: &str) -> Result<Vec<u8, A>, Error<A>> {
-    let found = found_in(text);
+    let found = parse_known_literal(text);
     bytes_of_body(alloc, found.kind, found.body_in(text), found.body.plain)
 }
 
 /// Returns the decoded value of a string literal from `body`, the text between its quotes. `plain` tells whether the
-/// decoded value equals the body. [`find`](crate::rl_fronts::find) returns both.
+/// decoded value equals the body. [`parse_literal`](crate::rl_fronts::parse_literal) returns both.
 ///
 /// # Errors
 ///

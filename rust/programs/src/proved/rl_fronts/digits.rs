@@ -3,7 +3,7 @@
 
 use crate::rattle_std::prelude::{String, vec};
 use crate::rl_lenient::digit_runs::is_negative;
-use crate::rl_lenient::found::found_in;
+use crate::rl_lenient::found::parse_known_literal;
 use crate::rl_lenient::{Found, find_float, float_digits_into};
 use crate::rl_tokens::{Error, Kind};
 use crate::rattle_std::alloc::{AllocError, Allocator};
@@ -29,7 +29,7 @@ pub fn digits_of<A: Allocator>(alloc: A, kind: Kind, text: &str) -> Result<Strin
 /// Returns the parse result of `text`, which must be a number of the kind `kind`.
 fn found_number(kind: Kind, text: &str) -> Found {
     match kind {
-        Kind::Int => found_in(text),
+        Kind::Int => parse_known_literal(text),
         _ => match find_float(text) {
             Some(found) => found,
             None => unreachable!(),

@@ -1,7 +1,7 @@
 // Rendered from crates/rl_fronts/src/front.rt by tools/render, which erases contracts: change that file, and render again.
 //! The literal at the start of a parse buffer: a literal token, `true` or `false`, or a minus and a number.
 
-use crate::rl_lenient::{Found, bool_of, find, find_negative};
+use crate::rl_lenient::{Found, bool_of, find_negative, parse_literal};
 use crate::rl_tokens::{Error, Ident, Kind, Literal, ParseBuffer, Punct, Span};
 use crate::rattle_std::alloc::Allocator;
 
@@ -78,10 +78,10 @@ impl<'a, A: Allocator> Front<'a, A> {
     /// Returns the literal's parse result, or `None` if the text of the literal token isn't a valid literal or is an
     /// integer above 128 bits. The byte offsets in the result count from the start of the literal's text, which
     /// includes a minus.
-    pub fn find(&self) -> Option<Found> {
+    pub fn parse_result(&self) -> Option<Found> {
         match self {
-            Front::Literal(token) => find(token.text()),
-            Front::Word(word) => find(word.text()),
+            Front::Literal(token) => parse_literal(token.text()),
+            Front::Word(word) => parse_literal(word.text()),
             Front::Negative(negative) => Some(negative.found),
         }
     }
@@ -89,13 +89,13 @@ impl<'a, A: Allocator> Front<'a, A> {
     /// Returns the literal's kind, or `None` if the text of the literal token isn't a valid literal or is an integer
     /// above 128 bits.
     pub fn kind(&self) -> Option<Kind> {
-        let found = self.find()?;
+        let found = self.parse_result()?;
         Some(found.kind)
     }
 
     /// Returns the literal's parse result if the literal is valid and of the kind `kind`, and otherwise `None`.
     fn find_of_kind(&self, kind: Kind) -> Option<Found> {
-        let found = self.find()?;
+        let found = self.parse_result()?;
         if found.kind == kind {
             Some(found)
         } else {
@@ -109,7 +109,7 @@ impl<'a, A: Allocator> Front<'a, A> {
     }
 
     /// Returns the value of a literal `true` or `false`, or `None` for any other literal.
-    pub fn truth(&self) -> Option<bool> {
+    pub fn bool_value(&self) -> Option<bool> {
         match self {
             Front::Literal(token) => bool_of(token.text()),
             Front::Word(word) => bool_of(word.text()),
@@ -137,7 +137,7 @@ impl<'a, A: Allocator> Front<'a, A> {
         match self {
             Front::Literal(token) => Literal::clone(token, alloc),
             Front::Word(word) => Literal::from_text(alloc, word.text(), word.span()),
-            Front::Negative(negative) => negative.number.after_minus(alloc, self.span()),
+            Front::Negative(negative) => negative.number.with_minus(alloc, self.span()),
         }
     }
 }

@@ -17,7 +17,7 @@ fn push_spans<A: Allocator>(
         spans.push(Span {
             file: base.file,
             lo: base.lo + segment.text_offset(i),
-            hi: base.lo + segment.end_of(i),
+            hi: base.lo + segment.text_end_offset(i),
         })?;
     }
     Ok(())
@@ -28,7 +28,7 @@ fn push_spans<A: Allocator>(
 /// more span at the end, which is empty and at the closing quote.
 ///
 /// `base` is the literal's span: the literal's text begins at its first byte and ends at its last one. The function
-/// walks over the segments once. [`text_offset`](Segments::text_offset) and [`end_of`](Segments::end_of) return the
+/// walks over the segments once. [`text_offset`](Segments::text_offset) and [`text_end_offset`](Segments::text_end_offset) return the
 /// same offsets for one byte at a time.
 ///
 /// # Errors
@@ -43,7 +43,7 @@ pub fn value_byte_spans<A: Allocator>(
     while let Some(segment) = segments.next() {
         push_spans(&mut spans, base, segment)?;
     }
-    let end = base.lo + segments.at();
+    let end = base.lo + segments.next_offset();
     spans.push(Span {
         file: base.file,
         lo: end,

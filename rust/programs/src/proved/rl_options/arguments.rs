@@ -14,7 +14,7 @@ use crate::rl_options::suggestion::option_part;
 use crate::rl_options::table::{effect_of, effect_of_letter, joined_of, meant_by};
 use crate::rl_options::visible::visible_text;
 use crate::rl_files::Selection;
-use crate::rl_output::{Matching, Shown, Spelling, names};
+use crate::rl_output::{Matching, Shown, Spelling, list_contains};
 use crate::rl_restyle::default_style;
 use crate::rl_tokens::text::split_char;
 use crate::rattle_std::alloc::{AllocError, Allocator, Global};
@@ -24,7 +24,7 @@ const KINDS: &str = "Str,ByteStr,CStr,Byte,Char,Int,Float,Bool,Verbatim";
 
 /// Whether `word` isn't the name of a kind of literals. Case doesn't count.
 fn is_no_kind(word: &str) -> bool {
-    !names(KINDS, word)
+    !list_contains(KINDS, word)
 }
 
 /// Returns the first unknown kind of literals in a list, or `None`. Commas separate the kinds.
@@ -96,7 +96,7 @@ fn unknown_letter<A: Allocator + Copy>(
 }
 
 /// Returns a file extension without the dot at its start, if there is one.
-fn without_dot(text: &str) -> &str {
+fn strip_dot_slash(text: &str) -> &str {
     match after_front(".", text) {
         Some(extension) => extension,
         None => text,
@@ -238,7 +238,7 @@ impl<'a, A: Allocator + Copy> ParsedArguments<'a, A> {
         if has_more_than_extension(text) {
             return Err(ArgumentError::UnknownExtension(visible_text(alloc, text)?));
         }
-        match self.extensions.push(without_dot(text)) {
+        match self.extensions.push(strip_dot_slash(text)) {
             Ok(()) => Ok(()),
             Err(_) => Err(ArgumentError::Memory),
         }

@@ -7,7 +7,7 @@ use crate::rl_options::arguments::ParsedArguments;
 use crate::rl_options::command::{Action, Command, Output};
 use crate::rl_options::modes::{mode_of, mode_words, modes_hint};
 use crate::rl_options::table::without_effect;
-use crate::rl_output::{Shown, has_extents, names};
+use crate::rl_output::{Shown, has_extents, list_contains};
 use crate::rattle_std::alloc::Allocator;
 
 /// The kinds of literals whose value may contain a text.
@@ -15,7 +15,7 @@ const TEXT_KINDS: &str = "Str,ByteStr,CStr,Byte,Char";
 
 /// Whether a list names a kind of literals whose value may contain a text. Commas separate the kinds.
 fn has_text_kind(list: &str) -> bool {
-    list.split(',').any(|word| names(TEXT_KINDS, word))
+    list.split(',').any(|word| list_contains(TEXT_KINDS, word))
 }
 
 /// Whether the literals that are printed may have a value that contains a text.

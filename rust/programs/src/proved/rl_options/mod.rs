@@ -20,6 +20,6 @@ pub use crate::rl_options::arguments::{ParsedArguments, parse_arguments};
 pub use crate::rl_options::command::{Action, Command, Console, Macros, Output, PlaceForm, Restyling};
 pub use crate::rl_options::conflicts::{asks_context, lists_files};
 pub use crate::rl_options::help::{HELP, VERSION};
-pub use crate::rl_options::path_list::{Unread, push_all_listed};
+pub use crate::rl_options::path_list::{Unread, push_listed_paths};
 pub use crate::rl_options::rules::{LineError, RulesError, read_rules_file};
 pub use crate::rl_options::visible::visible_text;

@@ -107,7 +107,7 @@ fn push_listed<A: Allocator + Copy, T: Tree>(
 /// # Errors
 ///
 /// Returns the first file that can't be read, and the reason. The paths in earlier files have been appended then.
-pub fn push_all_listed<'f, A: Allocator + Copy, T: Tree>(
+pub fn push_listed_paths<'f, A: Allocator + Copy, T: Tree>(
     alloc: A,
     tree: &T,
     files: &[&'f str],

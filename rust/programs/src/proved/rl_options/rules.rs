@@ -7,7 +7,7 @@ use crate::rl_options::visible::visible_text;
 use crate::rl_files::{PathError, Tree};
 use crate::rl_lexer::without_byte_order_mark;
 use crate::rl_output::count_line_feeds;
-use crate::rl_restyle::{StyleError, StyleErrorKind, style_of};
+use crate::rl_restyle::{StyleError, StyleErrorKind, parse_style};
 use crate::rl_style::Style;
 use crate::rattle_std::alloc::{AllocError, Allocator, Global};
 use crate::rattle_std::fmt;
@@ -93,7 +93,7 @@ fn line_error<A: Allocator>(
 
 /// Parses the text of a file with the rules of a style.
 fn rules_of<A: Allocator>(alloc: A, text: &str) -> Result<Style, RulesError<A>> {
-    match style_of(text) {
+    match parse_style(text) {
         Ok(rules) => Ok(rules),
         Err(error) => match line_error(alloc, text, error) {
             Ok(error) => Err(RulesError::Style(error)),

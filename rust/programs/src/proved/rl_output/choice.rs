@@ -35,7 +35,7 @@ pub struct Matching {
 }
 
 /// Returns `true` if `label` is one of the words in `list`. Commas separate the words, and case doesn't count.
-pub fn names(list: &str, label: &str) -> bool {
+pub fn list_contains(list: &str, label: &str) -> bool {
     list.split(',').any(|word| word.eq_ignore_ascii_case(label))
 }
 
@@ -44,7 +44,7 @@ impl Shown<'_> {
     pub fn picks(self, label: &str, is_bad: bool) -> bool {
         match self {
             Shown::All => true,
-            Shown::Only(list) => names(list, label),
+            Shown::Only(list) => list_contains(list, label),
             Shown::Bad => is_bad,
             Shown::Hidden => false,
         }

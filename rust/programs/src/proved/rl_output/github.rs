@@ -3,7 +3,7 @@
 
 use crate::rattle_std::prelude::{String};
 use crate::rl_output::member::push_ascii;
-use crate::rl_output::path::without_dot;
+use crate::rl_output::path::strip_dot_slash;
 use crate::rl_files::needs_escape;
 use crate::rattle_std::alloc::{AllocError, Allocator};
 
@@ -49,7 +49,7 @@ fn push_property_char<A: Allocator>(out: &mut String<A>, c: char) -> Result<(), 
 /// # Errors
 ///
 /// Returns an error if an allocation fails. A beginning of the text may have been appended then.
-pub fn push_data<A: Allocator>(out: &mut String<A>, text: &str) -> Result<(), AllocError> {
+pub fn push_annotation_text<A: Allocator>(out: &mut String<A>, text: &str) -> Result<(), AllocError> {
     for c in text.chars() {
         push_data_char(out, c)?;
     }
@@ -95,11 +95,11 @@ fn push_message<A: Allocator>(
     words: &str,
     piece: &str,
 ) -> Result<(), AllocError> {
-    push_data(out, words)?;
+    push_annotation_text(out, words)?;
     if piece.is_empty() {
         return Ok(());
     }
-    push_data(out, ": ")?;
+    push_annotation_text(out, ": ")?;
     push_shown_data(out, piece)
 }
 
@@ -112,7 +112,7 @@ pub(crate) fn push_annotation_path<A: Allocator>(
         None => Ok(()),
         Some(path) => {
             push_ascii(out, "file=")?;
-            push_property(out, without_dot(path))?;
+            push_property(out, strip_dot_slash(path))?;
             push_ascii(out, ",")
         }
     }

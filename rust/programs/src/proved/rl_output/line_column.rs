@@ -156,12 +156,12 @@ impl<'t> Places<'t> {
     }
 
     /// Returns the byte offset where `rest`, an end of the text, begins.
-    pub fn byte_of(&self, rest: &'t str) -> usize {
+    pub fn offset_of(&self, rest: &'t str) -> usize {
         self.text.len() - rest.len()
     }
 
     /// Returns the line and column where `rest`, an end of the text, begins.
-    pub fn at(&mut self, rest: &'t str) -> Position {
+    pub fn position_of(&mut self, rest: &'t str) -> Position {
         let (last, spot) = nearer(self.text, self.rest, self.spot, rest);
         self.spot = count_on(self.text, last, spot, rest);
         self.rest = rest;
@@ -172,14 +172,14 @@ impl<'t> Places<'t> {
     ///
     /// The end is the position after the characters that the range covers, in part or as a whole.
     pub fn extent(&mut self, rest: &'t str, lo: usize, hi: usize) -> Extent {
-        let start = self.at(rest);
+        let start = self.position_of(rest);
         extent_from(self.text, rest, start, lo, hi)
     }
 
     /// Returns the last `count` lines before the line where `rest` begins, or all if there are fewer, and that line before `rest`.
     /// `rest` is an end of the text.
     pub fn lines_before(&mut self, rest: &'t str, count: usize) -> (&'t str, &'t str) {
-        let spot = self.at(rest);
+        let spot = self.position_of(rest);
         let (lines, inside) = before_in_line(self.text, rest, spot);
         (last_lines(lines, count), inside)
     }

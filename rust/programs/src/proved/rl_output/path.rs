@@ -14,7 +14,7 @@ fn relative_after(text: &str) -> Option<&str> {
 
 /// Returns a path without `./` at its start, as `git apply` and the annotations of GitHub need it. A path such as `.//a`
 /// stays, since the rest of it would be absolute.
-pub fn without_dot(path: &str) -> &str {
+pub fn strip_dot_slash(path: &str) -> &str {
     match split_char(path) {
         Some(('.', rest)) => relative_after(rest).unwrap_or(path),
         _ => path,

@@ -5,7 +5,7 @@ use crate::rl_output::rows::row_value;
 use crate::rl_output::selector_rows::BASES;
 
 /// Returns `true` if the character is one of the variation selectors U+FE00 to U+FE0F and U+E0100 to U+E01EF.
-pub fn is_selector(c: char) -> bool {
+pub fn is_variation_selector(c: char) -> bool {
     matches!(c, '\u{fe00}'..='\u{fe0f}' | '\u{e0100}'..='\u{e01ef}')
 }
 
@@ -19,7 +19,7 @@ fn base_number(c: char) -> usize {
 ///
 /// An emoji with emoji variation sequences takes U+FE0E and U+FE0F. A mathematical symbol takes U+FE00 to U+FE02. An ideograph takes
 /// U+FE00 to U+FE02, and U+E0100 to U+E01EF.
-pub fn takes_selector(base: char, selector: char) -> bool {
+pub fn takes_variation_selector(base: char, selector: char) -> bool {
     let number = base_number(base);
     match selector {
         '\u{fe00}'..='\u{fe02}' => number >= 2,

@@ -101,7 +101,7 @@ fn push_number<A: Allocator>(
 }
 
 /// Returns `true` or `false` as text.
-pub fn truth_word(value: bool) -> &'static str {
+pub fn bool_word(value: bool) -> &'static str {
     if value { "true" } else { "false" }
 }
 
@@ -132,18 +132,18 @@ fn push_read<A: Allocator + Copy>(
             push_written(out, found.kind, text, written, suffix)
         }
         Kind::Int | Kind::Float => push_number(alloc, out, text, found, suffix),
-        Kind::Bool => push_shown(out, found.kind, text, truth_word(found.truth), suffix),
+        Kind::Bool => push_shown(out, found.kind, text, bool_word(found.truth), suffix),
     }
 }
 
 /// Appends the output line of `text`, which is a literal or an invalid literal.
 ///
-/// `found` is the parse result that `find` of `rl_grammar` returns for `text`, or `None` for an invalid literal.
+/// `found` is the parse result that `parse_literal` of `rl_grammar` returns for `text`, or `None` for an invalid literal.
 ///
 /// # Errors
 ///
 /// Returns an error if an allocation fails. The error is the standard library's. A part of the line may have been appended then.
-pub fn push_found<A: Allocator + Copy>(
+pub fn push_found_line<A: Allocator + Copy>(
     alloc: A,
     out: &mut String<A>,
     text: &str,

@@ -10,9 +10,9 @@ mod program_error;
 mod rejection;
 mod streams;
 
-pub use crate::rl_program::digits::decoded;
+pub use crate::rl_program::digits::decode_hex;
 pub use crate::rl_program::exit::{Ending, RunError, arguments, finish};
-pub use crate::rl_program::found_line::{push_found, truth_word};
+pub use crate::rl_program::found_line::{bool_word, push_found_line};
 pub use crate::rl_program::line::{
     label_of, need_no_escapes, push_line_of_kind, push_unescaped_line, push_verbatim_line,
     unescaped_value,

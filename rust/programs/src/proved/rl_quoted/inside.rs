@@ -52,10 +52,10 @@ impl<A: Allocator> LitStr<A> {
         }
         match value_byte_spans(alloc, self.segments(), span) {
             Ok(table) => {
-                stream.relocate(table.as_slice());
+                stream.map_spans(table.as_slice());
                 Ok(())
             }
-            Err(_) => Err(Error::memory(span)),
+            Err(_) => Err(Error::out_of_memory(span)),
         }
     }
 
@@ -108,7 +108,7 @@ impl<A: Allocator> LitStr<A> {
                 span,
                 kind: ErrorKind::Suffix(suffix),
             }),
-            Err(_) => Err(Error::memory(span)),
+            Err(_) => Err(Error::out_of_memory(span)),
         }
     }
 

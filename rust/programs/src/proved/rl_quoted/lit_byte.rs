@@ -26,7 +26,7 @@ impl<A: Allocator> LitByte<A> {
     pub fn new(alloc: A, value: u8, span: Span) -> Result<LitByte<A>, Error<A>> {
         match Literal::byte_character(alloc, value) {
             Ok(token) => Ok(Quoted::written(token, &[value], span)),
-            Err(_) => Err(Error::memory(span)),
+            Err(_) => Err(Error::out_of_memory(span)),
         }
     }
 

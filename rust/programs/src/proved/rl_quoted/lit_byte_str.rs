@@ -28,7 +28,7 @@ impl<A: Allocator> LitByteStr<A> {
     pub fn new(alloc: A, value: &[u8], span: Span) -> Result<LitByteStr<A>, Error<A>> {
         match Literal::byte_string(alloc, value) {
             Ok(token) => Ok(Quoted::written(token, value, span)),
-            Err(_) => Err(Error::memory(span)),
+            Err(_) => Err(Error::out_of_memory(span)),
         }
     }
 
@@ -41,7 +41,7 @@ impl<A: Allocator> LitByteStr<A> {
         let (body, plain) = self.body();
         match bytes_of_body(alloc, Kind::ByteStr, body, plain) {
             Ok(value) => Ok(value),
-            Err(_) => Err(Error::memory(self.token.span())),
+            Err(_) => Err(Error::out_of_memory(self.token.span())),
         }
     }
 

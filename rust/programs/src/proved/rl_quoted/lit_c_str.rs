@@ -30,7 +30,7 @@ impl<A: Allocator> LitCStr<A> {
     ) -> Result<LitCStr<A>, Error<A>> {
         match Literal::c_string(alloc, value) {
             Ok(token) => Ok(Quoted::written(token, value.as_bytes(), span)),
-            Err(_) => Err(Error::memory(span)),
+            Err(_) => Err(Error::out_of_memory(span)),
         }
     }
 
@@ -44,7 +44,7 @@ impl<A: Allocator> LitCStr<A> {
         let (body, plain) = self.body();
         match bytes_of_body(alloc, Kind::CStr, body, plain) {
             Ok(bytes) => Ok(CString::new(bytes).unwrap()),
-            Err(_) => Err(Error::memory(self.token.span())),
+            Err(_) => Err(Error::out_of_memory(self.token.span())),
         }
     }
 

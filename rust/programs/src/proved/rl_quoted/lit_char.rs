@@ -30,7 +30,7 @@ impl<A: Allocator> LitChar<A> {
                 value.encode_utf8(&mut [0; 4]).as_bytes(),
                 span,
             )),
-            Err(_) => Err(Error::memory(span)),
+            Err(_) => Err(Error::out_of_memory(span)),
         }
     }
 

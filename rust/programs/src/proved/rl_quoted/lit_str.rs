@@ -28,7 +28,7 @@ impl<A: Allocator> LitStr<A> {
     pub fn new(alloc: A, value: &str, span: Span) -> Result<LitStr<A>, Error<A>> {
         match Literal::string(alloc, value) {
             Ok(token) => Ok(Quoted::written(token, value.as_bytes(), span)),
-            Err(_) => Err(Error::memory(span)),
+            Err(_) => Err(Error::out_of_memory(span)),
         }
     }
 
@@ -42,7 +42,7 @@ impl<A: Allocator> LitStr<A> {
         let (body, plain) = self.body();
         match str_of_body(alloc, body, plain) {
             Ok(value) => Ok(value),
-            Err(_) => Err(Error::memory(self.token.span())),
+            Err(_) => Err(Error::out_of_memory(self.token.span())),
         }
     }
 

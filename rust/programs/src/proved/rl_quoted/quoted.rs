@@ -4,7 +4,7 @@
 
 use crate::rl_quoted::written::written_body;
 use crate::rl_fronts::{begins_with_kind, take_literal_of_kind};
-use crate::rl_lenient::{Body, Found, Segments, byte_of_body, char_of_body, find, text_range};
+use crate::rl_lenient::{Body, Found, Segments, byte_of_body, char_of_body, parse_literal, text_range};
 use crate::rl_syntax::Kind;
 use crate::rl_tokens::{
     Error, Literal, Parse, ParseBuffer, Span, ToTokens, Token, TokenStream, append_literal,
@@ -38,11 +38,11 @@ impl<K: QuotedKind, A: Allocator> Quoted<K, A> {
     /// Creates the quoted literal of the literal token `token`. The token's text must be a literal of the kind `K`,
     /// which `shape` of `rl_grammar` checks. `Lit::new` of `rust_literals` accepts any token.
     pub fn of_token(token: Literal<A>) -> Quoted<K, A> {
-        let found = find(token.text()).unwrap();
+        let found = parse_literal(token.text()).unwrap();
         Quoted::of_found(token, found)
     }
 
-    /// Creates the quoted literal of the literal token `token` from the parse result of the token's text. [`find`]
+    /// Creates the quoted literal of the literal token `token` from the parse result of the token's text. [`parse_literal`]
     /// returned the parse result `found`. The text must be a literal of the kind `K`.
     #[inline(always)]
     pub fn of_found(token: Literal<A>, found: Found) -> Quoted<K, A> {
@@ -83,7 +83,7 @@ impl<K: QuotedKind, A: Allocator> Quoted<K, A> {
         self.between()
     }
 
-    /// Returns the parse result of the literal's text, as [`find`] does. It is built from the stored byte offsets, and
+    /// Returns the parse result of the literal's text, as [`parse_literal`] does. It is built from the stored byte offsets, and
     /// the text isn't parsed again.
     pub fn found(&self) -> Found {
         let between = self.between();
@@ -119,7 +119,7 @@ impl<K: QuotedKind, A: Allocator> Quoted<K, A> {
     /// decoded value comes: after the byte itself, or after its escape. An escaped line end that follows isn't
     /// included.
     pub fn end_of(&self, at: usize) -> usize {
-        self.segments().end_of(at)
+        self.segments().text_end_offset(at)
     }
 
     /// Returns the byte range of the literal's text from which the bytes `lo` up to `hi` of the decoded value come.
@@ -208,7 +208,7 @@ impl<K: QuotedKind, A: Allocator> Quoted<K, A> {
 /// [`take_literal_of_kind`].
 impl<K: QuotedKind, A: Allocator> Parse<A> for Quoted<K, A> {
     fn parse(alloc: A, input: &mut ParseBuffer<'_, A>) -> Result<Quoted<K, A>, Error<A>> {
-        match take_literal_of_kind(alloc, input, K::KIND, K::KIND.word()) {
+        match take_literal_of_kind(alloc, input, K::KIND, K::KIND.description()) {
             Ok((token, found)) => Ok(Quoted::of_found(token, found)),
             Err(error) => Err(error),
         }
@@ -222,7 +222,7 @@ impl<K: QuotedKind, A: Allocator> Token for Quoted<K, A> {
     }
 
     fn display() -> &'static str {
-        K::KIND.shown()
+        K::KIND.display_name()
     }
 }
 

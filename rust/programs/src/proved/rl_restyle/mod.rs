@@ -15,5 +15,5 @@ mod whole;
 pub use crate::rl_restyle::edit::{Edit, Macros, RestyleError, Restyled};
 pub use crate::rl_restyle::slices::between;
 pub use crate::rl_restyle::style_error::{Expected, StyleError, StyleErrorKind};
-pub use crate::rl_restyle::styles::{default_style, style_of};
+pub use crate::rl_restyle::styles::{default_style, parse_style};
 pub use crate::rl_restyle::whole::rewrite_source;

@@ -7,7 +7,7 @@ use crate::rl_restyle::value::value_of;
 use crate::rl_restyle::values::Values;
 use crate::rl_lenient::NextLiteral;
 use crate::rl_lexer::Tokens;
-use crate::rl_settings::{DottedName, EntryRejection, EntryStep, NextEntry, entry_step};
+use crate::rl_settings::{DottedName, EntryRejection, EntryStep, NextEntry, next_config_entry};
 use crate::rl_style::{Case, Style};
 
 /// Creates an error of the kind `kind` whose range is the entry's name.
@@ -85,7 +85,7 @@ fn rejection_error<'t>(values: &Values, rejection: EntryRejection<'t>) -> StyleE
 /// Parses the configuration of a style.
 ///
 /// A configuration is a list of entries `name = literal`, each on its own line or with a comma after it, as
-/// [`crate::rl_settings::entry_step`] parses them. Each name is that of a rule, and occurs at most once. A rule without an entry
+/// [`crate::rl_settings::next_config_entry`] parses them. Each name is that of a rule, and occurs at most once. A rule without an entry
 /// changes nothing.
 ///
 /// These are the names and values. A string's body must be exactly the given text, without escapes.
@@ -103,11 +103,11 @@ fn rejection_error<'t>(values: &Values, rejection: EntryRejection<'t>) -> StyleE
 ///
 /// Returns the first error, from left to right: text that isn't an entry, a name that isn't a rule's, a repeated name, or a
 /// value that the rule can't have.
-pub fn style_of(text: &str) -> Result<Style, StyleError<'_>> {
+pub fn parse_style(text: &str) -> Result<Style, StyleError<'_>> {
     let mut tokens = Tokens::new(text);
     let mut values = Values::new();
     loop {
-        match entry_step(&mut tokens, text) {
+        match next_config_entry(&mut tokens, text) {
             EntryStep::End => return Ok(values.style()),
             EntryStep::Entry(entry) => match set_entry(&mut values, &entry) {
                 Ok(()) => {}

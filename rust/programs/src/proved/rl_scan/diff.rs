@@ -3,8 +3,8 @@
 
 use crate::rattle_std::prelude::{String};
 use crate::rl_files::push_visible;
-use crate::rl_output::{push_ascii, without_dot};
-use crate::rl_syntax::lines::after_line_feed;
+use crate::rl_output::{push_ascii, strip_dot_slash};
+use crate::rl_syntax::lines::after_first_line_feed;
 use crate::rl_syntax::text::{before, split_char};
 use crate::rattle_std::alloc::{AllocError, Allocator};
 
@@ -17,7 +17,7 @@ fn split_line(text: &str) -> Option<(&str, &str)> {
     if text.is_empty() {
         return None;
     }
-    match after_line_feed(text) {
+    match after_first_line_feed(text) {
         Some(rest) => Some((before(text, rest), rest)),
         None => Some((text, "")),
     }
@@ -57,7 +57,7 @@ fn count_lines(text: &str) -> usize {
 
 /// Whether a text has an LF.
 fn has_end(text: &str) -> bool {
-    after_line_feed(text).is_some()
+    after_first_line_feed(text).is_some()
 }
 
 /// Whether two texts are equal.
@@ -187,7 +187,7 @@ fn push_path<A: Allocator>(out: &mut String<A>, path: &str) -> Result<(), AllocE
 
 /// Appends the head of a diff: the path as that of the old text, and as that of the new text.
 fn push_head<A: Allocator>(out: &mut String<A>, path: &str) -> Result<(), AllocError> {
-    let path = without_dot(path);
+    let path = strip_dot_slash(path);
     push_ascii(out, "--- ")?;
     push_path(out, path)?;
     push_ascii(out, "+++ ")?;

@@ -3,10 +3,10 @@
 
 use crate::rattle_std::prelude::{String, Vec};
 use crate::rl_scan::runs::{RunStop, Tally, run};
-use crate::rl_files::{PathError, Replace, Selection, Tree, Walk, WalkError, escaped_path};
+use crate::rl_files::{PathError, Replace, Selection, Tree, Walk, WalkError, escaped_non_utf8_path};
 use crate::rl_options::{
     Action, ArgumentError, Command, Console, HELP, LineError, ParsedArguments, Restyling,
-    RulesError, VERSION, lists_files, parse_arguments, push_all_listed, read_rules_file,
+    RulesError, VERSION, lists_files, parse_arguments, push_listed_paths, read_rules_file,
     visible_text,
 };
 use crate::rl_program::{Ending, RunError, WriteError, write_bytes};
@@ -114,7 +114,7 @@ fn status_of(command: Command<'_>, tally: Tally) -> u8 {
     }
     match command.restyle {
         Some(restyling) => tally.restyle_status(restyling),
-        None if command.searches => tally.find_status(),
+        None if command.searches => tally.search_status(),
         None => tally.status(command.shown),
     }
 }
@@ -201,7 +201,7 @@ fn scan_listed<A: Allocator + Copy, T: Tree, W: Write, E: Write, F: Replace>(
     err: &mut E,
     files: &mut F,
 ) -> Ending<CallError<A>> {
-    match push_all_listed(alloc, tree, lists, paths) {
+    match push_listed_paths(alloc, tree, lists, paths) {
         Ok(()) => scan_paths(alloc, command, tree, paths, out, err, files),
         Err(unread) => list_error(alloc, unread.file, unread.why),
     }
@@ -378,7 +378,7 @@ fn answer<A: Allocator + Copy, T: Tree, W: Write, E: Write, F: Replace>(
 }
 
 /// Returns the result of a call whose arguments can't be read, since an allocation failed.
-pub fn out_of_memory<A: Allocator>() -> Ending<CallError<A>> {
+pub fn out_of_memory_ending<A: Allocator>() -> Ending<CallError<A>> {
     let error = CallError::Walk(WalkError::OutOfMemory);
     Ending::Failed(error)
 }
@@ -388,7 +388,7 @@ fn count_marked<A: Allocator>(texts: &[String<A>]) -> usize {
     let mut count = 0;
     let mut rest = texts;
     while let [text, after @ ..] = rest {
-        if escaped_path(text.as_str()).is_some() {
+        if escaped_non_utf8_path(text.as_str()).is_some() {
             count += 1;
         }
         rest = after;
@@ -406,7 +406,7 @@ fn only_paths<A: Allocator>(words: &[String<A>], paths: &[String<A>]) -> bool {
 /// argument that isn't UTF-8 is represented as `path_text` of `rl_files` represents it.
 ///
 /// Files are read from `tree` and replaced by `files`. `out` is standard output, and `err` standard error.
-pub fn call<A: Allocator + Copy, T: Tree, W: Write, E: Write, F: Replace>(
+pub fn run_with_arguments<A: Allocator + Copy, T: Tree, W: Write, E: Write, F: Replace>(
     alloc: A,
     args: &[String<A>],
     console: Console,

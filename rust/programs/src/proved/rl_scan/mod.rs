@@ -18,7 +18,7 @@ mod visit_report;
 pub use crate::rl_scan::change::push_change;
 pub use crate::rl_scan::changes::push_changes;
 pub use crate::rl_scan::diff::push_diff;
-pub use crate::rl_scan::exit::{CallError, call, out_of_memory};
+pub use crate::rl_scan::exit::{CallError, out_of_memory_ending, run_with_arguments};
 use crate::rl_scan::host::host_arguments;
 pub use crate::rl_scan::outcome::{Outcome, rewrite_outcome, source_check_options};
 pub use crate::rl_scan::report::Report;
@@ -62,9 +62,9 @@ fn console(rt: &HostRuntime) -> Console {
 
 pub fn main(rt: HostRuntime) -> ExitCode {
     let Ok(args) = host_arguments(&rt) else {
-        return finish(&rt, out_of_memory::<Global>());
+        return finish(&rt, out_of_memory_ending::<Global>());
     };
-    let ending = call(
+    let ending = run_with_arguments(
         rt.alloc(),
         args.as_slice(),
         console(&rt),

@@ -96,7 +96,7 @@ impl Tally {
     /// Returns the exit status of a run that searches for a text.
     ///
     /// It is 2 if a file or a path has an error. Else it is 0 if the text was found, and 1 if not.
-    pub fn find_status(self) -> u8 {
+    pub fn search_status(self) -> u8 {
         match (self.has_errors(), self.has_findings()) {
             (true, _) => 2,
             (false, true) => 0,

@@ -70,7 +70,10 @@ fn contents_of<A: Allocator>(
 /// `found` is the parse result of `text`.
 fn matched_range(text: &str, found: &Found, first: usize, last: usize) -> (usize, usize) {
     let lo = found.body.segments_in(found.kind, text).text_offset(first);
-    let hi = found.body.segments_in(found.kind, text).end_of(last);
+    let hi = found
+        .body
+        .segments_in(found.kind, text)
+        .text_end_offset(last);
     (lo, hi)
 }
 

@@ -7,8 +7,8 @@ use crate::rl_sources::place::{displayed_place, push_context_of};
 use crate::rl_files::needs_escape;
 use crate::rl_lexer::without_byte_order_mark;
 use crate::rl_output::{
-    Form, Level, Places, is_selector, push_annotation_end, push_ascii, push_line_start,
-    push_member, takes_selector,
+    Form, Level, Places, is_variation_selector, push_annotation_end, push_ascii, push_line_start,
+    push_member, takes_variation_selector,
 };
 use crate::rl_tokens::text::{begins_with_char, split_char};
 use crate::rattle_std::alloc::{AllocError, Allocator};
@@ -26,8 +26,8 @@ fn hides(previous: char, c: char, after: &str) -> bool {
     if c >= ' ' && c <= '~' {
         return false;
     }
-    if is_selector(c) {
-        return !takes_selector(previous, c);
+    if is_variation_selector(c) {
+        return !takes_variation_selector(previous, c);
     }
     needs_escape(c) && !is_layout(c, after)
 }
@@ -57,7 +57,7 @@ fn id_of_hidden(c: char) -> &'static str {
         '\u{61c}' | '\u{200e}'..='\u{200f}' | '\u{202a}'..='\u{202e}' | '\u{2066}'..='\u{2069}' =>
             "bidirectional-character",
         '\u{200c}'..='\u{200d}' => "joiner",
-        _ if is_selector(c) => "variation-selector",
+        _ if is_variation_selector(c) => "variation-selector",
         _ if c.is_control() => "control-character",
         _ => "invisible-character",
     }
@@ -127,8 +127,8 @@ fn push_hidden_line<'t, A: Allocator>(
     c: char,
     after: &'t str,
 ) -> Result<(), AllocError> {
-    let lo = places.byte_of(rest);
-    let hi = places.byte_of(after);
+    let lo = places.offset_of(rest);
+    let hi = places.offset_of(after);
     let place = displayed_place(options, places, rest, lo, hi);
     push_line_start(out, Level::Error, options.form, options.path, &place)?;
     push_hidden_end(alloc, out, options.form, c)?;

@@ -25,5 +25,5 @@ pub use crate::rl_sources::scan_error::ScanError;
 pub use crate::rl_sources::scanner::scan;
 pub use crate::rl_flaws::Edition;
 pub use crate::rl_output::{
-    Context, Form, Matching, Paint, Place, Shown, Spelling, is_json, names, push_painted,
+    Context, Form, Matching, Paint, Place, Shown, Spelling, is_json, list_contains, push_painted,
 };

@@ -11,12 +11,12 @@ use crate::rl_sources::options::{Options, ends_at_strays, finds_strays, options_
 use crate::rl_sources::place::{displayed_place, place_inside, push_context_inside, push_context_of};
 use crate::rl_sources::reason::push_error_line;
 use crate::rl_files::{make_visible, push_visible};
-use crate::rl_lenient::{Found, find};
+use crate::rl_lenient::{Found, parse_literal};
 use crate::rl_output::{
     Form, Level, Place, Places, Spelling, first_line, push_annotation_end, push_line_start,
 };
-use crate::rl_program::{label_of, push_found, push_unescaped_line, unescaped_value};
-use crate::rl_style::{Calls, calls_after, is_in_call};
+use crate::rl_program::{label_of, push_found_line, push_unescaped_line, unescaped_value};
+use crate::rl_style::{Calls, advance_calls, is_in_call};
 use crate::rl_tokens::{LexError, LexKind, SourceForm, SourceToken, Sources};
 use crate::rattle_std::alloc::{AllocError, Allocator};
 
@@ -34,7 +34,7 @@ fn push_made_line<A: Allocator + Copy>(
     found: Option<Found>,
 ) -> Result<(), AllocError> {
     let from = out.as_str().len();
-    push_found(alloc, out, text, found)?;
+    push_found_line(alloc, out, text, found)?;
     make_visible(alloc, out, from)
 }
 
@@ -213,7 +213,7 @@ fn push_literal_token<'t, A: Allocator + Copy>(
     rest: &'t str,
     places: &mut Places<'t>,
 ) -> Result<(), AllocError> {
-    let found = find(token.text);
+    let found = parse_literal(token.text);
     let before = places.before(token.lo);
     let wrong = find_wrong(options, before, token.text, &found);
     let label = label_of(kind_of(&found));
@@ -262,7 +262,7 @@ fn follows_calls(options: &Options<'_>) -> bool {
 #[inline(always)]
 fn pass_token<'t>(follows: bool, calls: &mut Calls<'t>, token: SourceToken<'t>) {
     if follows {
-        *calls = calls_after(*calls, token)
+        *calls = advance_calls(*calls, token)
     }
 }
 

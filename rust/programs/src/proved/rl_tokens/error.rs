@@ -52,7 +52,7 @@ impl<A: Allocator> Error<A> {
     }
 
     /// Creates the error for an allocation failure, with the span `span`.
-    pub fn memory(span: Span) -> Error<A> {
+    pub fn out_of_memory(span: Span) -> Error<A> {
         Error {
             span,
             kind: ErrorKind::Memory,
@@ -63,7 +63,7 @@ impl<A: Allocator> Error<A> {
     /// [`ErrorKind::Memory`], and any other kind becomes [`ErrorKind::Lex`].
     pub fn of_lexer(kind: LexKind, span: Span) -> Error<A> {
         match kind {
-            LexKind::Memory => Error::memory(span),
+            LexKind::Memory => Error::out_of_memory(span),
             kind => Error {
                 span,
                 kind: ErrorKind::Lex(kind),
@@ -75,7 +75,7 @@ impl<A: Allocator> Error<A> {
 /// Converts std's error for an allocation failure, which has no position, to `Memory` at [`Span::call_site`].
 impl<A: Allocator> From<AllocError> for Error<A> {
     fn from(_failure: AllocError) -> Error<A> {
-        Error::memory(Span::call_site())
+        Error::out_of_memory(Span::call_site())
     }
 }
 
@@ -83,7 +83,7 @@ impl<A: Allocator> From<AllocError> for Error<A> {
 /// [`Span::call_site`]. The value is dropped.
 impl<T: Drop, A: Allocator> From<AllocFailed<T>> for Error<A> {
     fn from(_failed: AllocFailed<T>) -> Error<A> {
-        Error::memory(Span::call_site())
+        Error::out_of_memory(Span::call_site())
     }
 }
 

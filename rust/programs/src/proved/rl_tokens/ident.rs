@@ -23,7 +23,7 @@ impl<A: Allocator> Ident<A> {
     pub fn new(alloc: A, text: &str, span: Span) -> Result<Ident<A>, Error<A>> {
         match String::from_str(alloc, text) {
             Ok(text) => Ok(Ident { text, span }),
-            Err(_) => Err(Error::memory(span)),
+            Err(_) => Err(Error::out_of_memory(span)),
         }
     }
 

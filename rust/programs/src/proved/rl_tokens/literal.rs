@@ -23,7 +23,7 @@ impl<A: Allocator> Literal<A> {
     pub fn from_text(alloc: A, text: &str, span: Span) -> Result<Literal<A>, Error<A>> {
         match String::from_str(alloc, text) {
             Ok(text) => Ok(Literal { text, span }),
-            Err(_) => Err(Error::memory(span)),
+            Err(_) => Err(Error::out_of_memory(span)),
         }
     }
 
@@ -34,7 +34,7 @@ impl<A: Allocator> Literal<A> {
     /// Returns `Memory` at `span` if an allocation fails.
     pub fn negative(alloc: A, text: &str, span: Span) -> Result<Literal<A>, Error<A>> {
         let Ok(text) = text_after_minus(alloc, text) else {
-            return Err(Error::memory(span));
+            return Err(Error::out_of_memory(span));
         };
         Ok(Literal { text, span })
     }
@@ -69,7 +69,7 @@ impl<A: Allocator> Literal<A> {
     /// # Errors
     ///
     /// Returns `Memory` at `span` if an allocation fails.
-    pub fn after_minus<B: Allocator>(&self, alloc: B, span: Span) -> Result<Literal<B>, Error<B>> {
+    pub fn with_minus<B: Allocator>(&self, alloc: B, span: Span) -> Result<Literal<B>, Error<B>> {
         Literal::negative(alloc, self.text(), span)
     }
 

@@ -76,7 +76,7 @@ fn text_of_bytes<A: Allocator>(alloc: A, kind: Kind, value: &[u8]) -> Result<Str
 fn token<A: Allocator>(text: Result<String<A>, AllocError>) -> Result<Literal<A>, Error<A>> {
     match text {
         Ok(text) => Ok(Literal::of_string(text, Span::call_site())),
-        Err(_) => Err(Error::memory(Span::call_site())),
+        Err(_) => Err(Error::out_of_memory(Span::call_site())),
     }
 }
 

@@ -2,13 +2,13 @@
 //! The program `rl_tool`. It reads literals or attributes, and prints the kind, the value and the suffix of each literal.
 
 use crate::rattle_std::prelude::{HostRuntime, Vec};
-use crate::rl_commands::call;
+use crate::rl_commands::run_with_arguments;
 use crate::rl_program::{arguments, finish};
 use crate::rattle_std::process::ExitCode;
 
 pub fn main(rt: HostRuntime) -> ExitCode {
     let args = arguments(&rt).unwrap_or(Vec::new(rt.alloc()));
-    let ending = call(
+    let ending = run_with_arguments(
         rt.alloc(),
         args.as_slice(),
         &mut rt.stdin(),

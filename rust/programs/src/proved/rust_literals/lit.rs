@@ -8,7 +8,7 @@ use crate::rust_literals::lit_float::LitFloat;
 use crate::rust_literals::lit_int::LitInt;
 use crate::rust_literals::number::{Number, NumberKind};
 use crate::rl_fronts::Front;
-use crate::rl_lenient::{Found, find};
+use crate::rl_lenient::{Found, parse_literal};
 use crate::rl_quoted::{LitByte, LitByteStr, LitCStr, LitChar, LitStr, Quoted, QuotedKind};
 use crate::rl_syntax::Kind;
 use crate::rl_tokens::{Error, Kept, Literal, Parse, ParseBuffer, Span, Token};
@@ -85,7 +85,7 @@ impl<A: Allocator> Lit<A> {
     /// Returns an error only if an allocation fails: `Memory` at the token's span, with the token. Memory is needed
     /// only for a number whose digits in base ten differ from the text before its suffix.
     pub fn new(alloc: A, token: Literal<A>) -> Result<Lit<A>, Kept<Literal<A>, A>> {
-        let found = find(token.text());
+        let found = parse_literal(token.text());
         Lit::of_found(alloc, token, found)
     }
 
@@ -180,13 +180,13 @@ impl<A: Allocator> Lit<A> {
 /// Returns the literal that the tokens of `front` represent, or `None` if an allocation fails. A `bool` literal needs
 /// no allocation.
 fn of_front<A: Allocator + Copy>(alloc: A, front: &Front<'_, A>) -> Option<Lit<A>> {
-    if let Some(value) = front.truth() {
+    if let Some(value) = front.bool_value() {
         return Some(Lit::Bool(LitBool::new(value, front.span())));
     }
     let Ok(token) = front.token(alloc) else {
         return None;
     };
-    match Lit::of_found(alloc, token, front.find()) {
+    match Lit::of_found(alloc, token, front.parse_result()) {
         Ok(literal) => Some(literal),
         Err(_) => None,
     }
@@ -207,7 +207,7 @@ impl<A: Allocator + Copy> Parse<A> for Lit<A> {
                 *input = ahead;
                 Ok(literal)
             }
-            None => Err(Error::memory(input.span())),
+            None => Err(Error::out_of_memory(input.span())),
         }
     }
 }

@@ -121,7 +121,7 @@ impl<K: NumberKind, A: Allocator> Number<K, A> {
                 of: PhantomData,
             }),
             Err(_) => {
-                let error = Error::memory(token.span());
+                let error = Error::out_of_memory(token.span());
                 Err(Kept {
                     value: token,
                     error,
@@ -183,7 +183,12 @@ impl<K: NumberKind, A: Allocator> fmt::Display for Number<K, A> {
 impl<K: NumberKind, A: Allocator + Copy> Parse<A> for Number<K, A> {
     fn parse(alloc: A, input: &mut ParseBuffer<'_, A>) -> Result<Number<K, A>, Error<A>> {
         let before = input.fork();
-        let (token, found) = match take_literal_of_kind(alloc, input, K::KIND, K::KIND.word()) {
+        let (token, found) = match take_literal_of_kind(
+            alloc,
+            input,
+            K::KIND,
+            K::KIND.description(),
+        ) {
             Ok(taken) => taken,
             Err(error) => return Err(error),
         };
@@ -191,7 +196,7 @@ impl<K: NumberKind, A: Allocator + Copy> Parse<A> for Number<K, A> {
             Ok(literal) => Ok(literal),
             Err(_) => {
                 *input = before;
-                Err(Error::memory(input.span()))
+                Err(Error::out_of_memory(input.span()))
             }
         }
     }
@@ -204,6 +209,6 @@ impl<K: NumberKind, A: Allocator> Token for Number<K, A> {
     }
 
     fn display() -> &'static str {
-        K::KIND.shown()
+        K::KIND.display_name()
     }
 }

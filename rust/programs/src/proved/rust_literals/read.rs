@@ -27,7 +27,7 @@ fn read_on<A: Allocator + Copy>(
             // The literal is dropped by a function call, because dropping it in place would double the number of steps
             // to prove.
             drop(failed);
-            return Err(Error::memory(Span::call_site()));
+            return Err(Error::out_of_memory(Span::call_site()));
         }
     }
     Ok(list)

@@ -2,7 +2,7 @@
 //! Functions that lex numbers.
 
 use super::suffix::after_suffix;
-use crate::rl_syntax::characters::is_start;
+use crate::rl_syntax::characters::is_id_start;
 use crate::rl_syntax::classes::{CharClass, skip_class};
 use crate::rl_syntax::text::{split_ascii, split_char, without_first_char};
 
@@ -36,7 +36,7 @@ fn without_digit(text: &str) -> Option<&str> {
 #[inline(always)]
 pub(crate) fn ends_number(text: &str) -> bool {
     match split_ascii(text) {
-        Some((byte, _)) => !(byte == b'.' || is_start(byte as char)),
+        Some((byte, _)) => !(byte == b'.' || is_id_start(byte as char)),
         None => false,
     }
 }
@@ -55,7 +55,7 @@ fn after_fraction(text: &str) -> &str {
 fn begins_dot(text: &str) -> bool {
     match split_char(text) {
         Some(('.', following)) => match split_char(following) {
-            Some((next, _)) => !(next == '.' || is_start(next)),
+            Some((next, _)) => !(next == '.' || is_id_start(next)),
             None => true,
         },
         _ => false,

@@ -38,7 +38,7 @@ pub(crate) fn begins_hashed_quote(text: &str) -> bool {
 #[inline(never)]
 fn after_quote(text: &str) -> Option<&str> {
     let mut rest = text;
-    while let Some((mark, following)) = split_after_mark(Marks::two(b'"', b'\\'), rest) {
+    while let Some((mark, following)) = split_after_mark(Marks::from_two_bytes(b'"', b'\\'), rest) {
         if mark == b'"' {
             return Some(following);
         }
@@ -53,7 +53,7 @@ fn after_quote(text: &str) -> Option<&str> {
 #[inline(never)]
 fn after_raw<'t>(hashes: &str, text: &'t str) -> Option<&'t str> {
     let mut rest = text;
-    while let Some((_, following)) = split_after_mark(Marks::two(b'"', b'"'), rest) {
+    while let Some((_, following)) = split_after_mark(Marks::from_two_bytes(b'"', b'"'), rest) {
         if let Some(end) = after_prefix(hashes, following) {
             return Some(end);
         }

@@ -1,11 +1,11 @@
 // Rendered from crates/rl_lexer/src/source/bad_quote.rt by tools/render, which erases contracts: change that file, and render again.
-//! Functions that find the end of invalid quoted literals, as `''` and `'ab'`. Each begins neither as a valid character
-//! literal nor as a lifetime, but ends before the text does.
+//! Functions that find the end of invalid quoted literals, as `''` and `'ab'`. Each begins like neither a valid
+//! character literal nor a lifetime, and has an end in the source.
 
 use super::after_any_name;
 use crate::rl_lexer::lexeme::after_suffix;
-use crate::rl_syntax::characters::is_start;
-use crate::rl_syntax::classes::skip_word;
+use crate::rl_syntax::characters::is_id_start;
+use crate::rl_syntax::classes::skip_id_continue;
 use crate::rl_syntax::text::{begins_with_char, split_ascii, split_char, without_first_char};
 
 /// Returns the text after the invalid quoted literal at its start, as `'ab'` or `b'hello'`, or `None` if that has no
@@ -28,9 +28,9 @@ pub(crate) fn after_bad_quote(text: &str) -> Option<&str> {
 fn after_bare(text: &str) -> Option<&str> {
     let (c, following) = split_char(text)?;
     if c.is_ascii_digit() {
-        return Some(past_closing(skip_word(following)));
+        return Some(past_closing(skip_id_continue(following)));
     }
-    if is_start(c) {
+    if is_id_start(c) {
         return after_closing(after_any_name(text)?);
     }
     after_other(text)

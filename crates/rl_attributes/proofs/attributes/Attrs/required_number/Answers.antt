@@ -20,4 +20,4 @@ returns-in-Ok-None-clause-exactly g c ds at =
 
 pub returns-in-Ok-None-clause-rejected : goal.returns-in-Ok-None-clause-rejected
 returns-in-Ok-None-clause-rejected g c =
-    inl (in_none c.in-Ok-None.field-0 _ _ c.in-Ok-None.field-0-is c.in-Ok-None.ensures.text, c.missing.ensures)
+    inl (in_none c.in-Ok-None.field-0 _ _ c.in-Ok-None.field-0-is c.in-Ok-None.ensures.text, c.missing_error.ensures)

@@ -26,10 +26,10 @@ returns-in_err-entry-clause-scope g c = c.in_err-entry.ensures.scope ∙ c.loop-
 pub returns-in-Err-clause-rejected : goal.returns-in-Err-clause-rejected
 returns-in-Err-clause-rejected g c =
     let some : trees_in c.loop-alloc.input ≢ [] = λ e. absurd (let full = c.is_empty.ensures.1 e in cc) in
-    inl (at_memory _ c.loop-alloc.entries.items c.loop-alloc.names (trees_in c.loop-alloc.input) c.memory.result
+    inl (at_memory _ c.loop-alloc.entries.items c.loop-alloc.names (trees_in c.loop-alloc.input) c.out_of_memory.result
     c.loop-alloc.invariant.at some (next_memory (trees_in c.loop-alloc.input) (trees_in c.take_next.new.input)
-    (attribute_of c.in_ok-entry.entry) c.memory.result c.in_ok-entry.ensures.taken
-    (ap (λ e. e.kind) c.memory.ensures)))
+    (attribute_of c.in_ok-entry.entry) c.out_of_memory.result c.in_ok-entry.ensures.taken
+    (ap (λ e. e.kind) c.out_of_memory.ensures)))
 
 pub returns-in-Err-clause-rest : goal.returns-in-Err-clause-rest
 returns-in-Err-clause-rest g c = c.in_ok-entry.ensures.onward _ c.loop-alloc.invariant.at.left

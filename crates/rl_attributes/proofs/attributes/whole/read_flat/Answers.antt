@@ -17,7 +17,7 @@ loop-tokens-init g c = record {
 pub loop-tokens-preserved : goal.loop-tokens-preserved
 loop-tokens-preserved g c =
     let old = c.loop-tokens.tokens in
-    let new = c.settings_step.new.tokens in
+    let new = c.next_setting.new.tokens in
     let some : old.rest ≢ [] = some_rest old.rest c.rest.result.now c.is_empty.result c.rest.ensures c.is_empty.ensures
     c.loop-tokens-test.true in
     let grown : c.push.new.self.items ≡ c.loop-tokens.entries.items ++ (c.in-Ok.entry ∷ []) = search rules in

@@ -1,4 +1,4 @@
--- No lexeme begins the rest, so an error is returned.
+-- If no lexeme begins the cursor's rest, the function returns an error.
 use Rattle.rl_syntax.proofs.Common.{arith, common_steps, chars}
 use Rattle.rl_lexer.specs.Cuts.{BeginsNoLexeme}
 use Rattle.rl_lexer.proofs.ErrorKinds.{stops_here, none_some}

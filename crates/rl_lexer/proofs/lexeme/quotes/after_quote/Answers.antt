@@ -5,13 +5,13 @@ use Rattle.rl_lexer.proofs.lexeme.quotes.after_quote.Goals as goal
 
 pub returns-then-mark-eq34-clause-rest : goal.returns-then-mark-eq34-clause-rest
 returns-then-mark-eq34-clause-rest c =
-    let m = c.two.ensures in
+    let m = c.from_two_bytes.ensures in
     sym (sym c.loop-mark.invariant.same ∙ quote_found _ _ _ _ (ap (λ z. z.first) m) (ap (λ z. z.second) m)
     c.in-Some.ensures.some c.if-mark-eq34.true)
 
 pub returns-in_err-more-clause-rest : goal.returns-in_err-more-clause-rest
 returns-in_err-more-clause-rest c =
-    let m = c.two.ensures in
+    let m = c.from_two_bytes.ensures in
     elim (which _ 34 92 _ m c.in-Some.ensures.some.is_mark) [
       | inl quote ↦ absurd (c.if-mark-eq34.false quote)
       | inr backslash ↦
@@ -23,7 +23,7 @@ returns-in_err-more-clause-rest c =
 
 pub loop-mark-preserved : goal.loop-mark-preserved
 loop-mark-preserved c =
-    let m = c.two.ensures in
+    let m = c.from_two_bytes.ensures in
     let next = c.in-Some.ensures in
     let more = c.in_ok-more.ensures in
     record {
@@ -37,6 +37,6 @@ loop-mark-preserved c =
 
 pub returns-clause-rest : goal.returns-clause-rest
 returns-clause-rest c =
-    let m = c.two.ensures in
+    let m = c.from_two_bytes.ensures in
     sym (sym c.loop-mark.invariant.same ∙ quote_none _ _ (ap (λ z. z.first) m) (ap (λ z. z.second) m)
     c.in_default.ensures.none)

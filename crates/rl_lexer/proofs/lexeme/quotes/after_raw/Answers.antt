@@ -6,7 +6,7 @@ use Rattle.rl_lexer.proofs.lexeme.quotes.after_raw.Goals as goal
 
 pub returns-in-Some-after_prefix-clause-rest : goal.returns-in-Some-after_prefix-clause-rest
 returns-in-Some-after_prefix-clause-rest c =
-    let m = c.two.ensures in
+    let m = c.from_two_bytes.ensures in
     let next = c.in-Some.ensures.some in
     let met = hashes_met _ _ _ c.requires c.in-Some-after_prefix.ensures.some in
     ap Some (sym met.1) ∙ sym (sym c.loop-following.invariant.same
@@ -14,7 +14,7 @@ returns-in-Some-after_prefix-clause-rest c =
 
 pub loop-following-preserved : goal.loop-following-preserved
 loop-following-preserved c =
-    let m = c.two.ensures in
+    let m = c.from_two_bytes.ensures in
     let next = c.in-Some.ensures in
     let missed = hashes_missed _ _ c.requires c.in_default-after_prefix.ensures.none in
     record {
@@ -25,7 +25,7 @@ loop-following-preserved c =
 
 pub returns-clause-rest : goal.returns-clause-rest
 returns-clause-rest c =
-    let m = c.two.ensures in
+    let m = c.from_two_bytes.ensures in
     sym (sym c.loop-following.invariant.same ∙ raw_none _ _ _ (ap (λ z. z.first) m) c.in_default.ensures.none)
 
 pub returns-in-Some-after_prefix-clause-following : goal.returns-in-Some-after_prefix-clause-following

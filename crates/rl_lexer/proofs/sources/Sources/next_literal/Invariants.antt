@@ -1,4 +1,4 @@
--- The tokens that were consumed aren't literals.
+-- The loop's invariant: no token that was consumed is a literal.
 use Rattle.rl_syntax.proofs.Common.{length}
 use Rattle.rl_lexer.proofs.LiteralSteps.{Passed}
 use Rattle.rl_lexer.proofs.sources.Sources.next_literal.Given as goal

@@ -12,7 +12,7 @@ returns-clause-lines c = record {
   lines = chars c.before_in_line.result.0.now;
   line = subst (λ (z : List ℕ). IsBeforeInLine (chars z) (chars c.args.rest.now)
       (chars c.before_in_line.result.0.now) (chars c.before_in_line.result.1.now))
-      (c.self.view_is ∙ c.at-spot.ensures.same) c.before_in_line.ensures.line;
+      (c.self.view_is ∙ c.position_of-spot.ensures.same) c.before_in_line.ensures.line;
   last_are = subst (λ (z : List ℕ). AreLastLines c.args.count z c.last_lines.result.now)
       (sym (encodes-chars c.before_in_line.result.0.now c.before_in_line.ensures.text)) c.last_lines.ensures;
 }

@@ -11,8 +11,8 @@ returns-then-is_literal-clause-found c =
     literal_here c.args.self.now (state first.tokens first.last first.end (calls_seen first.calls))
     (state now.self-inside.tokens now.last now.end (calls_seen now.calls))
     (record { token = c.in-Some.token; is_field = c.is_field.result; in_macro = c.is_in_call.result })
-    c.next.new.self c.last_after-last.result (calls_seen c.calls_after-calls.result) c.self.view_is
-    (record { last_is = c.last_after-last.ensures; calls_are = c.calls_after-calls.ensures })
+    c.next.new.self c.last_after-last.result (calls_seen c.advance_calls-calls.result) c.self.view_is
+    (record { last_is = c.last_after-last.ensures; calls_are = c.advance_calls-calls.ensures })
     c.in-Some.ensures.next (c.is_literal.ensures.0 c.if-is_literal.true)
     (c.is_field.ensures ∙ ap (λ z. is_field now.last c.in-Some.token.text.now (chars z)) c.rest.ensures)
     c.is_in_call.ensures c.loop-token.invariant.literal
@@ -30,9 +30,9 @@ loop-token-preserved c =
     let now = c.loop-token in
     let was = state now.self-inside.tokens now.last now.end (calls_seen now.calls) in
     let last = c.last_after-last.result in
-    let calls = calls_seen c.calls_after-calls.result in
+    let calls = calls_seen c.advance_calls-calls.result in
     let steps : Steps was c.in-Some.token last calls =
-    record { last_is = c.last_after-last.ensures; calls_are = c.calls_after-calls.ensures } in
+    record { last_is = c.last_after-last.ensures; calls_are = c.advance_calls-calls.ensures } in
     let is_other : IsLiteralOfSource c.in-Some.token → ⊥ = λ is. both_ways _ c.if-is_literal.false
     (c.is_literal.ensures.1 is) in
     record {

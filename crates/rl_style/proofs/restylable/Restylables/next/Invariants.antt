@@ -1,4 +1,4 @@
--- The loop's invariant: the next literal from the current state on is the next literal from the first state on.
+-- The loop's invariant: the next literal from the current state is the next literal from the state at which the search began.
 use Rattle.std.proofs.Common.{ℕ, ◌≤◌, length}
 use Rattle.rl_lexer.specs.Cursors.{CursorState}
 use Rattle.rl_style.specs.Calls.{CallState, calls_seen}

@@ -26,5 +26,5 @@ returns-in-Some-of_front-clause-rest g c = subst (λ ts. IsRest ts (trees_in c.t
 pub returns-in-None-clause-runs : goal.returns-in-None-clause-runs
 returns-in-None-clause-runs g c =
     lit_memory (trees_in c.args.input.now) (trees_in c.fork-ahead.result) (trees_in c.take.new.input)
-    (front_token c.in-Some.front) (scope_of c.args.input.now) c.span.result c.memory.result
-    c.fork-ahead.ensures.trees c.in-Some.ensures.taken c.memory.ensures c.span.ensures
+    (front_token c.in-Some.front) (scope_of c.args.input.now) c.span.result c.out_of_memory.result
+    c.fork-ahead.ensures.trees c.in-Some.ensures.taken c.out_of_memory.ensures c.span.ensures

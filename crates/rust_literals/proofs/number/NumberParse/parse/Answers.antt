@@ -6,7 +6,7 @@ use Rattle.rust_literals.proofs.number.NumberParse.parse.Goals as goal
 
 pub returns-in-Err-clause-runs : goal.returns-in-Err-clause-runs
 returns-in-Err-clause-runs g c =
-    let word : c.word.result.now ≡ kind_word g.K.NumberKind.KIND = c.word.ensures ∙ ap kind_word c.KIND-2.ensures in
+    let word : c.description.result.now ≡ kind_word g.K.NumberKind.KIND = c.description.ensures ∙ ap kind_word c.KIND-2.ensures in
     rw (← word, ← c.KIND.ensures) c.in-Err.ensures.runs
 
 pub of_found-requires-clause-found : goal.of_found-requires-clause-found

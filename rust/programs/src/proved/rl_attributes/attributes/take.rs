@@ -26,7 +26,7 @@ fn take_name<'a, A: Allocator + Copy>(
     match names.insert(Name::new(name.text())) {
         Ok(true) => Ok(name),
         Ok(false) => Err(Error::new(name.span(), ErrorKind::Repeated)),
-        Err(_) => Err(Error::memory(name.span())),
+        Err(_) => Err(Error::out_of_memory(name.span())),
     }
 }
 
@@ -81,7 +81,7 @@ fn take_all<A: Allocator + Copy>(
             // The attribute is dropped by a function call, because dropping it in place would double the number of
             // steps to prove.
             drop(failed);
-            return Err(Error::memory(input.span()));
+            return Err(Error::out_of_memory(input.span()));
         }
     }
     Ok(Attrs {
@@ -93,7 +93,7 @@ fn take_all<A: Allocator + Copy>(
 /// Returns `error`, with the span `place` if it is an allocation failure, and otherwise unchanged.
 fn with_memory_at<A: Allocator>(error: Error<A>, place: Span) -> Error<A> {
     match error.kind {
-        ErrorKind::Memory => Error::memory(place),
+        ErrorKind::Memory => Error::out_of_memory(place),
         kind => Error::new(error.span, kind),
     }
 }

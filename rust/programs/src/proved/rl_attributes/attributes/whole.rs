@@ -6,7 +6,7 @@ use crate::rattle_std::prelude::{String, Vec};
 use super::name::Name;
 use super::{Attrs, Entry};
 use crate::rl_lenient::NextLiteral;
-use crate::rl_settings::{NextSetting, SettingStep, first_error, settings_step};
+use crate::rl_settings::{NextSetting, SettingStep, first_error, next_setting};
 use crate::rl_tokens::{Error, Literal, Span, Tokens, parse_all};
 use crate::rust_literals::Lit;
 use crate::rattle_std::alloc::{AllocError, Allocator};
@@ -62,7 +62,7 @@ fn read_flat<A: Allocator + Copy>(alloc: A, text: &str, file: u32) -> Option<Att
     let mut names = BTreeSet::new(alloc);
     let mut entries = Vec::new(alloc);
     while !tokens.rest().is_empty() {
-        let SettingStep::Setting(next) = settings_step(&mut tokens, text.len()) else {
+        let SettingStep::Setting(next) = next_setting(&mut tokens, text.len()) else {
             return None;
         };
         if !add_name(&mut names, next.name.text) {

@@ -16,7 +16,7 @@ fn reported<F: Display, B: Allocator>(alloc: B, error: &F, span: Span) -> Error<
             span,
             kind: ErrorKind::Number(words),
         },
-        Err(_) => Error::memory(span),
+        Err(_) => Error::out_of_memory(span),
     }
 }
 

@@ -1,5 +1,0 @@
-use Rattle.rl_flaws.proofs.Theorems.{an_error_excludes_a_type}
-use Rattle.rl_flaws.proofs.laws.an_error_excludes_a_type.Goals as goal
-
-pub returns : goal.returns
-returns c = an_error_excludes_a_type

@@ -1,5 +1,0 @@
-use Rattle.rl_lenient.proofs.Theorems.{bytes_without_returns_are_strict}
-use Rattle.rl_lenient.proofs.laws.bytes_are_strict.Goals as goal
-
-pub returns : goal.returns
-returns c = bytes_without_returns_are_strict

@@ -1,5 +1,0 @@
-use Rattle.rl_syntax.proofs.Common.{IsCharBoundary-start}
-use Rattle.rl_lenient.proofs.units.unit.Goals as goal
-
-pub ascii_at-requires : goal.ascii_at-requires
-ascii_at-requires c = IsCharBoundary-start c.args.text.now c.utf8.text

@@ -1,8 +1,0 @@
-use Rattle.rl_style.proofs.Theorems.{the_same_literal_reads_alike, the_same_literal_is_strict_alike}
-use Rattle.rl_style.proofs.laws.the_same_literal_reads_alike.Goals as goal
-
-pub returns-clause-reads : goal.returns-clause-reads
-returns-clause-reads c = the_same_literal_reads_alike
-
-pub returns-clause-strict : goal.returns-clause-strict
-returns-clause-strict c = the_same_literal_is_strict_alike

@@ -1,5 +1,0 @@
-use Rattle.rl_style.proofs.Theorems.{keeps_the_tokens_unraw}
-use Rattle.rl_style.proofs.laws.the_tokens_are_kept_unraw.Goals as goal
-
-pub returns : goal.returns
-returns c = keeps_the_tokens_unraw

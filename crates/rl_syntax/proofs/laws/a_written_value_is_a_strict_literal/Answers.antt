@@ -1,0 +1,5 @@
+use Rattle.rl_syntax.proofs.Theorems.{a_written_value_is_strict}
+use Rattle.rl_syntax.proofs.laws.a_written_value_is_a_strict_literal.Goals as goal
+
+pub returns : goal.returns
+returns c = a_written_value_is_strict

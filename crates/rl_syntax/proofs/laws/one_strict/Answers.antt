@@ -1,5 +1,0 @@
-use Rattle.rl_syntax.proofs.Theorems.{a_text_is_strict_in_one_way}
-use Rattle.rl_syntax.proofs.laws.one_strict.Goals as goal
-
-pub returns : goal.returns
-returns c = a_text_is_strict_in_one_way

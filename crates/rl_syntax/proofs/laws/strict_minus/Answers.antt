@@ -1,5 +1,0 @@
-use Rattle.rl_syntax.proofs.Theorems.{a_strict_number_reads_after_a_minus}
-use Rattle.rl_syntax.proofs.laws.strict_minus.Goals as goal
-
-pub returns : goal.returns
-returns c = a_strict_number_reads_after_a_minus

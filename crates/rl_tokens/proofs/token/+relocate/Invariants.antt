@@ -1,9 +1,0 @@
-use Rattle.rl_syntax.proofs.Common.{◌≡◌, map, take}
-use Rattle.rl_tokens.specs.Trees.{tree_view, relocated}
-use Rattle.rl_tokens.proofs.token.+relocate.Given as goal
-
-abbrev pub invariant-TokenStream::relocate-loop-at : goal.invariant-TokenStream::relocate-loop-at
-invariant-TokenStream::relocate-loop-at g l =
-    goal.unvisited-TokenStream::relocate-loop-at g l
-    × (map tree_view (take l.at l.self.trees.items) ≡ map (relocated l.table)
-    (map tree_view (take l.at l.initial.self.trees.items)))
