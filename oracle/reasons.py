@@ -1,12 +1,11 @@
 #!/usr/bin/env python3
-"""Compares the flaws of texts that aren't tokens or have no value with the model, and their positions with the first errors of
-rustc and litrs.
+"""Compares the flaws of texts that aren't tokens or have no value with the model, and their positions with rustc's first errors.
 
-    oracle/reasons.py [--families worked,cuts,..] [--rustc] [--litrs] [--alone N] ..    a minute for 1,000 random texts, with --rustc ten
+    oracle/reasons.py [--families worked,cuts,..] [--rustc] [--alone N] ..      a minute for 1,000 random texts, with --rustc ten
 
 The texts are those of oracle/stored.rs and of the rows of rl_rows, and generated ones. With --rustc, rustc lexes many texts in
-one source if they leave no quote, comment or group open, and N of the others each alone; --alone sets N. --litrs uses oracle/litrs.
-Tables then show the relation of rustc's or litrs' errors to ours. Other options: frame.py.
+one source if they leave no quote, comment or group open, and N of the others each alone; --alone sets N. A table then shows the
+relation of rustc's errors to ours. Other options: frame.py.
 """
 import collections
 import itertools
@@ -135,71 +134,20 @@ def first_errors(alone, answers):
         yield from ((text, min(errors, default=None)) for text, errors in zip(chunk, rustc_errors(chunk)))
 
 
-# ---- litrs
-
-# For each kind of error of litrs, the kinds of flaws with the same meaning.
-LITRS = {
-    'Empty': ['Empty'], 'EmptyByteLiteral': ['NoCharacter'], 'EmptyCharLiteral': ['NoCharacter'], 'InvalidDigit': ['InvalidDigit', 'BasedFloat', 'NoDigits'],
-    'InvalidFloatTypeSuffix': ['BadSuffix'], 'InvalidIntegerTypeSuffix': ['BadSuffix', 'BasedFloat'], 'InvalidLiteral': [*NO_LITERAL, 'TooManyHashes'],
-    'InvalidStartOfUnicodeEscape': ['NoHexDigit'], 'InvalidUnicodeEscapeChar': ['UnicodeEscapeOutOfRange', 'Surrogate'], 'InvalidXEscape': ['NoHexDigit', 'HexEscapeOutOfRange'],
-    'IsolatedCr': ['CarriageReturn'], 'NoDigits': ['NoDigits'], 'NoExponentDigits': ['NoExponentDigit'], 'NonAsciiInByteLiteral': ['NotAscii'],
-    'NonAsciiXEscape': ['HexEscapeOutOfRange'], 'NonHexDigitInUnicodeEscape': ['NoHexDigit'], 'OverlongByteLiteral': ['TwoCharacters', *CUT],
-    'OverlongCharLiteral': ['TwoCharacters', *CUT], 'TooManyDigitInUnicodeEscape': ['TooManyDigits'], 'UnescapedSingleQuote': ['NoCharacter'],
-    'UnescapedSpecialWhitespace': ['MustEscape'], 'UnexpectedChar': [*CUT, 'UnderscoreSuffix'], 'UnicodeEscapeInByteLiteral': ['NoUnicode'],
-    'UnicodeEscapeWithoutBrace': ['NoBrace', 'Unclosed'], 'UnknownEscape': ['UnknownEscape', 'CarriageReturn'],
-    'UnterminatedEscape': ['NoHexDigit', 'HexEscapeOutOfRange', 'Unclosed', 'UnknownEscape'], 'UnterminatedUnicodeEscape': ['NoHexDigit', 'UnicodeEscapeOutOfRange', 'TooManyDigits', 'Unclosed'],
-    'UnterminatedByteLiteral': ['Unclosed'], 'UnterminatedCharLiteral': ['Unclosed'], 'UnterminatedRawString': ['Unclosed'], 'UnterminatedString': ['Unclosed'],
-}
-# The kinds that litrs reports if the last character isn't the closing quote, or is part of an escape.
-BY_LAST = [kind for kind in LITRS if kind.startswith('Unterminated')] + ['OverlongByteLiteral']
-# Flaws of the strict grammar that litrs 0.2.3 accepts.
-TAKEN = {'CarriageReturn': 'a CR', 'EmptyBraces': 'no digits between the braces', 'TooManyHashes': 'more than 255 hashes'}
-
-
-def litrs_reason(text, flaw, line):
-    """Returns the relation of litrs' result to our flaw, or None."""
-    their, _, place = line.decode().partition(' ')
-    if their == 'panic':
-        return 'panics'
-    if text.startswith(('c"', 'cr"', 'cr#')):
-        return 'has no C strings'
-    if flaw is None:
-        return 'a token to both' if their == 'Ok' else 'has no such suffix, or none after quotes'
-    if their == 'Ok':
-        return 'takes ' + TAKEN[flaw.kind] if flaw.kind in TAKEN else None
-    low = int(place.split('..')[0]) if place != '-' else None
-    if flaw.kind in LITRS[their] and low is None:
-        return 'says the same, without a place'
-    if flaw.kind in LITRS[their] and flaw.begin <= low <= flaw.high:
-        return 'says the same at our ' + ('place' if low == flaw.low else 'piece' if low == flaw.begin else 'piece, inside')
-    if their == 'InvalidStartOfUnicodeEscape' and low == 4:
-        return 'counts the place from the escape, not from the text'
-    if their in BY_LAST or their == 'OverlongCharLiteral' and flaw.kind in CUT:
-        return 'takes the last character for the quote that closes'
-    if flaw.kind == 'BadSuffix' and low is not None and low < flaw.low and their in ('InvalidDigit', 'UnexpectedChar'):
-        return 'has no such suffix, or none after quotes'
-    if flaw.kind in EARLIER and low is not None and low > flaw.low:
-        return 'comes later: no ending saves what stands before it'
-    if flaw.kind in TAKEN and low is not None and low > flaw.low:
-        return 'comes later: it takes ' + TAKEN[flaw.kind]
-    return None
-
-
-def relate(report, name, pairs, answers, reason_of, words_of):
-    """Compares another program's errors of texts with our flaws, and prints how often each reason occurs, with the kinds and
-    messages."""
+def compare_rustc(report, pairs, answers):
+    """Compares rustc's errors in texts with our flaws, and prints how often each reason occurs, with the kinds and messages."""
     ways = collections.Counter()
     for text, error in pairs:
         flaw = None if answers[text] == b'None' else flaw_of(answers[text])
-        if reason := reason_of(text, flaw, error):
-            ways[reason, flaw.kind if flaw else 'a token', words_of(error)] += 1
+        if reason := rustc_reason(text, flaw, error):
+            ways[reason, flaw.kind if flaw else 'a token', short(error[2]) if error else ''] += 1
         else:
-            report.differs(name, text.encode(), str(error).encode(), answers[text])
+            report.differs('rustc', text.encode(), str(error).encode(), answers[text])
     for reason in sorted({reason for reason, _, _ in ways}):
         here = sorted((kind, words, number) for (its, kind, words), number in ways.items() if its == reason)
-        print('%s: %7d %s' % (name, sum(number for _, _, number in here), reason))
+        print('rustc: %7d %s' % (sum(number for _, _, number in here), reason))
         print(*('    %7d %s%s' % (number, kind, ': ' + words if words else '') for kind, words, number in here), sep='\n')
-    print(f'{name}: {ways.total()} texts', flush=True)
+    print(f'rustc: {ways.total()} texts', flush=True)
 
 
 # ---- the model
@@ -230,14 +178,9 @@ def compare(asked, report):
     for _, data in itertools.chain([('', rows)], families.fresh_batches(asked, asked.families.split(','))):
         compare_model(asked, report, answers, data)
     if asked.rustc:
-        errors = first_errors(asked.alone, answers)
-        relate(report, 'rustc', errors, answers, rustc_reason, lambda error: short(error[2]) if error else '')
-    if asked.litrs:
-        lines = frame.by_length([os.path.join(frame.helper('litrs'), 'litrs-kinds')], [text.encode() for text in answers])
-        relate(report, 'litrs', zip(answers, lines), answers, litrs_reason, lambda line: line.decode().split(' ')[0])
+        compare_rustc(report, first_errors(asked.alone, answers), answers)
     return len(answers)
 
 
 if __name__ == '__main__':
-    frame.run(compare, __doc__, ours=['rl_rows'], count=500_000, families='worked,cuts,edits,random', alone=2_000, rustc=False,
-              litrs=False)
+    frame.run(compare, __doc__, ours=['rl_rows'], count=500_000, families='worked,cuts,edits,random', alone=2_000, rustc=False)

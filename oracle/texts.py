@@ -215,12 +215,28 @@ def randoms(seed, count):
         yield source.choice(MAKERS)(source)
 
 
+# The characters of the rows `cut` that represent line ends and other control characters.
+PICTURES = {0x240A: '\n', 0x240D: '\r', 0x2409: '\t', 0x2400: '\0'}
+
+
+def rows():
+    """Returns the texts of the stored rows of rl_rows: each start of the text of a row `cut`, and the long texts of the rows `long`,
+    each of which has pieces of text after their numbers of repetitions."""
+    with open(os.path.join(frame.TOP, 'crates/rl_rows/stdin'), encoding='utf-8', errors='replace', newline='') as file:
+        plain = [line.partition(' ')[2] for line in file.read().split('\n') if line.startswith('plain ')]
+    for kind, _, row in (it.partition(' ') for it in plain):
+        if kind == 'cut':
+            yield from (row.translate(PICTURES)[:end] for end in range(len(row) + 1))
+        elif kind == 'long':
+            yield ''.join(piece * int(count) for count, _, piece in (part.partition(' ') for part in row.split('\t')))
+
+
 def families(seed, count):
     """Returns the families by name. A family is a function that returns its texts. A random family returns `count` texts."""
     return {
         'worked': lambda: iter(WORKED), 'cuts': cuts, 'edits': single_edits, 'short': lambda: words(ALPHABET, range(5)),
         'framed': framed, 'trivia': lambda: words('/*!\n\r a', range(8)), 'random': lambda: randoms(seed, count),
-        'lists': lambda: lists(seed, count), 'characters': characters,
+        'lists': lambda: lists(seed, count), 'characters': characters, 'rows': rows,
         'attributes': lambda: attributes(seed, count), 'printed': lambda: printed(seed, count),
     }
 

@@ -3,7 +3,8 @@ macros and impls that its output can't contain; words that an eraser adds; entri
 two folders that it doesn't write. Each changed text takes the place of a file when the file is read, and changed folders are
 copies. No file of the repository is written.
 
-    tools/rejects.py     prints each change that is rejected although it is valid, or isn't rejected; the last line counts both
+    python3 tools/rejects.py    prints each change that is rejected although it is valid, or isn't rejected, in 10 s; the last line
+                                counts both
 """
 import contextlib
 import importlib.machinery

@@ -1,4 +1,5 @@
 """Lexes whole Rust sources. It is written only from the section of docs/GRAMMAR.md about whole sources."""
+import itertools
 import re
 import sys
 from typing import NamedTuple, Optional
@@ -8,22 +9,15 @@ WHITE = '\t\n\v\f\r \u0085\u00a0\u1680\u2000-\u200a\u2028\u2029\u202f\u205f\u300
 
 def character_class(holds):
     """Returns the inside of a character class, with the non-ASCII characters for which `holds` returns true."""
-    ranges, begin = [], None
-    for code in range(0x80, sys.maxunicode + 2):
-        inside = code <= sys.maxunicode and not 0xD800 <= code < 0xE000 and holds(chr(code))
-        if inside and begin is None:
-            begin = code
-        elif not inside and begin is not None:
-            ranges.append('%s-%s' % (chr(begin), chr(code - 1)))
-            begin = None
-    return ''.join(ranges)
+    is_in = lambda code: not 0xD800 <= code < 0xE000 and holds(chr(code))
+    runs = (list(run) for inside, run in itertools.groupby(range(0x80, sys.maxunicode + 1), is_in) if inside)
+    return ''.join('%s-%s' % (chr(run[0]), chr(run[-1])) for run in runs)
 
 
 START = '[A-Z_a-z%s]' % character_class(str.isidentifier)
 CONTINUE = '[0-9A-Z_a-z%s]' % character_class(lambda c: ('a' + c).isidentifier())
 WORD = START + CONTINUE + '*+'
 SUFFIX = '(?:%s)?+' % WORD
-START_FORM = re.compile(START)
 
 
 def compiled(form):
@@ -126,17 +120,14 @@ def raw_end(text, opener):
 
 def cut_one(text, at):
     """Returns the form and the end of the token at a position before the text's end, or an error and None."""
-    raw = RAW_OPENER.match(text, at)
-    if raw:
+    if raw := RAW_OPENER.match(text, at):
         end = raw_end(text, raw)
         return ('literal', end) if end else ('unclosed quote', None)
-    literal = PLAIN_LITERAL.match(text, at)
-    if literal:
+    if literal := PLAIN_LITERAL.match(text, at):
         return 'literal', literal.end()
     # A prefix with a quote isn't an identifier, but an apostrophe after it may begin a lifetime.
     opener = OPENER.match(text, at)
-    other = None if opener and opener[0] != "'" else OTHER.match(text, at)
-    if other:
+    if other := None if opener and opener[0] != "'" else OTHER.match(text, at):
         return other.lastgroup, other.end()
     if opener:
         bad = BAD_QUOTE.match(text, at)
@@ -149,26 +140,18 @@ def cut_one(text, at):
 
 def cut_source(text):
     """Returns the tokens of a source, up to its end or to its first error."""
-    found, at, error = [], after_trivia(text, after_front(text)), None
+    found, at = [], after_trivia(text, after_front(text))
     while at < len(text):
         form, end = cut_one(text, at)
         if end is None:
-            error = (at, form)
-            break
+            return in_bytes(text, found, (at, form))
         found.append((form, at, end))
         at = after_trivia(text, end)
-    return in_bytes(text, found, error)
+    return in_bytes(text, found, None)
 
 
 def in_bytes(text, found, error):
     """Returns the tokens with their texts, with positions in bytes instead of characters."""
-    tokens, ascii_alone, last, place = [], text.isascii(), 0, 0
-    for form, lo, hi in found:
-        begin = lo if ascii_alone else place + len(text[last:lo].encode())
-        end = hi if ascii_alone else begin + len(text[lo:hi].encode())
-        tokens.append(Token(form, begin, end, text[lo:hi]))
-        last, place = hi, end
-    if error:
-        at, kind = error
-        error = CutError(at if ascii_alone else place + len(text[last:at].encode()), kind)
-    return Cut(tokens, error)
+    places = range(len(text) + 1) if text.isascii() else [0, *itertools.accumulate(len(c.encode()) for c in text)]
+    tokens = [Token(form, places[lo], places[hi], text[lo:hi]) for form, lo, hi in found]
+    return Cut(tokens, CutError(places[error[0]], error[1]) if error else None)

@@ -1,6 +1,9 @@
-//! Compares the values of numbers with the values that rustc gives to the same literals.
+//! Compares the values of literals with the values that rustc gives to the same literals.
 
-use navyspindle::{LitFloat, LitInt, NumberType, ValueErrorKind};
+use navyspindle::{
+    LitByte, LitByteStr, LitCStr, LitChar, LitFloat, LitInt, LitStr, NumberType, ValueErrorKind,
+};
+use std::ffi::CStr;
 
 /// Checks that each literal has the same value in rustc and in the package.
 macro_rules! same {
@@ -9,6 +12,31 @@ macro_rules! same {
         let value: $type = $literal;
         assert_eq!(literal.value::<$type>(), Ok(value), "{literal}");
     )*)*};
+}
+
+/// Checks that each quoted literal has the same value in rustc and in the package. `$of` returns rustc's value in the package's type.
+macro_rules! same_quoted {
+    ($($struct:ident, $of:expr, $($literal:literal)*;)*) => {$($(
+        let literal = $struct::parse(stringify!($literal)).unwrap();
+        assert_eq!(literal.value(), $of($literal), "{literal}");
+    )*)*};
+}
+
+#[test]
+#[allow(clippy::all, clippy::pedantic)]
+fn quoted_as_rustc_reads_them() {
+    same_quoted! {
+        LitStr, |it: &'static str| it, "" "'" "é€😀" "a\n\r\t\0\\\'\"" "\x00\x41\x7f" "\u{0}\u{e9}\u{1F_600}\u{10ffff}"
+            "\
+            a\
+            b" r"\n" r#"a"b"# r##""#"## "a
+b";
+        LitByteStr, |it: &'static [u8]| it, b"" b"a\xFF\0\n\"" b"\
+            a" br"\n" br#"a"b"#;
+        LitCStr, CStr::to_bytes, c"" c"é\xFF\u{e9}\n" cr"\n" cr#"a"b"#;
+        LitChar, char::from, 'a' '\'' '"' '\"' '\n' '\0' '\x7F' '\u{D7FF}' '\u{E000}' 'é' '😀';
+        LitByte, u8::from, b'a' b'\'' b'"' b'\\' b'\r' b'\x00' b'\xfF';
+    }
 }
 
 #[test]
