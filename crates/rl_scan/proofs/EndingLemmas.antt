@@ -42,13 +42,13 @@ keeps_same (Some xs) = refl
 pub ends_help : {B : Type 0} (wishes : Wishes) (lacks_input : Bool) (holds : Option World) (o0 o1 e : Option (List ℕ))
     (h : Option (List Replacement)) (text : List ℕ) (ending : Ending (CallError B)) → wishes.action ≡ Help
     → EndsText text o0 o1 ending → EndsAsked wishes lacks_input holds (written_on o0 o1 e e h h) ending
-ends_help wishes lacks_input holds o0 o1 e h text ending is ends = rw is (text, ends, keeps_same e, refl)
+ends_help wishes lacks_input holds o0 o1 e h text ending is ends = rw is (text, (ends, keeps_same e, refl))
 
 pub ends_version : {B : Type 0} (wishes : Wishes) (lacks_input : Bool) (holds : Option World)
     (o0 o1 e : Option (List ℕ)) (h : Option (List Replacement)) (text : List ℕ) (ending : Ending (CallError B))
     → wishes.action ≡ Version → EndsText text o0 o1 ending
     → EndsAsked wishes lacks_input holds (written_on o0 o1 e e h h) ending
-ends_version wishes lacks_input holds o0 o1 e h text ending is ends = rw is (text, ends, keeps_same e, refl)
+ends_version wishes lacks_input holds o0 o1 e h text ending is ends = rw is (text, (ends, keeps_same e, refl))
 
 pub ends_rules : {B : Type 0} (wishes : Wishes) (lacks_input : Bool) (holds : Option World) (o0 o1 e : Option (List ℕ))
     (h : Option (List Replacement)) (text : List ℕ) (ending : Ending (CallError B)) → wishes.action ≡ Rules
@@ -209,8 +209,8 @@ no_arguments B Scan wishes lacks_input holds streams ends =
     styled_arguments B wishes.style wishes lacks_input holds streams ends
 no_arguments B Files wishes lacks_input holds streams ends =
     styled_arguments B wishes.style wishes lacks_input holds streams ends
-no_arguments B Help wishes lacks_input holds streams (text, (never, begun), kept, same) = never
-no_arguments B Version wishes lacks_input holds streams (text, (never, begun), kept, same) = never
+no_arguments B Help wishes lacks_input holds streams (text, ((never, begun), kept, same)) = never
+no_arguments B Version wishes lacks_input holds streams (text, ((never, begun), kept, same)) = never
 no_arguments B Rules wishes lacks_input holds streams ((never, begun), kept, same) = never
 
 no_word : {B : Type 0} (error : ArgumentError B) (action : Action) (wishes : Wishes) (lacks_input : Bool) (holds : Option World)
@@ -219,8 +219,8 @@ no_word error Scan wishes lacks_input holds streams ends =
     styled_word error wishes.style wishes lacks_input holds streams ends
 no_word error Files wishes lacks_input holds streams ends =
     styled_word error wishes.style wishes lacks_input holds streams ends
-no_word error Help wishes lacks_input holds streams (text, (never, begun), kept, same) = never
-no_word error Version wishes lacks_input holds streams (text, (never, begun), kept, same) = never
+no_word error Help wishes lacks_input holds streams (text, ((never, begun), kept, same)) = never
+no_word error Version wishes lacks_input holds streams (text, ((never, begun), kept, same)) = never
 no_word error Rules wishes lacks_input holds streams ((never, begun), kept, same) = never
 
 pub call_asked : {A B : Type 0} (args : List (String A)) (console : Console) (holds : Option World) (streams : Streams)

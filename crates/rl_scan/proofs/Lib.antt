@@ -7,4 +7,5 @@ pub mod Handing
 pub mod VisitLemmas
 pub mod RestyleLemmas
 pub mod RunLemmas
+pub mod StatusLemmas
 pub mod EndingLemmas

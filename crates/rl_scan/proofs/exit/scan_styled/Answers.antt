@@ -7,10 +7,10 @@ use Rattle.rl_scan.proofs.exit.scan_styled.Goals as goal
 pub returns-in-Ok : goal.returns-in-Ok
 returns-in-Ok g c = ends_styled c.args.asked.command.style c.in-Some.file (wishes_in c.args.asked) c.args.lacks_input
     (g.T.Tree.holds c.args.tree.now) (written_on (g.W.Write.contents c.args.out.now)
-    (g.W.Write.contents c.scan_requested-in-Ok.new.out) (g.E.Write.contents c.args.err.now)
-    (g.E.Write.contents c.scan_requested-in-Ok.new.err) (g.F.Replace.handed c.args.files.now)
-    (g.F.Replace.handed c.scan_requested-in-Ok.new.files)) c.scan_requested-in-Ok.result c.in-Some.is
-    (inr (c.in-Ok.rules, c.in-Ok.ensures.rules, c.scan_requested-in-Ok.ensures))
+    (g.W.Write.contents c.scan_requested.new.out) (g.E.Write.contents c.args.err.now)
+    (g.E.Write.contents c.scan_requested.new.err) (g.F.Replace.handed c.args.files.now)
+    (g.F.Replace.handed c.scan_requested.new.files)) c.scan_requested.result c.in-Some.is
+    (inr (c.in-Ok.rules, c.in-Ok.ensures.rules, c.scan_requested.ensures))
 
 pub returns-in-Err : goal.returns-in-Err
 returns-in-Err g c = ends_styled c.args.asked.command.style c.in-Some.file (wishes_in c.args.asked) c.args.lacks_input
