@@ -34,8 +34,8 @@ abbrev pub IsNumberRead : List ℕ → Number → Type 0
 IsNumberRead text (Integer magnitude suffix) = IsIntegerRead text magnitude (chars suffix.now)
 IsNumberRead text (Float suffix) = IsFloatRead text (chars suffix.now)
 
--- The text isn't a literal token. Its longest prefix that can be completed to a literal token ends before the rest. The
--- flaw's kind describes the error there.
+-- `t` isn't a literal token. The flaw is at `rest`: the text before `rest` can be completed to a literal token, and no
+-- longer prefix can. `k` is the kind of flaw in a number.
 pub record IsStop (t : List ℕ) (k : FlawKind) (rest : List ℕ) : Type 0 where
   pub none : IsToken t → ⊥
   pub stops : StopsBefore IsToken t rest
