@@ -5,15 +5,16 @@ use Rattle.rl_strict.proofs.StrictSuffixFlaws.{Closer, FlawInside, SuffixSpoiled
 
 -- ---- the content of a raw string
 
--- The code's loop over a raw string has skipped allowed characters that contain no closing delimiter, and the rest follows.
+-- The code's loop over a raw string has skipped the text `body`, and has reached `rest`. `body` has only allowed characters,
+-- and no closing delimiter.
 record RawWalk (k : Kind) (hashes t rest : List ℕ) : Type 0 where
   body : List ℕ
   text_is : t ≡ body ++ rest
   each : list_all (is_raw_character k) body ≡ true
   none : NoCloser hashes body
 
--- The code's loop over a raw string's content stops at the beginning of the text: a closing delimiter, or a character that
--- isn't allowed.
+-- Whether the code's loop over a raw string's content stops at the beginning of the text: at a closing delimiter, or at a
+-- character that isn't allowed.
 abbrev pub ends_at : Kind → List ℕ → List ℕ → Bool
 ends_at k hashes [] = false
 ends_at k hashes (c ∷ cs) = (c == 34 && begins hashes cs) || not (is_raw_character k c)
@@ -116,8 +117,8 @@ many_hashes (suc m) (suc n) e r h =
     let less = many_hashes m n e r rest in
     omega (arith, less)
 
--- If hashes, a quote and a text close a raw string, the text passes the code's test of the content, the closing delimiter
--- and the suffix.
+-- If `n` hashes, a quote and the text `x` are a raw string after its prefix, `x` passes the code's test for the end of a raw
+-- string.
 raw_bad : (k : Kind) (n : ℕ) (x : List ℕ) → ClosesRaw k (replicate n 35 ++ (34 ∷ x)) → ends_raw k (replicate n 35) x
     ≡ true
 raw_bad k n x c =
@@ -164,7 +165,8 @@ hashes_characters : (m : ℕ) → AllByRecursion IsScalar (replicate m 35 ++ [])
 hashes_characters zero = tt
 hashes_characters (suc m) = (refl, hashes_characters m)
 
--- An unclosed raw string after its prefix: `n` hashes, a quote, the content, and the rest where the code's loop stops.
+-- The next lemmas are about a raw string after its prefix: `n` hashes, a quote and the text `inside`. The code's loop has
+-- skipped the content up to `rest`.
 module _ (k : Kind) (n : ℕ) (inside rest : List ℕ) (s : is_string k ≡ true) (few : n < 256)
     (w : RawWalk k (replicate n 35) inside rest) where
   abbrev hs : List ℕ
@@ -217,7 +219,7 @@ module _ (k : Kind) (n : ℕ) (inside rest : List ℕ) (s : is_string k ≡ true
     has = inl ((n, opened), e, refl);
   }
 
-  -- After a raw string's character that isn't allowed, no text closes the raw string.
+  -- A raw string that contains a character that isn't allowed can't be closed, whatever text follows the character.
   stuck_at : (c : ℕ) (cs : List ℕ) → rest ≡ c ∷ cs → is_raw_character k c ≡ false → (d : ℕ) (ds e : List ℕ) → rest
       ≡ d ∷ ds → ClosesRaw k (before ++ (d ∷ e)) → ⊥
   stuck_at c cs at not_held d ds e h y =
@@ -274,7 +276,8 @@ found_walk : (k : Kind) (n : ℕ) (hashes inside rest : List ℕ) → hashes ≡
 found_walk k n hashes inside rest e at = subst (RawWalk k (replicate n 35) inside)
     (sym (at ∙ ap (λ z. raw_stop k z inside) e)) (raw_walk k (replicate n 35) inside)
 
--- A flaw of a raw string stays its flaw if its kind, piece, hashes and rest are replaced by equal ones of the code.
+-- A flaw of a raw string stays its flaw after its kind, its hashes and its texts are replaced by equal ones that the code
+-- returned.
 as_found : (k : Kind) (f g : FlawKind) (n : ℕ) (hashes inside p q r z : List ℕ) → hashes ≡ replicate n 35 → f ≡ g
     → q ≡ p → z ≡ r → FlawInside RawForm k g (replicate n 35 ++ (34 ∷ inside)) p r
     → FlawInside RawForm k f (hashes ++ (34 ∷ inside)) q z

@@ -25,7 +25,7 @@ single_ends Byte h = refl
 single_ends Char h = refl
 single_ends kind h = absurd (cc)
 
--- One character or escape is the right number for a character or byte literal.
+-- A character or byte literal may contain one character or escape.
 single_count : (k : Kind) (u : StrictUnit) → is_single k ≡ true → HasUnits k (u ∷ [])
 single_count Byte u h = refl
 single_count Char u h = refl
@@ -52,20 +52,20 @@ pub passes_front : (test : ℕ → Bool) (a b : List ℕ) → first_passes test 
 passes_front test [] b h = refl
 passes_front test (c ∷ cs) b h = h
 
--- If the first character of each of two texts fails a test, so does that of the concatenated text.
+-- If the first characters of two texts fail a test, the first character of the joined text fails the test too.
 pub passes_seam : (test : ℕ → Bool) (a b : List ℕ) → first_passes test a ≡ false → first_passes test b ≡ false
     → first_passes test (a ++ b) ≡ false
 passes_seam test [] b h k = k
 passes_seam test (c ∷ cs) b h k = h
 
--- An escaped line end skips white space. If a text may follow an escaped line end, each prefix of the text may follow it
--- too.
+-- If a text may follow a character or escape, each prefix of the text may follow it too. A text that may follow an escaped
+-- line end doesn't begin with white space.
 may_end_front : (u : StrictUnit) (a b : List ℕ) → MayEnd u (a ++ b) → MayEnd u a
 may_end_front (LineBreak blanks) a b m = passes_front is_dropped_blank a b m
 may_end_front other a b m = tt
 
--- An escaped line end skips white space. If characters and escapes may follow an escaped line end, they may also follow it
--- with a text after them that doesn't begin with white space.
+-- The text after an escaped line end must not begin with white space. This stays true if a text that doesn't begin with
+-- white space is appended to the characters and escapes after the escaped line end.
 may_end_seam : (u : StrictUnit) (us : List StrictUnit) (b : List ℕ) → first_passes is_dropped_blank b ≡ false
     → BlanksEnd (u ∷ us) → MayEnd u (flat_map strict_text us ++ b)
 may_end_seam (LineBreak blanks) us b n m = passes_seam is_dropped_blank (flat_map strict_text us) b m.0 n
@@ -142,8 +142,8 @@ row_up k t r s f c =
 pub quoted_string : (k : Kind) → is_string k ≡ true → HasStrictUnits k
 quoted_string k h = string_count k (Itself 0 ∷ []) h
 
--- In the loop over characters and escapes, each iteration preserves this: the remaining text ends a string if and only if
--- the whole text does.
+-- Each iteration of the loop over characters and escapes preserves the loop's invariant: the remaining text ends a string if
+-- and only if the whole text does.
 pub units_step : (k : Kind) (t r s : List ℕ) → is_string k ≡ true → unit_rest k t ≡ Some r
     → (ClosesUnits k t ↔ ClosesUnits k s) → ClosesUnits k r ↔ ClosesUnits k s
 units_step k t r s h e same = (
@@ -176,8 +176,8 @@ stuck_down k t x [] s h each b i e = ap (ends_quoted 34) e ∙ quote_complete 34
 stuck_down k t x (u ∷ us) s h each b i e = absurd (let n : None ≡ Some (flat_map strict_text us ++ (34 ∷ x)) = sym h
     ∙ row_after k u us 34 x t each b refl e in (cc))
 
--- If no further character or escape of a string follows, the whole text ends a string if and only if a quote and a suffix
--- follow.
+-- Where the loop over characters and escapes stops, a closing quote and a suffix follow if and only if the whole text ends a
+-- string.
 pub units_end : (k : Kind) (b : Bool) (t s : List ℕ) → is_string k ≡ true → unit_rest k t ≡ None
     → (ClosesUnits k t ↔ ClosesUnits k s) → b ≡ ends_quoted 34 t → IsTrue b ↔ ClosesUnits k s
 units_end k b t s h e same is = (

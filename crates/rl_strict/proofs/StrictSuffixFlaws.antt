@@ -5,15 +5,16 @@ use Rattle.rl_strict.proofs.Stops.{Flawed, Stops, lifted, stops_before}
 
 -- ---- the first characters of a suffix
 
--- A text is the first characters of a suffix, and a rest that doesn't continue the suffix.
+-- `t` is the first characters of a suffix, followed by `rest`. The suffix doesn't continue with the first character of
+-- `rest`.
 pub record SuffixCut (t rest : List ℕ) : Type 0 where
   pub front : List ℕ
   pub text_is : t ≡ front ++ rest
   pub is_front : is_suffix_front front ≡ true
   pub ends : goes_on_with_suffix front rest ≡ false
 
--- `suffix_rest` returns the text after the first characters of a suffix. The text that it returns doesn't continue the
--- suffix.
+-- `suffix_rest` returns the text after the first characters of a suffix. The suffix doesn't continue with the first
+-- character of the returned text.
 pub suffix_cut : (t : List ℕ) → SuffixCut t (suffix_rest t)
 unfolding suffix_rest
 suffix_cut [] = record { front = []; text_is = refl; is_front = refl; ends = refl }
@@ -28,7 +29,7 @@ suffix_cut (c ∷ cs) = go (is_start c) refl
     }
     go false e = record { front = []; text_is = refl; is_front = refl; ends = e }
 
--- Whether the rest of a text continues a suffix depends only on the rest's first character.
+-- Whether a text continues the first characters of a suffix depends only on the text's first character.
 pub goes_on_first : (x cs e : List ℕ) (c : ℕ) → goes_on_with_suffix x (c ∷ cs) ≡ false → goes_on_with_suffix x (c ∷ e)
     ≡ false
 goes_on_first [] cs e c h = h
@@ -40,8 +41,7 @@ goes_on_first (d ∷ ds) cs e c h = h
 letter_continues : is_continue 97 ≡ true
 letter_continues = and_from (is_xid_continue 97) (not (is_white 97)) (is_xid_continue-ascii 97 (omega arith)) refl
 
--- The ending that completes the first characters of a suffix to a suffix: the letter `a`, or no ending if there are no first
--- characters.
+-- The ending that completes the first characters of a suffix to a suffix: the letter `a`. An empty text needs no ending.
 pub suffix_ending : List ℕ → List ℕ
 suffix_ending [] = []
 suffix_ending (c ∷ cs) = 97 ∷ []
@@ -67,7 +67,7 @@ suffix_begins (c ∷ cs) h =
     ∙ and_from (list_all is_continue cs) (list_all is_continue (97 ∷ [])) p.1
     (and_from (is_continue 97) true letter_continues refl))
 
--- If the first characters of a suffix are not a suffix by themselves, they are `_`.
+-- The only first characters of a suffix that aren't a suffix by themselves are `_`.
 pub only_underscore : (x : List ℕ) → is_suffix_front x ≡ true → is_strict_suffix x ≡ false → x ≡ 95 ∷ []
 unfolding is_strict_suffix
 only_underscore [] h n = absurd (cc)
@@ -100,8 +100,8 @@ no_start_no_suffix c e h =
           (ap (λ b. cond b (is_some_text e) (is_start c)) a ∙ h)
     ]
 
--- If a character doesn't continue the first characters of a suffix, no suffix begins with these characters and the
--- character.
+-- Let `c` be a character that can't continue the first characters `x` of a suffix. No text that begins with `x` and `c` is a
+-- suffix.
 pub suffix_stuck : (x : List ℕ) (c : ℕ) (e : List ℕ) → goes_on_with_suffix x (c ∷ e) ≡ false
     → is_strict_suffix (x ++ (c ∷ e)) ≡ false
 unfolding is_strict_suffix

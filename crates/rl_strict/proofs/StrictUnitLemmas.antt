@@ -20,7 +20,7 @@ escape_front k t u r e h = record { unit = e.unit; is_unit = e.is_unit; may_end 
 abbrev is_backslash : ℕ → Bool
 is_backslash c = c == 92
 
--- The text after its first character.
+-- The text without its first character.
 abbrev following : List ℕ → List ℕ
 following [] = []
 following (c ∷ cs) = cs

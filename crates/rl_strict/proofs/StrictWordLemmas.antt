@@ -46,7 +46,7 @@ strict_suffix_complete (c ∷ cs) (inr w) =
     (word_front c cs (and_from (c == 95 || is_xid_start c) (not (is_white c)) p.0 q.0) w.not_underscore)
     (all_both is_xid_continue (λ c. not (is_white c)) cs p.1 q.1)
 
--- The text after its first character.
+-- The text without its first character.
 abbrev following : List ℕ → List ℕ
 following [] = []
 following (c ∷ cs) = cs
