@@ -31,8 +31,7 @@ form_flaw t form kind inside k piece rest h s =
       says = inl (strict_quoted_has t form kind inside k piece rest h s.has);
     }
 
--- The parse result of a string, which is the byte offsets of its parts, is the result of `find`, which parses by `syn`'s
--- grammar.
+-- If `body` has the byte offsets of a string's parts, it is the result of `parse_literal` for the string.
 pub text_found : (t : List ℕ) (kind : Kind) (body : Body) → is_string kind ≡ true → IsUtf8 t → IsQuotedAt kind t body
     → IsFound t (OfUnit kind body 0)
 text_found t kind body s u q = quoted_found t kind body 0 (OfUnit kind body 0) u q (no_unit kind q.value s) refl

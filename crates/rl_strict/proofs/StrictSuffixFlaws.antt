@@ -115,8 +115,8 @@ hash_no_start = and_left (35 == 95 || is_xid_start 35) (not (is_white 35)) (is_x
 
 -- ---- the flaw after a closing delimiter
 
--- The text after a closing delimiter isn't a suffix. Its longest prefix that can be completed to a suffix ends before the
--- rest, and the flaw's kind describes the error.
+-- The text `t` after a closing delimiter has a flaw of the kind `k` at `rest`. The text before `rest` can be completed to a
+-- suffix, and no longer prefix can.
 pub record SuffixSpoiled (form : QuotedForm) (k : FlawKind) (t rest : List ℕ) : Type 0 where
   pub stops : Stops (λ x. is_strict_suffix x ≡ true) (λ x. is_strict_suffix x ≡ false) t rest
   pub spoils : SuffixFlaw form k stops.front rest
@@ -144,8 +144,8 @@ hash_spoils form t h =
       spoils = (p.0, refl, p.1);
     }
 
--- If the rest doesn't continue a suffix, the longest prefix of the text that can be completed to a suffix ends before the
--- rest.
+-- If the first characters of a suffix don't continue with `rest`, they are the longest prefix of the text that can be
+-- completed to a suffix.
 cut_stops : (t rest : List ℕ) (k : SuffixCut t rest)
     → Stops (λ x. is_strict_suffix x ≡ true) (λ x. is_strict_suffix x ≡ false) t rest
 cut_stops t rest k = record {
@@ -167,8 +167,8 @@ abbrev pub Judges : QuotedForm → List ℕ → Option FoundFlaw → Type 0
 Judges form t None = is_strict_suffix t ≡ true
 Judges form t (Some f) = (is_strict_suffix t ≡ false) × SuffixSpoiled form f.0 t f.1
 
--- The code's result for a suffix is correct, if no further hash follows the closing delimiter: no flaw, or the flaw at the
--- end of the suffix's first characters.
+-- Unless one more hash follows a raw string's closing delimiter, the result of `suffix_end_read` is correct: no flaw, or the
+-- flaw at the end of the suffix's first characters.
 judged_end : (form : QuotedForm) (t rest : List ℕ) → SuffixCut t rest → begins_hash form t ≡ false
     → Judges form t (suffix_end_read form t rest)
 unfolding cut_stops is_strict_suffix
@@ -221,19 +221,20 @@ suffix_judged form t = go (begins_hash form t) refl
 
 -- ---- the flaw of a suffix is a flaw of the whole literal
 
--- The text after an opening delimiter isn't the end of a literal, and has the flaw with this kind, piece and rest.
+-- The text `inside` after an opening delimiter has a flaw of the kind `k` at `rest`. The text to show for the flaw begins at
+-- `piece`.
 abbrev pub FlawInside : QuotedForm → Kind → FlawKind → List ℕ → List ℕ → List ℕ → Type 0
 FlawInside form kind k inside piece rest =
     Flawed (ClosesForm form kind) inside rest (StrictQuotedFlaw form kind k inside piece rest)
 
--- A flaw of a quoted literal stays its flaw if its kind, piece and rest are replaced by equal ones.
+-- A flaw of a quoted literal stays its flaw after its kind and its texts are replaced by equal ones.
 pub same_flaw : (form : QuotedForm) (kind : Kind) (k l : FlawKind) (inside p q r z : List ℕ) → k ≡ l → q ≡ p → z ≡ r
     → FlawInside form kind l inside p r → FlawInside form kind k inside q z
 same_flaw form kind k l inside p q r z is piece place h = subst (λ y. FlawInside form kind y inside q z) (sym is) (subst
     (λ y. FlawInside form kind l inside y z) (sym piece) (subst (FlawInside form kind l inside p) (sym place) h))
 
--- The text from the end of an opening delimiter to the end of the closing delimiter. With a suffix after this text the
--- literal is closed, and with any other text it isn't.
+-- `before` is a quoted literal without its opening delimiter and its suffix. With the text `x` after `before`, the literal
+-- is valid if and only if `x` is a suffix.
 pub record Closer (form : QuotedForm) (kind : Kind) : Type 0 where
   pub before : List ℕ
   pub good : (x : List ℕ) → is_strict_suffix x ≡ true → ClosesForm form kind (before ++ x)

@@ -1,7 +1,7 @@
 -- The suffixes of literals in Rust's grammar are the texts that pass the code's tests.
 use Rattle.rl_strict.proofs.Names.{◌≡◌, ◌≢◌, ℕ, ◌||◌, ◌&&◌, Bool, true, not, ◌==◌, cond, List, [], ◌∷◌, refl, ap, subst, sym, ◌∙◌, inl, inr, and_from, and_parts, both_ways, cases_Bool, eqb-true, not-true, not_from_false, list_all, is_xid_start, is_xid_continue, is_underscore, first_passes, IsStrictSuffix, IsWord, is_white, is_continue, is_start, IsNumberSuffix, is_number_suffix, is_strict_suffix, is_some_text}
 
--- Characters that pass each of two tests pass both tests at once.
+-- If all characters of a text pass two tests, all of them pass the conjunction of the tests.
 pub all_both : (f g : ℕ → Bool) (cs : List ℕ) → list_all f cs ≡ true → list_all g cs ≡ true
     → list_all (λ c. f c && g c) cs ≡ true
 all_both f g [] h k = refl
@@ -10,7 +10,7 @@ all_both f g (c ∷ cs) h k =
     let q = and_parts (g c) (list_all g cs) k in
     and_from (f c && g c) (list_all (λ c. f c && g c) cs) (and_from (f c) (g c) p.0 q.0) (all_both f g cs p.1 q.1)
 
--- Characters that pass two tests at once pass each of them.
+-- If all characters of a text pass the conjunction of two tests, all of them pass each test.
 pub all_apart : (f g : ℕ → Bool) (cs : List ℕ) → list_all (λ c. f c && g c) cs ≡ true → (list_all f cs ≡ true)
     × (list_all g cs ≡ true)
 all_apart f g [] h = (refl, refl)

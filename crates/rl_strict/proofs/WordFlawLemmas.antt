@@ -46,7 +46,7 @@ other_first c cs t f v x r = go r.truth r.text_is
 
 -- ---- common prefixes with the words `true` and `false`
 
--- The common prefix of a text and a word, and the remaining part of each.
+-- `front` is the longest common prefix of the text `t` and the word. `left` is the end of the word after `front`.
 record Common (word t : List ℕ) : Type 0 where
   front : List ℕ
   left : List ℕ
