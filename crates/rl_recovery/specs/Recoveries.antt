@@ -56,7 +56,8 @@ abbrev pub lines_after : List ℕ → Option (List ℕ)
 lines_after t =
     if begins (codes "/*") t then None else from_line_end (begins_character t) false (drop 1 t)
 
--- Lexing resumes at `lines`, an end of the text. This end is lexed as a source of its own. None of its tokens are lexed yet.
+-- Lexing resumes at `lines`, an end of the text. The cursor lexes `lines` as a source of its own, and hasn't consumed any
+-- token of `lines` yet.
 pub record TakesUp (text lines : List ℕ) (part : CursorState) : Type 0 where
   pub following : IsTail text part.text
   pub lines_are : chars part.text ≡ lines
@@ -79,7 +80,7 @@ pub record StopsAt (rest : List ℕ) (old : RecoveryState) (e : LexError) (new :
   pub goes_on : TakesUpAfter rest new.part
   pub same : new.whole ≡ old.whole
 
--- The error `e` is the first error in the part of the text that the cursor reads.
+-- The error `e` is the next error of the source. The tokens before the error aren't literals.
 pub record ReportsUnclosed (old : RecoveryState) (e : LexError) (new : RecoveryState) : Type 0 where
   pub at : CursorState
   pub passes : PassesTo old.part at

@@ -68,7 +68,7 @@ pub fn split_first_char(ends: LineEnds, text: &str) -> Option<(char, &str)>
     }
 }
 
-/// Returns the text after the white space at its beginning that an escaped line end skips.
+/// Returns the text after the white space that an escaped line end skips. `text` is the text after the line end.
 fn skip_blanks(ends: LineEnds, text: &str) -> &str
     ensures read { read_of ends (chars result.now) ≡ after_run is_dropped_blank (read_of ends (chars text.now)) }
     ensures rest { IsRestOf ends (chars text.now) (chars result.now) }
@@ -104,8 +104,8 @@ fn skip_escape(ends: LineEnds, kind: Kind, text: &str, at: usize) -> Option<&str
     Some(rest)
 }
 
-/// Returns the text after the escape at its beginning, or after a CR LF in a file. The result is `None` if the text begins with
-/// neither.
+/// Skips an escape at the beginning of the text, or a CR LF in a file, and returns the text after it. The result is `None`
+/// if the text begins with neither.
 #[inline(always)]
 fn skip_escaped(ends: LineEnds, kind: Kind, text: &str) -> Option<&str>
     requires string { IsTrue (is_string kind) }
@@ -124,7 +124,8 @@ fn skip_escaped(ends: LineEnds, kind: Kind, text: &str) -> Option<&str>
     }
 }
 
-/// Returns the text after the unescaped characters at its beginning that a string of the kind `kind` may contain.
+/// Skips the unescaped characters at the beginning of the text that a string of the kind `kind` may contain, and returns the
+/// text after them.
 #[inline(always)]
 fn skip_bare(ends: LineEnds, kind: Kind, text: &str) -> &str
     requires { IsTrue (is_string kind) }
@@ -137,8 +138,8 @@ fn skip_bare(ends: LineEnds, kind: Kind, text: &str) -> &str
     rest
 }
 
-/// Returns the text after the characters and escapes at its beginning. If the caller passes a constant kind, the loop is
-/// compiled for that kind.
+/// Skips the characters and escapes at the beginning of the text, and returns the text after them. If the caller passes a
+/// constant kind, the loop is compiled for that kind.
 #[inline(always)]
 fn skip_units_of(ends: LineEnds, kind: Kind, text: &str) -> &str
     requires { IsTrue (is_string kind) }
@@ -153,8 +154,8 @@ fn skip_units_of(ends: LineEnds, kind: Kind, text: &str) -> &str
     rest
 }
 
-/// Returns the text after the characters and escapes at its beginning, where the text isn't from a file. Plain strings have
-/// their own loop, compiled for their kind.
+/// Skips the characters and escapes at the beginning of a text that isn't from a file, and returns the text after them.
+/// Plain strings have their own loop, compiled for their kind.
 #[inline(never)]
 fn skip_text_units(kind: Kind, text: &str) -> &str
     requires { IsTrue (is_string kind) }
@@ -168,7 +169,7 @@ fn skip_text_units(kind: Kind, text: &str) -> &str
     }
 }
 
-/// Returns the text after the characters and escapes at its beginning, where the text is from a file.
+/// Skips the characters and escapes at the beginning of a text from a file, and returns the text after them.
 #[inline(never)]
 fn skip_file_units(kind: Kind, text: &str) -> &str
     requires { IsTrue (is_string kind) }
@@ -179,7 +180,8 @@ fn skip_file_units(kind: Kind, text: &str) -> &str
     skip_units_of(LineEnds::File, kind, text)
 }
 
-/// Returns the text after the characters and escapes at its beginning. Each value of `ends` has its own compiled loop.
+/// Skips the characters and escapes at the beginning of the text, and returns the text after them. Each value of `ends` has
+/// its own compiled loop.
 #[inline(always)]
 pub(crate) fn skip_units(ends: LineEnds, kind: Kind, text: &str) -> &str
     requires { IsTrue (is_string kind) }

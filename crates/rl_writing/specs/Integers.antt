@@ -25,7 +25,8 @@ suffix_text None = []
 unfoldable pub numeral : ℕ → Bool → ℕ → List ℕ
 numeral base upper n = digits_onto (suc n) base upper n []
 
--- Whether an underscore follows a digit that has `left` digits after it, in groups of `size` digits.
+-- Whether an underscore follows a digit of a number that is written in groups of `size` digits. `left` digits come after
+-- this digit.
 abbrev pub is_digit_group_end : ℕ → ℕ → Bool
 is_digit_group_end size left = nat_lt 0 size && nat_lt 0 left && left % size == 0
 

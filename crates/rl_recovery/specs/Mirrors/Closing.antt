@@ -34,8 +34,9 @@ abbrev pub IsIncluded : Unclosed → Opener → Type 0
 IsIncluded known Quoted = IsTrue known.quoted
 IsIncluded known (Raw n) = IsSomeAnd known.raw (λ least. least ≤ n)
 
--- The state of a cursor over a source is valid. The part that is lexed is an end of the source, and the rest is an end of the
--- part. The opening delimiters of the set have no closing delimiter in the rest.
+-- The state of a cursor over the source `whole` is valid. `part` is the text from the position at which lexing last resumed,
+-- and an end of `whole`. `rest` is the text that isn't lexed yet, and an end of `part`. The opening delimiters in the set
+-- `known` have no closing delimiter in `rest`.
 pub record IsRecoveryState (whole part rest : List ℕ) (known : Unclosed) : Type 0 where
   pub is_text : IsUtf8 whole
   pub in_whole : IsTail whole part

@@ -34,15 +34,16 @@ pub enum Reading {
 /// How a text begins. The first bytes identify most literals, and the function that parses each of them.
 #[derive(Clone, Copy)]
 pub enum Front<'t> {
-    /// The text begins with `"`, and this is the text after it. [`read_string`] parses the text.
+    /// The text begins with `"`, and this field is the text after the `"`. [`read_string`] parses the text.
     Quote(&'t str),
     /// The text is this ASCII character, unescaped, between single quotes, for example `'a'`.
     Bare(u8),
-    /// The text begins with `'`, and this is the text after it. [`read_character`] parses the text.
+    /// The text begins with `'`, and this field is the text after the `'`. [`read_character`] parses the text.
     Apostrophe(&'t str),
     /// The text begins with a digit. [`read_unsigned_number`] parses the text.
     Digit,
-    /// The text begins otherwise. [`read_non_digit_start`] parses the text.
+    /// The text is empty, or begins with a character other than a quote and a digit. [`read_non_digit_start`] parses the
+    /// text.
     Other,
 }
 
