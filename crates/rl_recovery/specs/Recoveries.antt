@@ -25,7 +25,7 @@ token_of_whole t l =
     let before = length t.whole - length t.part.text in
     record { form = l.form; text = l.text; lo = before + l.lo; hi = before + l.hi }
 
--- The literal `l` is the next literal of the part of the text that the cursor reads.
+-- The literal `l` is the next literal that the cursor reads.
 pub record TakesLiteral (old : RecoveryState) (l : SourceToken) (new : RecoveryState) : Type 0 where
   pub token : SourceToken
   pub takes : TakesLiteralAfter old.part token new.part
@@ -92,7 +92,7 @@ pub record EndsAfter (old new : RecoveryState) : Type 0 where
   pub ends : new.part.rest ≡ []
   pub same : new.whole ≡ old.whole
 
--- The result of reading the next literal, and the cursor's next state: the text's end, a literal with its parse result, or an
+-- A cursor's step from the state `old` to the state `new` returns the text's end, a literal with its parse result, or an
 -- error.
 abbrev pub StepsRecovery : RecoveryState → SourceStep → RecoveryState → Type 0
 StepsRecovery old End new = EndsAfter old new

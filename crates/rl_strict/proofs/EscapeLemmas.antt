@@ -210,8 +210,8 @@ grown v n few small bad =
     rw low (and_from (leb 57344 (v * 16 + 1)) (ltb (v * 16 + 1) 1114112) (le-leb 57344 (v * 16 + 1) (omega arith))
     (lt-ltb (v * 16 + 1) 1114112 (omega arith)))
 
--- The number `v` may be that of the first `n` digits of a `\u{..}` escape. The kind allows such escapes, and `n` is at most
--- 6. After six digits, the kind must allow the code point `v`.
+-- `v` may be the number that the first `n` digits of a `\u{..}` escape represent. The kind allows such escapes, and `n` is
+-- at most 6. If `n` is 6, the kind allows the code point `v`.
 pub record Spelled (kind : Kind) (v n : ℕ) : Type 0 where
   pub unicode : allows_unicode_escapes kind ≡ true
   pub few : n ≤ 6

@@ -153,7 +153,7 @@ signed_past t (Integer None k) at y e =
     ])
 signed_past t r at y e = absurd (cc)
 
--- A text whose parse result isn't an integer with the magnitude `None` isn't an integer above 128 bits.
+-- The parse result of an integer above 128 bits is an integer with the magnitude `None`.
 pub signed_within : (t : List ℕ) (r : Reading) → IsSignedRead t r → oversized_suffix_at r ≡ None → IsPast (chars t) → ⊥
 signed_within t r y e p = read_within (chars t) (reading t r y e) p
   where

@@ -1,5 +1,5 @@
--- A literal's text in a file has at most one flaw. Each byte offset in the text with CR LF read as LF is exactly one byte
--- offset in the file.
+-- A literal's text in a file has at most one flaw. Each byte offset in the text with CR LF read as LF corresponds to exactly
+-- one byte offset in the file.
 use Rattle.rl_strict.proofs.Names.{◌≡◌, ℕ, ◌<◌, ◌==◌, Bool, false, true, not, List, [], ◌∷◌, ◌++◌, length, refl, sym, ap, subst, ◌∙◌, inl, inr, arith, and-false, length-le-encodes, byte_len, byte_len-append, Flaw, ExplainsInFile, ExplainsSignedInFile, ExplainsSignedValueInFile, ExplainsValueInFile, IsPlaceInFile, is_dropped, is_seam, lf_text, IsExplainedOnce, IsSignedToken}
 use Rattle.rl_strict.proofs.FileStrings.{signed_same}
 use Rattle.rl_strict.proofs.FileTextLemmas.{by_first, seam_text, when_dropped, when_kept}
@@ -68,7 +68,7 @@ not_longer t read at other p q c more e h =
     ap (λ z. byte_len (lf_text z)) e in
     omega (arith, less, longer, p.read_is, q.read_is)
 
--- A byte offset in the text with CR LF read as LF is exactly one byte offset in the text as written.
+-- A byte offset in the text with CR LF read as LF corresponds to exactly one byte offset in the text as written.
 pub place_once : (t : List ℕ) (r s at other : ℕ) → r ≡ s → IsPlaceInFile t r at → IsPlaceInFile t s other → at ≡ other
 place_once t r s at other same p other_place =
     let q = subst (λ z. IsPlaceInFile t z other) (sym same) other_place in

@@ -168,7 +168,7 @@ unit_left k t r u = ap (unit_rest k) u.text_is ∙ unit_rest_complete k u.unit r
 
 -- ---- the text after a closing delimiter
 
--- Whether the text is empty, as the text between a closing delimiter and one more hash.
+-- Whether the text is empty. No text is between a closing delimiter and one more hash.
 empty_front : List ℕ → Bool
 empty_front [] = true
 empty_front (c ∷ cs) = false

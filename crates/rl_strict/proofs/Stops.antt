@@ -36,8 +36,8 @@ unfoldable pub stops_before : (takes : List ℕ → Type 0) (t rest : List ℕ) 
     → StopsBefore takes t rest
 stops_before takes t rest s = record { front = s.front; text_is = s.text_is; begins = s.begins; stuck = s.stuck }
 
--- `StopsBefore` stays true if the text `pre` is put before the text, and the predicate `more` replaces `takes`. For a text
--- with `pre`, `more` must agree with `takes` for the text without `pre`.
+-- `StopsBefore` stays true if the text `pre` is put before the text, and the predicate `more` replaces `takes`. `more` must
+-- hold for a text with `pre` where `takes` holds for the text without `pre`, and nowhere else.
 unfoldable pub raised : (takes more : List ℕ → Type 0) (pre t rest : List ℕ) (s : StopsBefore takes t rest) → (takes
     (s.front ++ s.begins.ending) → more (pre ++ (s.front ++ s.begins.ending))) → ((c : ℕ) (cs e : List ℕ) → rest ≡ c ∷
     cs → more (pre ++ (s.front ++ (c ∷ e))) → takes (s.front ++ (c ∷ e))) → StopsBefore more (pre ++ t) rest

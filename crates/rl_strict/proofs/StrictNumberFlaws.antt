@@ -34,7 +34,7 @@ no_end [] b e = e
 no_end (c ∷ cs) b e = absurd (cc)
 
 -- If the first character of a text fails a test, the first character of a completed prefix of the text fails the test too.
--- An empty prefix must be completed by no ending.
+-- The ending that completes an empty prefix must be empty.
 begins_so : (first : ℕ → Bool) (front rest ending t : List ℕ) → t ≡ front ++ rest → (front ≡ [] → ending ≡ [])
     → first_passes first t ≡ false → first_passes first (front ++ ending) ≡ false
 begins_so first [] rest ending t e fits h = ap (first_passes first) (fits refl)

@@ -257,8 +257,8 @@ more_hashes (suc m) (suc n) a b e q =
     let p = more_hashes m n a b (ap (drop 1) e) q in
     (omega (arith, p.0), p.1)
 
--- Let a text begin with `m` hashes, at most 255, and let neither a quote nor, below 255, one more hash follow them. Then the
--- text isn't at most 255 hashes and a quote.
+-- Skip the hashes at the beginning of a text, but at most 255. If no quote follows them, the text doesn't begin with at most
+-- 255 hashes and a quote.
 pub raw_unopened : (inside quote : List ℕ) (m : ℕ) → m ≤ 255 → inside ≡ replicate m 35 ++ quote
     → (m < 255 → first_passes is_hash quote ≡ false) → first_passes (λ c. c == 34) quote ≡ false
     → (n : ℕ) (opened : List ℕ) → n ≤ 255 → inside ≡ replicate n 35 ++ (34 ∷ opened) → ⊥

@@ -64,8 +64,8 @@ may_end_front : (u : StrictUnit) (a b : List ℕ) → MayEnd u (a ++ b) → MayE
 may_end_front (LineBreak blanks) a b m = passes_front is_dropped_blank a b m
 may_end_front other a b m = tt
 
--- The text after an escaped line end must not begin with white space. This stays true if a text that doesn't begin with
--- white space is appended to the characters and escapes after the escaped line end.
+-- Let the characters and escapes after an escaped line end not begin with white space. With a text appended that doesn't
+-- begin with white space, they still don't begin with white space.
 may_end_seam : (u : StrictUnit) (us : List StrictUnit) (b : List ℕ) → first_passes is_dropped_blank b ≡ false
     → BlanksEnd (u ∷ us) → MayEnd u (flat_map strict_text us ++ b)
 may_end_seam (LineBreak blanks) us b n m = passes_seam is_dropped_blank (flat_map strict_text us) b m.0 n

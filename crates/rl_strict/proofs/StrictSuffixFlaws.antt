@@ -67,7 +67,7 @@ suffix_begins (c ∷ cs) h =
     ∙ and_from (list_all is_continue cs) (list_all is_continue (97 ∷ [])) p.1
     (and_from (is_continue 97) true letter_continues refl))
 
--- The only first characters of a suffix that aren't a suffix by themselves are `_`.
+-- The beginning of a suffix is a suffix itself, unless it is `_`.
 pub only_underscore : (x : List ℕ) → is_suffix_front x ≡ true → is_strict_suffix x ≡ false → x ≡ 95 ∷ []
 unfolding is_strict_suffix
 only_underscore [] h n = absurd (cc)

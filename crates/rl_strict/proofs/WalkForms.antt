@@ -23,7 +23,7 @@ flaw_read how f = found_flaw f.kind (read_of how (chars f.rest.now))
 
 -- ---- the text after the closing delimiter
 
--- If the code finds no flaw after a closing delimiter, the text there is a suffix, also if CR LF is read as LF.
+-- A text after a closing delimiter in which the code finds no flaw is a suffix, also with CR LF read as LF.
 judged_none : (how : LineEnds) (form : QuotedForm) (t : List ℕ) → None ≡ suffix_read_at form t → Judges form (read_of how t) None
 judged_none how form t e = judged_by form (read_of how t) None (sym (suffix_of how form t ∙ ap (option_map (read_flaw how)) (sym e)))
 
@@ -58,8 +58,8 @@ after_closer how form k whole t closing suffix f r q e piece says = record {
       (step_in how closing suffix (chars f.rest.now) q (suffix_in how form suffix (flaw_of f) e));
 }
 
--- If a text begins with a quote, it still does if CR LF is read as LF, and the text after the quote doesn't begin between a
--- CR and an LF.
+-- A text that begins with a quote still begins with the quote after CR LF is read as LF. The text after the quote doesn't
+-- begin between a CR and its LF.
 pub quote_read : (how : LineEnds) (t suffix : List ℕ) (q : ℕ) → t ≡ q ∷ suffix → (q == 13) ≡ false → (read_of how t ≡ q ∷ read_of how suffix)
     × IsRestOf how t suffix
 quote_read how t suffix q e h =

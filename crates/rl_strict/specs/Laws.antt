@@ -67,9 +67,9 @@ ABadQuoteIsNoToken =
     (quote : BadQuote) (after : List ℕ) → IsSource (BadQuoteToken quote) after
     → IsToken (bad_quote_text quote) → ⊥
 
--- A literal's text in a file, where rustc reads CR LF as LF, has at most one flaw that explains why it isn't a literal token.
--- Each byte offset in the text as rustc reads it is one byte offset in the file. `read` with `LineEnds::File` returns this
--- flaw.
+-- A literal's text in a file, where rustc reads CR LF as LF, has at most one flaw that explains why it isn't a literal
+-- token. Each byte offset in the text as rustc reads it corresponds to one byte offset in the file. `read` with
+-- `LineEnds::File` returns this flaw.
 abbrev pub ATextInAFileHasOneFlaw : Type 0
 ATextInAFileHasOneFlaw = (text : List ℕ) → IsExplainedOnce ExplainsInFile text
 

@@ -271,7 +271,7 @@ fn signed_at(text: &str, ends: LineEnds, signed: bool) -> Result<Reading, FlawAt
     }
 }
 
-/// Returns the text after its first character, or an empty text. In a file a CR LF is one character.
+/// Returns `text` without its first character, or an empty text if `text` is empty. In a file, a CR LF is one character.
 #[tactic(auto, using(rl_syntax::proofs::TailLemmas::tail_step, rl_syntax::proofs::TailLemmas::tail_self))]
 pub fn skip_first_char(ends: LineEnds, text: &str) -> &str
     ensures rest { IsRestOf ends (chars text.now) (chars result.now) }

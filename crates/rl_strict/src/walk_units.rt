@@ -17,7 +17,7 @@ use rl_syntax::Kind;
 use rl_syntax::classes::{CharClass, skip_class};
 use rl_syntax::text::{ascii_at, split_char, strip_byte};
 
-/// Returns the text after a CR LF at its beginning, or `None` if it begins otherwise.
+/// Returns the text after a CR LF at the beginning of `text`, or `None` if `text` doesn't begin with CR LF.
 #[inline(always)]
 fn after_cr_lf(text: &str) -> Option<&str>
     ensures some { IfSome result (λ rest. chars text.now ≡ code "\r" ∷ code "\n" ∷ chars rest.now) }
@@ -30,7 +30,8 @@ fn after_cr_lf(text: &str) -> Option<&str>
     strip_byte(line_feed, b'\n')
 }
 
-/// Returns the text after a CR LF at its beginning if the text is from a file, and `None` otherwise.
+/// Returns the text after a CR LF at the beginning of `text`. Returns `None` if `text` isn't from a file, or doesn't begin
+/// with CR LF.
 #[inline(always)]
 fn after_line_end(ends: LineEnds, text: &str) -> Option<&str>
     ensures read { IfSome result (λ rest. read_of ends (chars text.now) ≡ code "\n" ∷ read_of ends (chars rest.now)) }

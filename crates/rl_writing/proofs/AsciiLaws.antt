@@ -57,8 +57,8 @@ goes_on (AsciiEscape high low) us h b = b
 goes_on (ByteEscape high low) us h b = b
 goes_on (UnicodeEscape digits) us h b = b
 
--- The written form of a character is a valid character or escape of Rust's grammar, and has the character as its value. By
--- `written_unit` and by `unit_of`, the written form has one text.
+-- The written form of a character is a valid character or escape of Rust's grammar, and has the character as its value.
+-- `written_unit` and `unit_of` agree on the text of the written form.
 abbrev is_unit_of : Kind → ℕ → Bool
 is_unit_of k c =
     (is_strict_unit k (unit_of k c) && not (is_break (unit_of k c)))

@@ -141,7 +141,7 @@ escape_low c = low_join (numeral 16 false c) (125 ∷ [])
 
 -- ---- the bytes that the code writes for an escape
 
--- If the group size is 0, the digits of a character's number are written without underscores.
+-- If the group size is 0, the digits of a character's code point are written without underscores.
 digits_put : (c n : ℕ) (ds : List ℕ) → ds ≡ numeral 16 false n → n ≡ c → grouped 0 ds ≡ numeral 16 false c
 digits_put c n ds e same = ungrouped ds ∙ e ∙ ap (numeral 16 false) same
 

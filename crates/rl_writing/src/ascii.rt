@@ -12,8 +12,8 @@ use rl_syntax::slice_writer::{put, put_byte, put_text};
 use rl_syntax::text::split_char;
 use rl_syntax::written_unit::escape;
 
-/// Writes the escape `\u{..}` of the character `c` after the first `at` bytes of the slice `out`, and returns the
-/// offset after the escape. The character's number is in base 16, in lower case.
+/// Writes the escape `\u{..}` of the character `c` after the first `at` bytes of the slice `out`, and returns the offset
+/// after the escape. The character's code point is in base 16, in lower case.
 pub fn put_unicode_escape(out: &mut [u8], at: usize, c: char) -> usize
     requires { at + length (unicode_escape c) ≤ length out.old }
     ensures end { result ≡ at + length (unicode_escape c) }

@@ -53,9 +53,9 @@ fraction_end_at [] = ended []
 fraction_end_at (c ∷ cs) =
     if is_ascii_digit c then digits_end_at (after_digits 10 (c ∷ cs)) else stopped NoFractionDigit (c ∷ cs)
 
--- The result of parsing a number. The first part is the kind of flaw, or `None`. The second part is an integer's magnitude,
--- which is `None` above 128 bits. For a float or a flaw, the second part is `None`. The last part is the suffix, or the text
--- that begins at the flaw.
+-- The result of parsing a number. The first part is the kind of flaw, or `None`. The second part is `Some m` for an integer
+-- with the magnitude `m`, and `None` for a float or a flaw. Above 128 bits, `m` is `None`. The last part is the suffix, or
+-- the text that begins at the flaw.
 abbrev pub NumberRead : Type 0
 NumberRead = Option FlawKind × Option (Option ℕ) × List ℕ
 
