@@ -355,6 +355,6 @@ by_escape kind r = refl
 
 -- ---- a character or an escape
 
--- The kind is that of a quoted literal.
+-- The kind is the kind of a quoted literal.
 abbrev pub IsQuotedKind : Kind → Type 0
 IsQuotedKind kind = (is_string kind ≡ true) ⊎ (is_single kind ≡ true)

@@ -11,8 +11,7 @@ use Rattle.rl_strict.proofs.StrictTokens.{token_number, token_reads, truth_no_di
 
 -- ---- the byte offset of the suffix
 
--- A text is a prefix followed by an end of the text. The number of bytes of the text is the sum of those of the prefix and
--- the end.
+-- A text is a prefix followed by an end of the text. The text has as many bytes as the prefix and the end together.
 pub front_of : (t rest : List ℕ) → IsUtf8 t → IsTail t rest → (front : List ℕ) × (chars t ≡ front ++ chars rest)
     × (length t ≡ byte_len front + length rest)
 front_of t rest u tail =

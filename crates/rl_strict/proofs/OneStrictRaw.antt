@@ -48,7 +48,8 @@ open_same n m x y e =
 
 -- ---- the first closing delimiter
 
--- If a raw string's content has only allowed characters and no closing delimiter, the code's loop skips all of it.
+-- The loop over a raw string's content skips the content, if no hash follows it. The content has only allowed characters,
+-- and no closing delimiter.
 walk_finds : (k : Kind) (n : ℕ) (body z : List ℕ) → list_all (is_raw_character k) body ≡ true
     → NoCloser (replicate n 35) body → first_passes is_hash z ≡ false → z ≡ raw_stop k (replicate n 35) z
     → raw_stop k (replicate n 35) (body ++ z) ≡ z
@@ -62,7 +63,7 @@ walk_finds k n (c ∷ cs) z each none no_hash ends_raw_content =
     ap (λ b. cond b (c ∷ (cs ++ z)) (raw_stop k (replicate n 35) (cs ++ z))) goes
     ∙ walk_finds k n cs z p.1 (λ f r e. none (c ∷ f) r (ap (λ q. c ∷ q) e)) no_hash ends_raw_content
 
--- At a closing delimiter of a raw string, the code's loop stops.
+-- The loop over a raw string's content stops at a closing delimiter.
 closer_halts : (k : Kind) (n : ℕ) (suffix : List ℕ) → 34 ∷ (replicate n 35 ++ suffix)
     ≡ raw_stop k (replicate n 35) (34 ∷ (replicate n 35 ++ suffix))
 closer_halts k n suffix =
@@ -70,7 +71,7 @@ closer_halts k n suffix =
     walk_halt k h (34 ∷ (h ++ suffix)) (h ++ suffix) 34 refl
     (or_left (begins h (h ++ suffix)) (not (is_raw_character k 34)) (begins_front h suffix))
 
--- The closing delimiter of a raw string is the closing delimiter at which the code's loop stops.
+-- The loop over a raw string's content skips all of the content, and stops at the closing delimiter.
 closing_found : (k : Kind) (n : ℕ) (t closing suffix : List ℕ) (o : IsOpen k n t closing) → closing
     ≡ 34 ∷ (replicate n 35 ++ suffix) → raw_stop k (replicate n 35) (o.body ++ closing) ≡ closing
 closing_found k n t closing suffix o e =

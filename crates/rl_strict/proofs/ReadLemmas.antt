@@ -5,7 +5,7 @@ use Rattle.rl_strict.specs.declared.read_numbers.Number.TheVariants.{Integer, Fl
 use Rattle.rl_strict.proofs.SignedFlaws.{no_digit, number_of, number_stops}
 use Rattle.rl_strict.proofs.StrictTokens.{stops_token, strict_quoted_has}
 
--- If a text begins with `"`, its opening delimiter is that of a string with escapes.
+-- A text that begins with `"` begins with the opening delimiter of a string with escapes.
 pub string_opens : (t inside : List ℕ) → t ≡ 34 ∷ inside → opener_at t ≡ found_opener CookedForm Str inside
 string_opens t inside e = ap opener_at e ∙ front_complete CookedForm Str inside refl
 

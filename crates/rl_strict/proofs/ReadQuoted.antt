@@ -248,7 +248,7 @@ single_open_stops k f t piece rest s none same is =
       has = flaw.has;
     }
 
--- The value of a character or byte literal is that of its one character or escape.
+-- A character or byte literal has the value of its one character or escape.
 abbrev pub single_quoted : (kind : Kind) (t inside closing suffix v : List ℕ) (body : Body) → opener_at (chars t)
     ≡ found_opener SingleForm kind (chars inside) → is_single kind ≡ true
     → unit_at kind (chars inside) ≡ Some (v, chars closing) → chars closing ≡ 39 ∷ chars suffix → chars inside

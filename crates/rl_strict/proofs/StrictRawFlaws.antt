@@ -5,21 +5,21 @@ use Rattle.rl_strict.proofs.StrictSuffixFlaws.{Closer, FlawInside, SuffixSpoiled
 
 -- ---- the content of a raw string
 
--- The code's loop over a raw string has skipped the text `body`, and has reached `rest`. `body` has only allowed characters,
--- and no closing delimiter.
+-- The loop over a raw string's content has skipped the text `body`, and has reached `rest`. `body` has only allowed
+-- characters, and no closing delimiter.
 record RawWalk (k : Kind) (hashes t rest : List ℕ) : Type 0 where
   body : List ℕ
   text_is : t ≡ body ++ rest
   each : list_all (is_raw_character k) body ≡ true
   none : NoCloser hashes body
 
--- Whether the code's loop over a raw string's content stops at the beginning of the text: at a closing delimiter, or at a
--- character that isn't allowed.
+-- Whether the loop over a raw string's content stops at the beginning of the text: at a closing delimiter, or at a character
+-- that isn't allowed.
 abbrev pub ends_at : Kind → List ℕ → List ℕ → Bool
 ends_at k hashes [] = false
 ends_at k hashes (c ∷ cs) = (c == 34 && begins hashes cs) || not (is_raw_character k c)
 
--- The code's loop over a raw string skips only allowed characters that contain no closing delimiter.
+-- The loop over a raw string's content skips only allowed characters that contain no closing delimiter.
 raw_walk : (k : Kind) (hashes t : List ℕ) → RawWalk k hashes t (raw_stop k hashes t)
 unfolding raw_stop
 raw_walk k hashes [] = record { body = []; text_is = refl; each = refl; none = λ f r e. nothing_inside f (hashes ++ r) e }
@@ -87,7 +87,7 @@ unfolding raw_stop
 walk_on k hashes t cs s c e h same =
     sym (ap (λ b. cond b (c ∷ cs) (raw_stop k hashes cs)) h) ∙ ap (raw_stop k hashes) (sym e) ∙ same
 
--- The code's test of a closing delimiter passes exactly if the text begins with a quote and the raw string's hashes.
+-- The code's test for a closing delimiter passes exactly if the text begins with a quote and the raw string's hashes.
 pub closer_test : {R : Type 0} (o : Option R) (text : R → List ℕ) (hashes after : List ℕ) (c : ℕ) (b : Bool)
     → IfSome o (λ r. (c ≡ 34) × (after ≡ hashes ++ text r)) → IfNone o ((c == 34 && begins hashes after) ≡ false) → b
     ≡ is_some o → b ≡ (c == 34 && begins hashes after)
@@ -117,8 +117,8 @@ many_hashes (suc m) (suc n) e r h =
     let less = many_hashes m n e r rest in
     omega (arith, less)
 
--- If `n` hashes, a quote and the text `x` are a raw string after its prefix, `x` passes the code's test for the end of a raw
--- string.
+-- If `n` hashes, a quote and the text `x` are a raw string after its prefix, `x` passes the test `ends_raw` for the end of a
+-- raw string.
 raw_bad : (k : Kind) (n : ℕ) (x : List ℕ) → ClosesRaw k (replicate n 35 ++ (34 ∷ x)) → ends_raw k (replicate n 35) x
     ≡ true
 raw_bad k n x c =
@@ -165,8 +165,8 @@ hashes_characters : (m : ℕ) → AllByRecursion IsScalar (replicate m 35 ++ [])
 hashes_characters zero = tt
 hashes_characters (suc m) = (refl, hashes_characters m)
 
--- The next lemmas are about a raw string after its prefix: `n` hashes, a quote and the text `inside`. The code's loop has
--- skipped the content up to `rest`.
+-- The next lemmas are about a raw string after its prefix: `n` hashes, a quote and the text `inside`. The loop over the
+-- content has skipped the content up to `rest`.
 module _ (k : Kind) (n : ℕ) (inside rest : List ℕ) (s : is_string k ≡ true) (few : n < 256)
     (w : RawWalk k (replicate n 35) inside rest) where
   abbrev hs : List ℕ
@@ -212,7 +212,7 @@ module _ (k : Kind) (n : ℕ) (inside rest : List ℕ) (s : is_string k ≡ true
     stuck = stuck;
   }
 
-  -- If the code's loop over a raw string reaches the text's end, the flaw is `Unclosed`.
+  -- If the loop over a raw string's content reaches the text's end, the flaw is `Unclosed`.
   ended : rest ≡ [] → FlawInside RawForm k Unclosed whole rest rest
   ended e = record {
     stops = stops_at (λ c cs r h y. let bad_end : c ∷ cs ≡ [] = sym h ∙ e in absurd (cc));
@@ -270,7 +270,8 @@ module _ (k : Kind) (n : ℕ) (inside rest : List ℕ) (s : is_string k ≡ true
 
 -- ---- the flaw after the opening quote, by the result of the code
 
--- Where the code's loop stops, it has skipped only allowed characters that contain no closing delimiter.
+-- Up to `rest`, where the loop over a raw string's content stops, the content has only allowed characters, and no closing
+-- delimiter.
 found_walk : (k : Kind) (n : ℕ) (hashes inside rest : List ℕ) → hashes ≡ replicate n 35 → rest ≡ raw_stop k hashes
     inside → RawWalk k (replicate n 35) inside rest
 found_walk k n hashes inside rest e at = subst (RawWalk k (replicate n 35) inside)
@@ -383,7 +384,8 @@ raw_no_quote k f n t rest q z cs c s few text is no_hash no_quote kind piece pla
         ∙ hashes_past y.hashes y.rest in
         both_ways (c == 34) no_quote (ap (λ x. x == 34) same ∙ ap (first_passes (λ x. x == 34)) quote)
 
--- If a raw string begins with more than 255 hashes, the flaw is `TooManyHashes`. Its piece begins at the first hash.
+-- If a raw string begins with more than 255 hashes, the flaw is `TooManyHashes`. The text to show for the flaw begins at the
+-- first hash.
 pub raw_many_hashes : (k : Kind) (f : FlawKind) (n : ℕ) (t rest q z cs : List ℕ) (c : ℕ) → is_string k ≡ true → n ≤ 255
     → t ≡ replicate n 35 ++ rest → (n < 255 → first_passes is_hash rest ≡ false) → rest ≡ c ∷ cs → (c == 35) ≡ true → f
     ≡ TooManyHashes → q ≡ t → z ≡ rest → FlawInside RawForm k f t q z
@@ -449,8 +451,8 @@ raw_end_none k n hashes inside rest s few e at end y =
     (subst (ClosesRaw k) (ap (λ y. y ++ (34 ∷ inside)) e ∙ cut k n inside rest s less w
     ∙ ap (λ z. before k n inside rest s less w ++ z) end) y)
 
--- The content of a raw string is the text between the opening quote and the position where the code's loop stops. It has
--- only allowed characters.
+-- The content of a raw string is the text between the opening quote and the position where the loop over the content stops.
+-- The content has only allowed characters.
 pub raw_body : (k : Kind) (n : ℕ) (hashes inside rest : List ℕ) → hashes ≡ replicate n 35 → rest
     ≡ raw_stop k hashes inside → (body : List ℕ) × (inside ≡ body ++ rest) × (list_all (is_raw_character k) body ≡ true)
 raw_body k n hashes inside rest e at =

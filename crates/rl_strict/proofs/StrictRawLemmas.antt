@@ -8,7 +8,7 @@ use Rattle.rl_strict.proofs.StrictWordLemmas.{all_both, all_apart, strict_suffix
 abbrev no_return : ℕ → Bool
 no_return c = not (c == 13)
 
--- If the characters of a raw string's content are allowed in the kind, they pass the code's test.
+-- The characters of a raw string's content that the grammar allows in the kind pass the test `is_raw_character`.
 pub inside_allowed : (k : Kind) (cs : List ℕ) → IsRawInside k cs → list_all no_return cs ≡ true
     → list_all (is_raw_character k) cs ≡ true
 inside_allowed Str cs a n = n
@@ -16,7 +16,7 @@ inside_allowed ByteStr cs a n = all_both (λ c. nat_lt c 128) no_return cs a n
 inside_allowed CStr cs a n = all_both (λ c. not (c == 0)) no_return cs a n
 inside_allowed kind cs a n = absurd a
 
--- If the characters of a raw string's content pass the code's test, they are allowed in the kind.
+-- If the characters of a raw string's content pass the test `is_raw_character`, the grammar allows them in the kind.
 pub inside_sound : (k : Kind) (cs : List ℕ) → is_string k ≡ true → list_all (is_raw_character k) cs ≡ true
     → IsRawInside k cs × (list_all no_return cs ≡ true)
 inside_sound Str cs s h = (tt, h)
@@ -45,16 +45,16 @@ begins_more (k ∷ p) (c ∷ cs) b h =
     let q = and_parts (c == k) (begins p cs) h in
     and_from (c == k) (begins p (cs ++ b)) q.0 (begins_more p cs b q.1)
 
--- At a character that begins no closing delimiter, the code's test of a raw string's end checks the character and continues
--- after it.
+-- At a character that begins no closing delimiter, the test `ends_raw` checks the character, and then the text after the
+-- character.
 pub raw_on : (k : Kind) (hashes : List ℕ) (c : ℕ) (cs : List ℕ) → (c == 34 && begins hashes cs) ≡ false
     → ends_raw k hashes (c ∷ cs) ≡ (is_raw_character k c && ends_raw k hashes cs)
 unfolding ends_raw
 raw_on k hashes c cs h = ap (λ b. cond b (is_strict_suffix (drop (length hashes) cs))
     (is_raw_character k c && ends_raw k hashes cs)) h
 
--- A character that is neither `"` nor CR passes the code's test of a raw string's character. `a` tells whether the character
--- is `"`, and `b` whether it is CR.
+-- A character that is neither `"` nor CR passes the test of a raw string's character. `a` tells whether the character is
+-- `"`, and `b` whether it is CR.
 str_inside : (a b : Bool) → not (a || b || b || b) ≡ true → (not a && not b) ≡ true
 str_inside true b h = absurd (cc)
 str_inside false true h = absurd (cc)
@@ -87,7 +87,7 @@ c_run (c ∷ cs) h =
     and_from (is_inside CStr c) (list_all (is_inside CStr) cs) (c_inside (c == 34) (c == 13) (c == 0) b.0)
     (c_run cs b.1)
 
--- At a closing delimiter, the code's test for the end of a raw string passes exactly if a suffix follows the delimiter.
+-- At a closing delimiter, the test `ends_raw` passes exactly if a suffix follows the delimiter.
 pub raw_close : (k : Kind) (hashes x : List ℕ) → ends_raw k hashes (34 ∷ (hashes ++ x)) ≡ is_strict_suffix x
 unfolding ends_raw
 raw_close k hashes x =
@@ -107,8 +107,8 @@ no_closer_at n c cs z no_hash none = false_from_ne_true (c == 34 && begins (repl
     let b = begins_is (replicate n 35) cs (hashes_in_front n cs z no_hash p.1) in
     none [] b.0 (ap (λ q. q ∷ cs) (eqb-true c 34 p.0) ∙ ap (λ q. 34 ∷ q) b.1))
 
--- If no hash follows a raw string's content, the code's test for the end of the raw string skips the content. The content
--- must have only allowed characters, and no closing delimiter.
+-- If no hash follows a raw string's content, the test `ends_raw` skips the content. The content must have only allowed
+-- characters, and no closing delimiter.
 pub past_body : (k : Kind) (n : ℕ) (body z : List ℕ) → list_all (is_raw_character k) body ≡ true → NoCloser (replicate n
     35) body → first_passes is_hash z ≡ false → ends_raw k (replicate n 35) (body ++ z) ≡ ends_raw k (replicate n 35) z
 past_body k n [] z each none no_hash = refl
@@ -118,7 +118,7 @@ past_body k n (c ∷ cs) z each none no_hash =
     ∙ ap (λ b. b && ends_raw k (replicate n 35) (cs ++ z)) p.0
     ∙ past_body k n cs z p.1 (λ f r e. none (c ∷ f) r (ap (λ q. c ∷ q) e)) no_hash
 
--- The text after the opening quote of a raw string passes the code's test of a raw string's end.
+-- The text after the opening quote of a raw string passes the test `ends_raw`.
 pub raw_complete : (k : Kind) (n : ℕ) (t : List ℕ) → ClosesInside k (replicate n 35) t → ends_raw k (replicate n 35) t
     ≡ true
 raw_complete k n t c =
@@ -154,7 +154,7 @@ none_before hashes c cs z h none (f ∷ front) rest e =
     let tail : cs ≡ front ++ (34 ∷ (hashes ++ rest)) = cc in
     none front rest tail
 
--- A text that passes the code's test of a raw string's end is a content, a closing delimiter and a suffix.
+-- A text that passes the test `ends_raw` is a content, a closing delimiter and a suffix.
 raw_parts : (k : Kind) (hashes t : List ℕ) → ends_raw k hashes t ≡ true → RawParts k hashes t
 unfolding ends_raw
 raw_parts k hashes [] h = absurd (cc)
@@ -193,7 +193,7 @@ raw_parts k hashes (c ∷ cs) h = go (λ e. raw_parts k hashes cs e) (cases_Bool
           text_is = ap (λ z. c ∷ z) r.text_is;
         }
 
--- A text that passes the code's test of a raw string's end is the text after a raw string's opening quote.
+-- A text that passes the test `ends_raw` is the text after a raw string's opening quote.
 pub raw_sound : (k : Kind) (hashes t : List ℕ) → is_string k ≡ true → ends_raw k hashes t ≡ true
     → ClosesInside k hashes t
 raw_sound k hashes t s h =

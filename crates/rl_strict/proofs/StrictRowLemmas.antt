@@ -47,7 +47,7 @@ quote_stops kind x h = absurd (cc)
 
 -- ---- the white space of an escaped line end
 
--- If the first character of a text fails a test, so does the first character of each prefix.
+-- If the first character of a text fails a test, the first character of each prefix fails the test too.
 pub passes_front : (test : ℕ → Bool) (a b : List ℕ) → first_passes test (a ++ b) ≡ false → first_passes test a ≡ false
 passes_front test [] b h = refl
 passes_front test (c ∷ cs) b h = h
@@ -73,12 +73,12 @@ may_end_seam other us b n m = tt
 
 -- ---- the closing quote and the suffix
 
--- A closing quote and a suffix pass the code's test of a literal's end.
+-- A closing quote and a suffix pass the test `ends_quoted`.
 quote_complete : (quote : ℕ) (x : List ℕ) → (quote == quote) ≡ true → IsStrictSuffix x → ends_quoted quote (quote ∷ x)
     ≡ true
 quote_complete quote x e s = and_from (quote == quote) (is_strict_suffix x) e (strict_suffix_complete x s)
 
--- A text that passes the code's test of a literal's end is a closing quote and a suffix.
+-- A text that passes the test `ends_quoted` is a closing quote and a suffix.
 quote_sound : (quote : ℕ) (t : List ℕ) → ends_quoted quote t ≡ true → (x : List ℕ) × IsStrictSuffix x × (t ≡ quote ∷ x)
 quote_sound quote [] h = absurd (cc)
 quote_sound quote (c ∷ cs) h =
@@ -120,7 +120,7 @@ row_down k t r x (u ∷ us) s h each b i e =
           ∙ ap (λ z. flat_map strict_text us ++ (z ++ x)) (sym (string_ends k s));
     }
 
--- If a text ends a string, a character or escape followed by this text ends a string too.
+-- If a text ends a string, a character or escape followed by the text ends a string too.
 row_up : (k : Kind) (t r : List ℕ) → is_string k ≡ true → StrictFront k t r → ClosesUnits k r → ClosesUnits k t
 row_up k t r s f c =
     let rest : List ℕ = strict_closer k ++ c.suffix in

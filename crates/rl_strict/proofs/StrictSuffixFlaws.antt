@@ -161,8 +161,8 @@ lone_is [] h = absurd (cc)
 lone_is (c ∷ []) h = ap (λ z. z ∷ []) (eqb-true c 95 h)
 lone_is (c ∷ d ∷ ds) h = absurd (cc)
 
--- The code's result for the text after a closing delimiter is correct: no flaw if the text is a suffix, and its flaw
--- otherwise.
+-- The result of the code for the text after a closing delimiter is correct: no flaw if the text is a suffix, and the text's
+-- flaw otherwise.
 abbrev pub Judges : QuotedForm → List ℕ → Option FoundFlaw → Type 0
 Judges form t None = is_strict_suffix t ≡ true
 Judges form t (Some f) = (is_strict_suffix t ≡ false) × SuffixSpoiled form f.0 t f.1

@@ -411,7 +411,7 @@ no_quote_unit k t closing e none rest other =
 
 -- ---- the content of a raw string
 
--- Reading CR LF as LF in the text after a character doesn't change whether the code's loop over a raw string stops at the
+-- Reading CR LF as LF in the text after a character doesn't change whether the loop over a raw string's content stops at the
 -- character.
 pub halts_of : (how : LineEnds) (n : ℕ) (k : Kind) (c : ℕ) (hashes after : List ℕ) → hashes ≡ replicate n 35
     → ((c == 34 && begins hashes (read_of how after)) || not (is_raw_character k c))

@@ -62,8 +62,8 @@ pub data MissesDigit (text rest : List ℕ) : Type 0 where
       → Begins (λ c. not (is_hex_digit c || is_brace c || is_underscore c)) rest
       → MissesDigit text rest
 
--- A literal of the kind can't contain the character with this code point. The kind of flaw is the reason: the code point is
--- above 10FFFF, is a surrogate, or is 0 in a C string.
+-- A literal of the kind can't contain the character with the given code point. The kind of flaw is the reason: the code
+-- point is above 10FFFF, is a surrogate, or is 0 in a C string.
 abbrev pub IsNoCode : Kind → FlawKind → ℕ → Type 0
 IsNoCode kind UnicodeEscapeOutOfRange number = 0x10FFFF < number
 IsNoCode kind Surrogate number = (0xD800 ≤ number) × (number ≤ 0xDFFF)

@@ -30,8 +30,8 @@ NoZeroLeadsStrictDigits = (n : ℕ) → 0 < n → IsFalse (begins_char (code "0"
 abbrev pub ZeroIsOneStrictDigit : Type 0
 ZeroIsOneStrictDigit = dec 0 ≡ codes "0"
 
--- A text has at most one flaw that explains why it isn't a literal token: one kind, one piece and one byte range. So `explain`
--- returns the only possible flaw.
+-- A text has at most one flaw that explains why it isn't a literal token: one kind, one byte range, and one range of text to
+-- show. So `explain` returns the only possible flaw.
 abbrev pub ATextHasOneFlaw : Type 0
 ATextHasOneFlaw = (text : List ℕ) → HasOneFlaw text
 

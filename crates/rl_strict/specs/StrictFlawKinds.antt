@@ -34,7 +34,7 @@ abbrev pub form_quote : QuotedForm → ℕ
 form_quote SingleForm = code "'"
 form_quote _ = code "\""
 
--- The form is that of raw strings.
+-- The form is the form of raw strings.
 abbrev pub is_raw_form : QuotedForm → Bool
 is_raw_form RawForm = true
 is_raw_form _ = false

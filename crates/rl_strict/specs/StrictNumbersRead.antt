@@ -16,7 +16,7 @@ use Rattle.rl_strict.specs.StrictShapes.{IsToken}
 abbrev pub in_128_bits : ℕ → Option ℕ
 in_128_bits n = if nat_le n limit then Some n else None
 
--- The text is an integer of any size with this suffix. `magnitude` is `None` above 128 bits.
+-- The text is an integer of any size with the suffix `suffix`. `magnitude` is `None` above 128 bits.
 abbrev pub IsIntegerRead : List ℕ → Option ℕ → List ℕ → Type 0
 IsIntegerRead text magnitude suffix = (n : ℕ) × Strict text Int (Digits (dec n)) suffix × (magnitude ≡ in_128_bits n)
 

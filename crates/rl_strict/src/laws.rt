@@ -11,8 +11,8 @@ pub fn strict_digits_represent_their_number()
     ensures zero { ZeroIsOneStrictDigit }
 {}
 
-/// A text has at most one flaw that explains why it isn't a literal token: one kind, one piece and one byte range. So
-/// [`explain`](crate::explain) returns the only possible flaw.
+/// A text has at most one flaw that explains why it isn't a literal token: one kind, one byte range, and one range of text
+/// to show. So [`explain`](crate::explain) returns the only possible flaw.
 pub fn a_text_has_one_flaw()
     ensures { ATextHasOneFlaw }
 {}

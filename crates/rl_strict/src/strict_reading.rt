@@ -206,8 +206,8 @@ fn read_rare(ends: LineEnds, text: &str) -> Result<Reading, FlawAt<'_>>
     }
 }
 
-/// Parses the text as a literal token. The error is the flaw, with the text that begins at the flaw and the text that begins at
-/// the flaw's piece. The caller converts these texts to byte offsets.
+/// Parses the text as a literal token. The error contains the kind of flaw, the text that begins at the flaw, and the text
+/// that begins with the text to show. The caller converts the two texts to byte offsets.
 #[inline(always)]
 fn read_at(ends: LineEnds, text: &str) -> Result<Reading, FlawAt<'_>>
     ensures reads { IfOk result (IsReadingOf ends false text.now) }
@@ -250,9 +250,9 @@ fn after_minus(signed: bool, text: &str) -> Option<&str>
     if signed { strip_byte(text, b'-') } else { None }
 }
 
-/// Parses the text as a literal token, or as a minus and a number if `signed` is true. The error is the flaw, with
-/// the text that begins at the flaw and the text that begins at the flaw's piece. The caller converts these texts to byte
-/// offsets.
+/// Parses the text as a literal token, or as a minus and a number if `signed` is true. The error contains the kind of flaw,
+/// the text that begins at the flaw, and the text that begins with the text to show. The caller converts the two texts to
+/// byte offsets.
 #[inline(always)]
 fn signed_at(text: &str, ends: LineEnds, signed: bool) -> Result<Reading, FlawAt<'_>>
     ensures reads { IfOk result (IsReadingOf ends signed text.now) }

@@ -8,7 +8,7 @@ use Rattle.rl_syntax.specs.declared.integer_type.IntegerType.{IntegerType}
 use Rattle.rl_writing.specs.declared.base.Base.{Base}
 use Rattle.rl_writing.specs.declared.base.Base.TheVariants.{Binary, Octal, Decimal, Hexadecimal}
 
--- Converts the code's base to the base in the definitions of the grammars.
+-- Converts a base of the code (`base.rt`) to the base in the definitions of the grammars.
 abbrev pub base_view : Base → numbers.Base
 base_view Binary = numbers.Binary
 base_view Octal = numbers.Octal

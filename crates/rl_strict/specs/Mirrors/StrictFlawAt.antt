@@ -39,7 +39,7 @@ suffix_end_flaw_at form [] = found_flaw UnderscoreSuffix []
 suffix_end_flaw_at form (c ∷ cs) =
     if c == form_quote form then found_flaw TextAfterQuote (c ∷ cs) else found_flaw BadSuffix (c ∷ cs)
 
--- The form is that of raw strings, and the text after the closing delimiter begins with one more hash.
+-- The literal is a raw string, and the text after its closing delimiter begins with one more hash.
 abbrev pub begins_hash : QuotedForm → List ℕ → Bool
 begins_hash form t = is_raw_form form && first_passes (λ c. c == code "#") t
 
