@@ -64,7 +64,7 @@ quoted_unclosed p body none = not_ended (after_quote body)
 
 -- ---- a raw string begins a token if and only if it is closed
 
--- Hashes, a double quote and the text after it.
+-- `n` hashes, a double quote, and the text `body`.
 abbrev pub hashed : ℕ → List ℕ → List ℕ
 hashed n body = replicate n 35 ++ 34 ∷ body
 

@@ -114,7 +114,7 @@ unit_once kind k l t (c ∷ cs) p q =
     let same : a.front ≡ b.front = append_cancel_right a.front b.front (c ∷ cs) (sym a.text_is ∙ b.text_is) in
     a.kind_is ∙ ap (λ z. strict_flaw_of kind z c) same ∙ sym b.kind_is
 
--- The text from a flaw of a character or escape on is an end of the text that begins with the character or escape.
+-- A text that begins with a faulty character or escape ends with the text that begins at the flaw.
 pub strict_unit_cut : (kind : Kind) (k : FlawKind) (t rest : List ℕ) → StrictUnitFlaw kind k t rest → (m : List ℕ)
     × (t ≡ m ++ rest)
 strict_unit_cut kind k t [] h = (t, sym (append-nil t))

@@ -1,4 +1,5 @@
--- Lemmas from the text after an opening delimiter or a minus to the parse result of the whole text.
+-- The parse result of a text with an opening delimiter or a minus, given the result for the text after the delimiter or the
+-- minus.
 use Rattle.rl_strict.proofs.Names.{◌≡◌, ℕ, Bool, true, false, List, ◌∷◌, refl, sym, ap, subst, ◌∙◌, inl, inr, both_ways, is_ascii_digit, IsTrue, IsUtf8, ◌↔◌, Kind, Str, Char, first_passes, is_string, Result, Ok, Err, IfOk, IfErr, is_ok, chars, IsTail, cut_boundary, cut_drop, Body, QuotedForm, CookedForm, SingleForm, IsFound, IsQuotedAt, found_opener, opener_at, front_complete, front_sound, OfUnit, quoted_found, no_unit, ClosesForm, IsToken, FlawKind, StopsIn, Flaw, Reading, Number, ExplainsStrictly, IsFloatRead, IsIntegerRead, IsNumberRead, IsStop, suffix_of, IsFlawAt, IsMinusStop, IsStrictReading, IsSignedRead, placed_in, NoNumber, UnexpectedEnd, end_flaw_at, found_flaw}
 use Rattle.rl_strict.proofs.StrictLemmas.{close_token, told_token}
 use Rattle.rl_strict.specs.declared.read_numbers.Number.TheVariants.{Integer, Float}

@@ -16,7 +16,8 @@ pub record Flawed (takes : List ℕ → Type 0) (text rest : List ℕ) (says : T
   pub has : says
 
 -- `Stops` stays true if the text `pre` is put before the text, and the predicates `more` and `less` replace `closes` and
--- `fails`. The new predicates must hold with `pre` where the old ones hold without `pre`.
+-- `fails`. The new predicates must hold with `pre` where the old ones hold without `pre`. For example, `pre` is an opening
+-- delimiter.
 unfoldable pub lifted : {closes fails more less : List ℕ → Type 0} (pre t rest : List ℕ) (s : Stops closes fails t rest)
     → (closes (s.front ++ s.begins.ending) → more (pre ++ (s.front ++ s.begins.ending))) → ((c : ℕ) (cs e : List ℕ) →
     rest ≡ c ∷ cs → fails (s.front ++ (c ∷ e)) → less (pre ++ (s.front ++ (c ∷ e)))) → Stops more less (pre ++ t) rest
@@ -37,7 +38,8 @@ unfoldable pub stops_before : (takes : List ℕ → Type 0) (t rest : List ℕ) 
 stops_before takes t rest s = record { front = s.front; text_is = s.text_is; begins = s.begins; stuck = s.stuck }
 
 -- `StopsBefore` stays true if the text `pre` is put before the text, and the predicate `more` replaces `takes`. `more` must
--- hold for a text with `pre` where `takes` holds for the text without `pre`, and nowhere else.
+-- hold for a text with `pre` where `takes` holds for the text without `pre`, and nowhere else. For example, `pre` is an
+-- opening delimiter.
 unfoldable pub raised : (takes more : List ℕ → Type 0) (pre t rest : List ℕ) (s : StopsBefore takes t rest) → (takes
     (s.front ++ s.begins.ending) → more (pre ++ (s.front ++ s.begins.ending))) → ((c : ℕ) (cs e : List ℕ) → rest ≡ c ∷
     cs → more (pre ++ (s.front ++ (c ∷ e))) → takes (s.front ++ (c ∷ e))) → StopsBefore more (pre ++ t) rest

@@ -277,8 +277,7 @@ found_walk : (k : Kind) (n : ℕ) (hashes inside rest : List ℕ) → hashes ≡
 found_walk k n hashes inside rest e at = subst (RawWalk k (replicate n 35) inside)
     (sym (at ∙ ap (λ z. raw_stop k z inside) e)) (raw_walk k (replicate n 35) inside)
 
--- A flaw of a raw string stays its flaw after its kind, its hashes and its texts are replaced by equal ones that the code
--- returned.
+-- Replaces the kind, the hashes and the texts of a raw string's flaw by equal ones that the code returned.
 as_found : (k : Kind) (f g : FlawKind) (n : ℕ) (hashes inside p q r z : List ℕ) → hashes ≡ replicate n 35 → f ≡ g
     → q ≡ p → z ≡ r → FlawInside RawForm k g (replicate n 35 ++ (34 ∷ inside)) p r
     → FlawInside RawForm k f (hashes ++ (34 ∷ inside)) q z

@@ -227,7 +227,7 @@ abbrev pub FlawInside : QuotedForm → Kind → FlawKind → List ℕ → List �
 FlawInside form kind k inside piece rest =
     Flawed (ClosesForm form kind) inside rest (StrictQuotedFlaw form kind k inside piece rest)
 
--- A flaw of a quoted literal stays its flaw after its kind and its texts are replaced by equal ones.
+-- Replaces the kind and the texts of a quoted literal's flaw by equal ones.
 pub same_flaw : (form : QuotedForm) (kind : Kind) (k l : FlawKind) (inside p q r z : List ℕ) → k ≡ l → q ≡ p → z ≡ r
     → FlawInside form kind l inside p r → FlawInside form kind k inside q z
 same_flaw form kind k l inside p q r z is piece place h = subst (λ y. FlawInside form kind y inside q z) (sym is) (subst

@@ -496,6 +496,6 @@ byte_has c cs p b = zero (eqb c 0) refl
 
 -- ---- the flaw of a character or escape
 
--- If the kind is a kind of string, the text doesn't begin with the closing quote `"`.
+-- In a string, the text doesn't begin with the closing quote `"`. In a character or byte literal, nothing is required.
 abbrev pub IsOpen : Kind → List ℕ → Type 0
 IsOpen kind t = is_string kind ≡ true → first_passes (λ c. eqb c 34) t ≡ false

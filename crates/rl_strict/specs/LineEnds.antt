@@ -57,9 +57,9 @@ pub record IsRestOf (ends : LineEnds) (text rest : List ℕ) : Type 0 where
 abbrev pub IsFileRest : List ℕ → List ℕ → Type 0
 IsFileRest text rest = IsRestOf File text rest
 
--- The text `whole` after an opening delimiter isn't the end of a literal of the form, since it has a flaw of the kind
--- `flaw`. The flaw is at `rest`, and the text to show for the flaw begins at `piece`. `piece` and `rest` are ends of `text`,
--- the text as written. In a file, CR LF is read as LF in the ends of `whole` that correspond to `piece` and `rest`.
+-- The text `whole` after an opening delimiter has a flaw of the kind `flaw`, so `whole` isn't the end of a literal of the
+-- form. The flaw is at `rest`, and the text to show for the flaw begins at `piece`. `piece` and `rest` are ends of `text`,
+-- the text as written. In a file, CR LF in `piece` and `rest` is read as LF before they are compared with `whole`.
 pub record StopsAsRead (ends : LineEnds) (form : QuotedForm) (kind : Kind) (flaw : FlawKind) (whole text piece rest : List ℕ) : Type 0 where
   pub stops : StopsIn form kind flaw whole (read_of ends piece) (read_of ends rest)
   pub piece_in : IsRestOf ends text piece

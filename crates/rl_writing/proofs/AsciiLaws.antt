@@ -225,7 +225,8 @@ pub form_utf8 : (k : Kind) (v whole : List ℕ) → IsAsciiForm k v (ascii_liter
     → IsUtf8 whole
 form_utf8 k v whole f e = low_utf8 whole (ap (list_all is_low) e ∙ f.ascii)
 
--- The bytes of an ASCII character's written form are its text in an ASCII literal.
+-- For an ASCII character, the bytes of the character's written form are the text `ascii_text` of the character in an ASCII
+-- literal.
 pub low_bytes : (k : Kind) (c : ℕ) (bytes : List ℕ) → decodes_to_chars k ≡ true → IsScalar c → c < 128
     → bytes ≡ encode_utf8_all (unit_text (written_unit k c)) → bytes ≡ ascii_text k c
 low_bytes k c bytes h s small e =

@@ -10,12 +10,12 @@ use Rattle.rl_recovery.specs.declared.openers.Opener.{Opener}
 use Rattle.rl_recovery.specs.declared.openers.Opener.TheVariants.{Quoted, Raw}
 use Rattle.rl_recovery.specs.declared.unclosed.Unclosed.{Unclosed}
 
--- The opening delimiter of a string, without a prefix, and the text after it.
+-- The opening delimiter of a string, without its prefix `b` or `c`, followed by the text `body`.
 abbrev pub opened : Opener → List ℕ → List ℕ
 opened Quoted body = code "\"" ∷ body
 opened (Raw n) body = code "r" ∷ (replicate n (code "#") ++ code "\"" ∷ body)
 
--- The text begins with the opening delimiter `opener`, optionally after a prefix.
+-- The text is an optional prefix `b` or `c`, the opening delimiter `opener`, and the text `body`.
 abbrev pub BeginsOpener : List ℕ → Opener → List ℕ → Type 0
 BeginsOpener t opener body = (p : LiteralPrefix) × (t ≡ prefix_text p ++ opened opener body)
 

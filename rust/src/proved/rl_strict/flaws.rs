@@ -181,7 +181,7 @@ impl core::error::Error for Flaw {}
 #[derive(Clone, Copy)]
 pub struct FlawAt<'t> {
     pub kind: FlawKind,
-    /// The text from the beginning of the text to show on: from an escape, a character, a suffix, a number or a word on.
+    /// The text that begins with the text to show: an escape, a character, a suffix, a number or a word.
     pub piece: &'t str,
     pub rest: &'t str,
 }

@@ -32,8 +32,7 @@ fn skip_raw<'t>(ends: LineEnds, kind: Kind, hashes: &str, text: &'t str) -> &'t 
 /// The end of a quoted literal's valid content, and the literal's suffix or flaw.
 #[derive(Clone, Copy)]
 pub struct QuotedContent<'t> {
-    /// The text from the closing quote on. In an unclosed literal, it begins at the first character or escape that isn't
-    /// allowed.
+    /// The text from the closing quote on, or from the first character or escape on that isn't allowed.
     pub closing: &'t str,
     /// Whether the text before `closing` is known to contain no escapes. Outside files, a text without escapes is the literal's
     /// value.
@@ -85,8 +84,8 @@ pub fn parse_cooked_content(ends: LineEnds, kind: Kind, text: &str) -> QuotedCon
 /// The end of a character or byte literal's content, and either the content and the suffix, or the flaw.
 #[derive(Clone, Copy)]
 pub struct UnitStretch<'t> {
-    /// The text from the closing quote on. If the content isn't one character or escape, it is all of the text after the
-    /// opening quote.
+    /// The text from the closing quote on, or all of the text after the opening quote if the content isn't one character or
+    /// escape.
     pub closing: &'t str,
     pub end: Result<(Piece, &'t str), FlawAt<'t>>,
 }

@@ -7,14 +7,15 @@ use crate::rl_syntax::Kind;
 use crate::rl_syntax::classes::{CharClass, skip_class};
 use crate::rl_syntax::text::{ascii_at, split_char, strip_byte};
 
-/// Returns the text after a CR LF at its beginning, or `None` if it begins otherwise.
+/// Returns the text after a CR LF at the beginning of `text`, or `None` if `text` doesn't begin with CR LF.
 #[inline(always)]
 fn after_cr_lf(text: &str) -> Option<&str> {
     let line_feed = strip_byte(text, b'\r')?;
     strip_byte(line_feed, b'\n')
 }
 
-/// Returns the text after a CR LF at its beginning if the text is from a file, and `None` otherwise.
+/// Returns the text after a CR LF at the beginning of `text`. Returns `None` if `text` isn't from a file, or doesn't begin
+/// with CR LF.
 #[inline(always)]
 fn after_line_end(ends: LineEnds, text: &str) -> Option<&str> {
     match ends {

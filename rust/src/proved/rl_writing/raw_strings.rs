@@ -89,7 +89,7 @@ fn raw_opener(kind: Kind) -> &'static str {
 /// Writes the raw string of the kind that contains `text`, with `hashes` hashes, to the start of `out`. [`min_raw_hashes`]
 /// returns the fewest hashes for a text.
 ///
-/// Returns the literal's length in bytes: at most that of the text, plus twice the hashes, plus four. `out` must have
+/// Returns the literal's length in bytes: at most the length of `text`, plus two for each hash, plus four. `out` must have
 /// room for this length.
 #[inline]
 pub fn write_raw_into(kind: Kind, hashes: usize, text: &str, out: &mut [u8]) -> usize {
