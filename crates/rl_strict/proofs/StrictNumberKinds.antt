@@ -5,8 +5,8 @@ use Rattle.rl_strict.proofs.NumberEnds.{IsSign, based_is, decimal_is, digits_pow
 
 -- ---- numbers with a base prefix
 
--- The result of parsing a number with a base prefix depends on the end of its digits: `digit` tells whether a decimal digit
--- follows, `none` whether there are no digits, and `mark` whether a dot or the letter of an exponent follows.
+-- The result of parsing a number with a base prefix depends on three tests: `digit` tells whether a decimal digit follows
+-- the number's digits, `none` whether there are no digits, and `mark` whether a dot or the letter of an exponent follows.
 row_is : (b : Base) (run front rest : List ℕ) (digit none mark : Bool) → IsBasedRun b run front → first_passes (in_base
     b) rest ≡ false → first_passes is_ascii_digit rest ≡ digit → not (list_any (of_base b) run) ≡ none → first_passes
     is_float_mark rest ≡ mark → number_end_at (front ++ rest) ≡ row_tail digit none mark rest

@@ -60,8 +60,8 @@ fn code_flaw(code: u32) -> FlawKind
     }
 }
 
-/// Returns the flaw of a `\u{..}` escape with these digits: a flaw of the code point that they represent, or the first flaw
-/// after them.
+/// Returns the flaw of a `\u{..}` escape with the digits `digits`: a flaw of the code point that they represent, or the
+/// first flaw after them.
 fn digits_flaw(kind: Kind, text: &str, digits: CodeDigits) -> FlawAt<'_>
     requires last { IsCharBoundary text.now digits.last }
     requires end { IsCharBoundary text.now digits.end }

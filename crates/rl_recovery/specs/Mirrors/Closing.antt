@@ -19,7 +19,7 @@ opened (Raw n) body = code "r" ∷ (replicate n (code "#") ++ code "\"" ∷ body
 abbrev pub BeginsOpener : List ℕ → Opener → List ℕ → Type 0
 BeginsOpener t opener body = (p : LiteralPrefix) × (t ≡ prefix_text p ++ opened opener body)
 
--- No literal with the given opening delimiter is closed in the text.
+-- In the text, each literal with the given opening delimiter is unclosed.
 abbrev pub NoneCloses : Opener → List ℕ → Type 0
 NoneCloses Quoted t = (front body : List ℕ) → t ≡ front ++ code "\"" ∷ body → after_quote body ≡ None
 NoneCloses (Raw n) t = after_raw n t ≡ None

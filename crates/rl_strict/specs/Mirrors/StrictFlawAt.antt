@@ -32,7 +32,7 @@ strict_unit_flaw_at kind (c ∷ cs) =
     else (if c == code "\r" && is_string kind then found_flaw CarriageReturn (c ∷ cs)
     else found_flaw (character_flaw_of c) (c ∷ cs))
 
--- The flaw of an invalid text after a closing quote. The argument is the end of this text, after the identifier at its
+-- The flaw of an invalid text after a closing delimiter. The argument is the end of this text, after the identifier at its
 -- beginning. If the argument is empty, the identifier is `_` alone.
 abbrev pub suffix_end_flaw_at : QuotedForm → List ℕ → FoundFlaw
 suffix_end_flaw_at form [] = found_flaw UnderscoreSuffix []
