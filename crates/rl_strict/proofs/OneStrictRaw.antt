@@ -182,7 +182,7 @@ not_both k f m t piece rest closing front (Many x h a p) o e = many_open k m t r
 
 -- ---- at most one flaw of a raw string at each position
 
--- If two closing delimiters of a raw string have equal hashes and begin at one position, the texts after them are equal.
+-- The position and the hashes of a raw string's closing delimiter determine the text after the delimiter.
 suffix_same : (n m : ℕ) (ca cb sa sb : List ℕ) → hashes n ≡ hashes m → ca ≡ cb → ca
     ≡ 34 ∷ (replicate n 35 ++ sa) → cb ≡ 34 ∷ (replicate m 35 ++ sb) → sa ≡ sb
 suffix_same n m ca cb sa sb h c a b =

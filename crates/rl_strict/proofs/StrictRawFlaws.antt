@@ -328,7 +328,7 @@ hash_run zero [] h = refl
 hash_run zero (c ∷ cs) h = ap (λ b. cond b (after_run is_hash cs) (c ∷ cs)) h
 hash_run (suc n) z h = hash_run n z h
 
--- At most 255 hashes can begin a raw string: two quotes and further hashes complete it.
+-- After the prefix of a raw string, at most 255 hashes can be completed to a raw string: by two quotes and as many hashes.
 hashes_begin : (k : Kind) (n : ℕ) → is_string k ≡ true → n < 256 → ClosesRaw k (replicate n 35
     ++ (34 ∷ (34 ∷ (replicate n 35 ++ []))))
 unfolding is_strict_suffix

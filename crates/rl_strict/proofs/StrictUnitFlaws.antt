@@ -282,7 +282,7 @@ bare_return kind s = absurd (cc)
 
 -- ---- the flaw of a character or escape
 
--- If no valid character or escape begins with a character, the flaw is at this character.
+-- If a character begins no valid character or escape, the flaw is at this character.
 at_front : (k : Kind) (c : ℕ) (cs : List ℕ) (flaw : FlawKind) → IsQuotedKind k → ((e : List ℕ) → unit_rest k (c ∷ e)
     ≡ None) → StrictUnitFlaw k flaw (c ∷ cs) (c ∷ cs) → HasStrictUnitFlaw k (c ∷ cs) (found_flaw flaw (c ∷ cs))
 at_front k c cs flaw q none has = record {

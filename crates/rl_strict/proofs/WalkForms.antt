@@ -332,7 +332,7 @@ pub opened_text : (t hashes rest opened : List ℕ) (c : ℕ) → t ≡ hashes +
     → t ≡ hashes ++ (34 ∷ opened)
 opened_text t hashes rest opened c text is quote = text ∙ ap (λ z. hashes ++ z) (is ∙ ap (λ z. z ∷ opened) quote)
 
--- If a text is a sequence of plain characters followed by `rest`, the part before `rest` contains only plain characters.
+-- If plain characters precede `rest` in a text, any text `body` before `rest` contains only plain characters.
 pub plain_run : (k : Kind) (t run rest : List ℕ) → t ≡ run ++ rest → list_all (is_plain k) run ≡ true → (body : List ℕ)
     → t ≡ body ++ rest → true ≡ list_all (is_plain k) body
 plain_run k t run rest text each body cut = one_run (is_plain k) body run rest (sym cut ∙ text) each

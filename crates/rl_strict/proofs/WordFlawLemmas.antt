@@ -91,8 +91,8 @@ pub truth_characters : (b : Bool) → AllByRecursion IsScalar (truth_text b)
 truth_characters true = (refl, (refl, (refl, (refl, tt))))
 truth_characters false = (refl, (refl, (refl, (refl, (refl, tt)))))
 
--- The common prefix of the text and the word `true` or `false` begins neither a number nor a quoted literal. Only this word
--- completes it to `true` or `false`.
+-- `k.front` is the common prefix of the text `t` and the word, `true` or `false`. No text that begins with `k.front` has an
+-- opening delimiter, or begins as a number. Only the word completes `k.front` to `true` or `false`.
 record WordFront (b : Bool) (t : List ℕ) (k : Common (truth_text b) t) : Type 0 where
   no_opener : (e : List ℕ) → opener_at (k.front ++ e) ≡ None
   no_number : (e : List ℕ) → first_passes is_number_front (k.front ++ e) ≡ false

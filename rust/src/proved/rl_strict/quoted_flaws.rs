@@ -47,8 +47,8 @@ fn code_flaw(code: u32) -> FlawKind {
     }
 }
 
-/// Returns the flaw of a `\u{..}` escape with these digits: a flaw of the code point that they represent, or the first flaw
-/// after them.
+/// Returns the flaw of a `\u{..}` escape with the digits `digits`: a flaw of the code point that they represent, or the
+/// first flaw after them.
 fn digits_flaw(kind: Kind, text: &str, digits: CodeDigits) -> FlawAt<'_> {
     if digits.count == 6 && !is_code(kind, digits.value) {
         return make_flaw(code_flaw(digits.value), &text[digits.last..]);
