@@ -19,7 +19,7 @@ pub record RecoveryState : Type 0 where
 
 -- ---- the next literal
 
--- A token of the part of the text that the cursor reads, with its byte range in the whole text.
+-- A token that the cursor lexed in its part of the text, with the token's byte range in the whole text.
 abbrev pub token_of_whole : RecoveryState → SourceToken → SourceToken
 token_of_whole t l =
     let before = length t.whole - length t.part.text in
