@@ -14,7 +14,8 @@ use Rattle.std.proofs.lemmas.Str.Pattern.{drop_at_char}
 use denote.Ref.{Bor}
 use Rattle.rl_lenient.specs.Mirrors.PlainAt.{is_some_text}
 
--- If the characters of a text end with those of a second text, the text ends with the second text.
+-- If the characters of a text end with the characters of a second text, the bytes of the text end with the bytes of the
+-- second text.
 pub tail_chars : (bs ys front : List ℕ) → IsUtf8 bs → IsUtf8 ys → chars bs ≡ front ++ chars ys → IsTail bs ys
 tail_chars bs ys front u w e = record {
   front = encode_utf8_all front;
@@ -92,7 +93,7 @@ some_text t u = tested (length t == 0) t u refl
     tested false t u e = some (chars t) (λ n. both_ways (length t == 0) e
         (ap (λ z. length z == 0) (sym (encodes-chars t u) ∙ ap encode_utf8_all n)))
 
--- ---- an ASCII byte that a text lacks is a character that it lacks
+-- ---- a text without an ASCII byte doesn't contain the byte's character
 
 lacks_high : (c : ℕ) → c < 128 → (bs : List ℕ) → AllHigh bs → lacks c bs ≡ true
 lacks_high c low [] h = refl

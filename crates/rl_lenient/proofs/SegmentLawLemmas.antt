@@ -117,9 +117,9 @@ all_make kind text start end ss whole p none =
 
 -- ---- offsets in order
 
--- A function that gives the offset of a byte of a value within the character or escape that the byte comes from. The offset is
--- within the text of the character or escape. Later bytes have later offsets. Characters and escapes with equal texts have equal
--- offsets, if both or neither represent themselves.
+-- A function that gives an offset in the text of a character or escape for each byte of its value. The offset is within the
+-- text. A later byte doesn't have a smaller offset. If two characters or escapes have equal texts, and both or neither
+-- represent themselves, their offsets are equal.
 pub record IsPlacing (inside : QuotedUnit → ℕ → ℕ) : Type 0 where
   pub within : (kind : Kind) (u : QuotedUnit) (at : ℕ) → at < length (unit_bytes kind u)
       → inside u at ≤ byte_len (unit_text u)

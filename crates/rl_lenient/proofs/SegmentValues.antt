@@ -97,7 +97,8 @@ piece_as_unit kind p (Unicode first more) held allowed other e named = unicode_p
     held allowed.4 e named
 piece_as_unit kind p (Continuation c run) held allowed other e named = no_piece kind p e named
 
--- The segment value of the first character or escape of a text is that of its parsed value.
+-- The code's value of an escape or line end at the start of a text, as the value of a segment, is the segment value by the
+-- definitions.
 pub piece_in_front : (kind : Kind) (p : Piece) (u : QuotedUnit) (t b : List ℕ) → IsHeldBy kind p → IsUnit kind u
     → is_itself u ≡ false → t ≡ unit_text u ++ b → piece_value kind p ≡ unit_value kind u
     → is_character p ≡ is_character_at kind t → piece_segment kind p ≡ unit_segment kind u

@@ -35,8 +35,9 @@ front_len RawForm kind text value body suffix parts =
     length (raw_opener kind) + parts.0.hashes + 1
 front_len SingleForm kind text value body suffix parts = length (opener kind)
 
--- Whether the body of a literal is its own value. The body of a raw string is, and so is that of another string with neither
--- escapes nor line ends CR LF.
+-- Whether the body of a literal is its own value. The body of a raw string is always its own value. The body of another
+-- string is its own value if it contains neither an escape nor a line end CR LF. For character and byte literals the result
+-- is `false`.
 abbrev pub is_plain_body : QuotedForm → Kind → List ℕ → Bool
 is_plain_body RawForm kind body = true
 is_plain_body CookedForm kind body = list_all (is_plain kind) body

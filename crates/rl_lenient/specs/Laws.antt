@@ -16,8 +16,8 @@ use Rattle.std.specs.Str.{IsUtf8}
 use Rattle.rl_lenient.specs.declared.found.Body.{Body}
 use Rattle.rl_lenient.specs.Founds.{IsFound, IsQuotedAt, suffix_in}
 
--- By `syn`'s grammar, a text without CR is a byte literal, or a byte string literal that isn't raw, with an empty suffix or an
--- identifier as its suffix, exactly if it is one by Rust's grammar. The value is equal by both grammars.
+-- `syn`'s and Rust's grammar agree on whether a text without CR is a byte literal, or a byte string literal that isn't raw,
+-- and on its value and its suffix. Only suffixes that Rust's grammar allows count.
 abbrev pub BytesWithoutReturnsAreStrict : Type 0
 BytesWithoutReturnsAreStrict =
     (text : List ℕ) → KeepsBytesStrict text
@@ -34,16 +34,15 @@ abbrev pub ASegmentHasOneValue : Type 0
 ASegmentHasOneValue =
     (kind : Kind) (units : List QuotedUnit) → AreOneSegment kind units
 
--- Two bytes of a literal's value come from ranges of the literal's text in the same order: the later byte's range
--- neither begins nor ends before that of the earlier byte. So each byte has one range, which begins no later than it
--- ends.
+-- Each byte of a literal's value comes from one range of the literal's text, which begins no later than it ends. The ranges
+-- are in the order of the bytes: the range of a later byte neither begins nor ends before the range of an earlier byte.
 abbrev pub ThePlacesOfBytesAreInOrder : Type 0
 ThePlacesOfBytesAreInOrder =
     (kind : Kind) (text : List ℕ) → PlacesKeepTheOrder kind text
 
--- If the parts of a quoted literal are at the given byte offsets, the text that its value comes from is in its body.
--- The value's end, and every offset after it, is mapped to the closing quote. If the body is the value, a byte's offset
--- in the body is its offset in the value.
+-- Each byte of a quoted literal's value comes from a range of the literal's text that is within the body. The byte offset
+-- that belongs to the value's end, or to an offset after the end, is that of the closing quote. If the body is its own
+-- value, the value's byte at an offset comes from the body's byte at that offset.
 abbrev pub TheOffsetsOfBytesAreInTheBody : Type 0
 TheOffsetsOfBytesAreInTheBody =
     (kind : Kind) (text : List ℕ) (body : Body) → IsUtf8 text

@@ -3,9 +3,8 @@
 ghost use Rattle.rl_lenient.specs.Laws.{BytesWithoutReturnsAreStrict, SegmentsMakeTheLiteral, ASegmentHasOneValue, ThePlacesOfBytesAreInOrder, TheOffsetsOfBytesAreInTheBody, DecodingKeepsALeadingMinus, ATakenLiteralIsRead, AFoundLiteralReads};
 ghost use Rattle.rl_lenient.specs.PartLaws.{AnIntegerHasOneBase, AFloatHasOneOfEachPart};
 
-/// By `syn`'s grammar, a text without CR is a byte literal, or a byte string literal that isn't raw, with an empty
-/// suffix or an identifier as its suffix, exactly if it is one by Rust's grammar. The value is equal by both
-/// grammars.
+/// `syn`'s and Rust's grammar agree on whether a text without CR is a byte literal, or a byte string literal that
+/// isn't raw, and on its value and its suffix. Only suffixes that Rust's grammar allows count.
 pub fn byte_literals_without_cr_are_strict()
     ensures { BytesWithoutReturnsAreStrict }
 {}
@@ -22,16 +21,16 @@ pub fn a_segment_has_one_value()
     ensures { ASegmentHasOneValue }
 {}
 
-/// Two bytes of a literal's value come from ranges of the literal's text in the same order: the later byte's range
-/// neither begins nor ends before that of the earlier byte. So each byte has one range, which begins no later than it
-/// ends.
+/// Each byte of a literal's value comes from one range of the literal's text, which begins no later than it ends. The
+/// ranges are in the order of the bytes: the range of a later byte neither begins nor ends before the range of an
+/// earlier byte.
 pub fn text_offsets_keep_the_order_of_bytes()
     ensures { ThePlacesOfBytesAreInOrder }
 {}
 
-/// If the parts of a quoted literal are at the given byte offsets, the text that its value comes from is in its body.
-/// The value's end, and every offset after it, is mapped to the closing quote. If the body is the value, a byte's
-/// offset in the body is its offset in the value.
+/// Each byte of a quoted literal's value comes from a range of the literal's text that is within the body. The byte
+/// offset that belongs to the value's end, or to an offset after the end, is that of the closing quote. If the body is
+/// its own value, the value's byte at an offset comes from the body's byte at that offset.
 pub fn text_offsets_are_in_the_body()
     ensures { TheOffsetsOfBytesAreInTheBody }
 {}
@@ -51,13 +50,13 @@ pub fn a_parsed_literal_has_the_value_of_its_text()
     ensures { AFoundLiteralReads }
 {}
 
-/// An integer literal has one base and one sequence of digits, in whichever way its text is parsed as an integer.
+/// All parse results of a text as an integer literal agree on its base and on its digits, as they are written.
 pub fn an_integer_has_one_base()
     ensures { AnIntegerHasOneBase }
 {}
 
-/// A float literal has at most one of each part, in whichever way its text is parsed as a float: one sequence of digits
-/// before the dot, one after it, and one exponent.
+/// All parse results of a text as a float literal agree on its parts: the digits before the dot, the digits after it,
+/// and the exponent.
 pub fn a_float_has_one_of_each_part()
     ensures { AFloatHasOneOfEachPart }
 {}

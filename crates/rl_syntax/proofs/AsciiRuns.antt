@@ -78,8 +78,8 @@ held_low : (word : Bool) → PassesLow (is_run_byte word)
 held_low true = word_low
 held_low false = blank_low
 
--- For an ASCII character, the test `is_run_byte` agrees with the test of the class: that of identifier characters, or that of
--- white space.
+-- For an ASCII character, `is_run_byte` agrees with the test of identifier characters, if `word` is true, or with the test
+-- of white space, if `word` is false.
 pub held_agrees : (word : Bool) (c : ℕ) → c < 128 → class_test (run_class word) c ≡ is_run_byte word c
 held_agrees true c low = continue_is_plain c low ∙ ascii_xid_continue c low
 held_agrees false c low = agree_below_at is_white is_blank_byte 128 c refl low
@@ -87,7 +87,7 @@ held_agrees false c low = agree_below_at is_white is_blank_byte 128 c refl low
 pub held_cut : (word : Bool) (bs : List ℕ) → IsUtf8 bs → RunCut (is_run_byte word) bs
 held_cut word bs u = low_cut (is_run_byte word) (held_low word) bs u
 
--- If all bytes of `front` are identifier characters (or all are white space), `after_run` skips them.
+-- If `front` consists of ASCII identifier characters, or of ASCII white space, `after_run` skips `front`.
 passed_over : (word : Bool) (front back : List ℕ) → list_all (is_run_byte word) front ≡ true
     → after_run (class_test (run_class word)) (front ++ back) ≡ after_run (class_test (run_class word)) back
 passed_over word [] back h = refl
@@ -106,7 +106,8 @@ run_past word bs rest u e =
     (chars (drop (prefix_len (is_run_byte word) bs) bs)) run.plain
     ∙ ap (λ r. after_run test (chars r)) (sym e)
 
--- The leading identifier characters or white space of a text end at an ASCII byte that fails the test.
+-- If an ASCII character follows the leading ASCII identifier characters of a text, no further identifier character follows
+-- them. The lemma holds for white space too.
 pub run_ended : (word : Bool) (bs rest after : List ℕ) (b : ℕ) → IsUtf8 bs → rest
     ≡ drop (prefix_len (is_run_byte word) bs) bs → chars rest ≡ b ∷ chars after → b < 128 → chars rest
     ≡ after_run (class_test (run_class word)) (chars bs)

@@ -38,7 +38,7 @@ starts_begins (k ∷ p) (c ∷ t) = ap (λ b. nat_eq k c && b) (starts_begins p 
     equal_swap : (k c : ℕ) → nat_eq k c ≡ (c == k)
     equal_swap k c = grind (arith, nat_tests)
 
--- ---- the text after a prefix: each lemma takes the postcondition of `strip_prefix`
+-- ---- the text after a prefix, from the postcondition of `strip_prefix`
 
 abbrev StripPrefix : List ℕ → List ℕ → Option (Bor (List ℕ)) → Type 0
 StripPrefix n bs r = MatchOption r (FindsTextPrefix n bs None)

@@ -51,7 +51,8 @@ tops : {X : Type 0} (p : X → Bool) (v : List X) → map (top 7) (map (λ x. la
 tops p [] = refl
 tops p (x ∷ xs) = ap₂ (λ a b. a ∷ b) (lane_top (p x)) (tops p xs)
 
--- The mask of a vector, which a test computed for each element of a list, has the bits of the elements that pass the test.
+-- If a vector contains the results of a test for the elements of a list, its mask has a set bit for each element that passes
+-- the test.
 pub masked : {X : Type 0} (p : X → Bool) (v : List X) {a : List ℕ} → length v ≤ 64 → a ≡ map (λ x. lane (p x)) v
     → mask_l (map (top 7) a) % 2 ^ 64 ≡ mask_l (map p v)
 masked p v few e = ap (λ l. mask_l l % 2 ^ 64) (ap (map (top 7)) e ∙ tops p v)

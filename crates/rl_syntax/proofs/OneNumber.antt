@@ -73,7 +73,8 @@ int_once t x y s z m n a b =
 
 -- ---- floats
 
--- A sequence of digits and underscores that contains a digit: leading underscores, then a digit, then the rest.
+-- A sequence of digits and underscores, split into its leading underscores, its first digit, and the digits and underscores
+-- after this digit.
 pub record DigitIn (run : List ℕ) : Type 0 where
   pub underscores : List ℕ
   pub digit : ℕ
@@ -166,7 +167,7 @@ same_power us s run vs z sow x y hu hs hr hv hz hw sx sy e =
       ]
     ]
 
--- A suffix that doesn't begin like an exponent isn't an exponent that is followed by another text.
+-- A suffix that doesn't begin like an exponent can't be split into an exponent and a text after the exponent.
 no_power : (letter : ℕ) (us s run x y : List ℕ) → IsExponent (Power letter us s run) x → IsSuffix y
     → (BeginsExponent y → ⊥) → y ≡ (letter ∷ (us ++ (s ++ run))) ++ x → ⊥
 no_power letter us s run x y p sy none e =

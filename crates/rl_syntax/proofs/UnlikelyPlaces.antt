@@ -4,7 +4,7 @@ use Rattle.rl_syntax.proofs.LaneLemmas.{run_stops, run_through}
 use Rattle.rl_syntax.proofs.UnlikelyLanes.{around-length}
 use Rattle.rl_syntax.specs.Mirrors.UnlikelyAt.{around, begins_none, first_or, may_begin, may_begin_at, unlikely_after, literal_free_prefix_len}
 
--- Whether neither a literal nor a comment begins at the second byte of a pair, if the first byte of the pair precedes it.
+-- Whether neither a literal nor a comment begins at the second of two adjacent bytes.
 abbrev pub is_past : ℕ × ℕ → Bool
 is_past x = not (may_begin x)
 
@@ -23,8 +23,8 @@ unlikely_run p (c ∷ cs) = ap (λ n. cond (begins_none p c (first_or 0 cs)) (su
     more true n = omega arith
     more false n = refl
 
--- If a part of a leading sequence of elements that pass a test is dropped, the sequence after the part is shorter by the part's
--- length.
+-- If `n` of the leading elements that pass a test are dropped, the number of leading elements that pass it is smaller by
+-- `n`.
 on_from : {X : Type 0} (q : X → Bool) (n : ℕ) (xs : List X) → n ≤ prefix_len q xs → prefix_len q xs
     ≡ n + prefix_len q (drop n xs)
 on_from q zero xs h = omega arith

@@ -18,7 +18,7 @@ ATextHasOneReading =
     (t : List ℕ) (k l : Kind) (v w : Contents) (x y : List ℕ)
     → Reads t k v x → Reads t l w y → (k ≡ l) × (v ≡ w) × (x ≡ y)
 
--- By Rust's grammar, a text is a literal with one kind, one value and one suffix, if it is one at all.
+-- By Rust's grammar, a text has at most one parse result: one kind, one value and one suffix.
 abbrev pub ATextIsStrictInOneWay : Type 0
 ATextIsStrictInOneWay =
     (t : List ℕ) (k l : Kind) (v w : Contents) (x y : List ℕ)

@@ -41,8 +41,8 @@ sign_text Minus = codes "-"
 abbrev pub begins_base : List ℕ → Bool
 begins_base t = begins (prefix Binary) t || begins (prefix Octal) t || begins (prefix Hexadecimal) t
 
--- The text that may follow the prefix of a base. Base ten has no prefix: its text begins with a digit, and not with the
--- prefix of another base.
+-- The text may follow the prefix of a base. Any text may follow `0b`, `0o` and `0x`. Base ten has no prefix: its text begins
+-- with a digit, and not with `0b`, `0o` or `0x`.
 abbrev pub IsAfterPrefix : Base → List ℕ → Type 0
 IsAfterPrefix Decimal t = IsTrue (first_passes is_ascii_digit t) × IsFalse (begins_base t)
 IsAfterPrefix _ t = ⊤

@@ -44,8 +44,8 @@ is_comment_block inside =
     || (begins_char (code "*") inside
     && not (begins_char (code "/") (drop 1 inside) || begins_char (code "*") (drop 1 inside))))
 
--- One piece of the text that is dropped between tokens: a white space character, a plain line comment with its LF, or a
--- plain block comment.
+-- A part of the text that is dropped between tokens: a white space character, a plain line comment with its LF, or a plain
+-- block comment.
 pub data TriviaPiece : Type 0 where
   White : (c : ℕ) → TriviaPiece
   Line : (body : List ℕ) → TriviaPiece

@@ -100,7 +100,8 @@ fn run_class<const WORD: bool>() -> CharClass
     }
 }
 
-/// Returns the text after its longest prefix of identifier characters, if `WORD` is `true`, or of white space.
+/// Returns the text after the leading identifier characters, if `WORD` is `true`, or after the leading white space, if
+/// `WORD` is `false`.
 ///
 /// Sixteen bytes are tested at once, up to the first non-ASCII character.
 #[inline(always)]

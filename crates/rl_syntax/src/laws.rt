@@ -7,7 +7,7 @@ pub fn a_text_has_one_reading()
     ensures { ATextHasOneReading }
 {}
 
-/// By Rust's grammar, a text is a literal with one kind, one value and one suffix, if it is one at all.
+/// By Rust's grammar, a text has at most one parse result: one kind, one value and one suffix.
 pub fn a_text_has_one_strict_reading()
     ensures { ATextIsStrictInOneWay }
 {}

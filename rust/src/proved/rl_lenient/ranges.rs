@@ -5,11 +5,12 @@ use crate::rl_lenient::Body;
 use crate::rl_syntax::Kind;
 
 /// Returns the byte range of a quoted literal's text that the bytes from `lo` up to `hi` of its decoded value come
-/// from.
+/// from. In `"\x41b"`, the value's bytes from 0 up to 2 come from the range from 1 up to 6.
 ///
-/// The range begins where the character or escape of the first byte begins, and ends where that of the last byte ends.
-/// For an empty range the result is empty, and begins where the character or escape of the byte `lo` begins. An escaped
-/// line end after the last byte isn't included.
+/// A byte of a plain character comes from itself, and a byte of an escape from the whole escape. The range begins
+/// where the range of the byte `lo` begins, and ends where the range of the last byte, `hi - 1`, ends. An escaped line
+/// end after the last byte isn't included. If `lo` isn't below `hi`, the result is empty, and begins where the range
+/// of the byte `lo` begins.
 ///
 /// `body` contains the byte offsets of the literal's parts, as [`parse_literal`](crate::rl_lenient::parse_literal) returns them.
 #[inline]
