@@ -36,7 +36,7 @@ none_lacks c (d ∷ cs) h = and_from (not (eqb d c)) (lacks c cs) (not_from_fals
 chars_lack : (c : ℕ) (bs : List ℕ) → IsUtf8 bs → NoCharPasses (λ d. eqb d c) bs → lacks c (chars bs) ≡ true
 chars_lack c bs u p = subst (λ z. lacks c z ≡ true) (chars_from_encodes p.0 bs u p.1) (none_lacks c p.0 p.2)
 
--- A text is split at an ASCII character into the text before it and the text after it.
+-- A text is split into the part before an ASCII character, the character, and the part after it.
 pub record Around (c : ℕ) (bs : List ℕ) (i j : ℕ) : Type 0 where
   pub chars_are : chars bs ≡ chars (take i bs) ++ (c ∷ chars (drop j bs))
   pub following : IsUtf8 (drop j bs)

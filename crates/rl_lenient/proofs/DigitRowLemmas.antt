@@ -21,7 +21,7 @@ mul_grows v r d h k = omega (arith, mul-le-mul_left v k)
 pub within_or_past : (n m : ℕ) → (n ≤ m) ⊎ (m < n)
 within_or_past n m = grind arith
 
--- If a magnitude is limited to 128 bits before a digit is appended, the result is that of appending the digit first.
+-- Limiting a magnitude to 128 bits before a digit is appended gives the result of limiting it only afterwards.
 pub append_capped : (r v d : ℕ) → 1 ≤ r → append_digit r (capped v) d ≡ capped (v * r + d)
 append_capped r v d h = elim (within_or_past v limit) [
   | inl k ↦ ap (λ o. append_digit r o d) (capped_within v k)
@@ -32,8 +32,8 @@ append_capped r v d h = elim (within_or_past v limit) [
 place_with : (v r d q p : ℕ) → (v * r + d) * q + p ≡ v * (q * r) + (d * q + p)
 place_with v r d q p = omega arith
 
--- Arithmetic: digits with the value v precede the digit d, and n digits with the value p follow d. The number of all digits
--- is v and d, followed by the last digits. It is also v, followed by d and the last digits.
+-- Arithmetic: digits with the value v precede the digit d, and n digits with the value p follow d. The value of all digits
+-- can be computed from v and d first, or from d and p first. Both results are equal.
 place_step : (v r d n p : ℕ) → (v * r + d) * r ^ n + p ≡ v * r ^ suc n + (d * r ^ n + p)
 place_step v r d n p = place_with v r d (r ^ n) p ∙ ap (λ q. v * q + (d * r ^ n + p)) (sym (pow-suc r n))
 
@@ -199,7 +199,8 @@ pub row_skipped : (r : ℕ) (t : List ℕ) → 1 ≤ r → r ≤ 36 → run_from
     ≡ (has_digit_at r t, None, after_digits r t)
 row_skipped r t h k = row_without r false (Some 0) t ∙ ap (λ p. (p.0, None, p.2)) (row_start r t h k)
 
--- If the code parses one digit and then the rest of the text, it gets the parse result of the text that begins with the digit.
+-- If the code parses the first digit of a text, and then the text after the digit, the result is the parse result of the
+-- whole text.
 pub row_digit : (r : ℕ) (some : Bool) (m n : Option ℕ) (t : List ℕ) (c : ℕ) (cs : List ℕ) (d : ℕ) → t ≡ c ∷ cs → c ≢ 95
     → digit_value c < r → d ≡ digit_value c → n ≡ append_digit r m d → run_from r true n cs ≡ run_from r some m t
 unfolding run_from

@@ -168,8 +168,8 @@ no_sign (c ∷ cs) h =
     ∙ continue_not 45 c (omega arith) refl b.0 in
     ap (λ z. cond z cs (c ∷ cs)) e
 
--- The digits and underscores at the start of a text contain a digit. If the text doesn't begin with an underscore, it begins
--- with a digit.
+-- The digits and underscores at the start of a text contain a digit. If the text doesn't begin with an underscore, the text
+-- begins with a digit.
 first_digit : (t : List ℕ) → first_passes is_underscore t ≡ false → has_digit_at 10 t ≡ true → (d : ℕ) × (rest : List ℕ)
     × (is_ascii_digit d ≡ true) × (t ≡ d ∷ rest)
 unfolding run

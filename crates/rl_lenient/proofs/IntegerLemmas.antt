@@ -144,7 +144,8 @@ pub record Based (t : List ℕ) : Type 0 where
   pub text_is : t ≡ prefix base ++ rest
   pub front : may_begin_number (radix base) rest ≡ true → IsAfterPrefix base rest
 
--- If the test `begins` is true for characters and a text, the text is these characters and a rest.
+-- If the test `begins` finds the given characters at the start of a text, the text is these characters, followed by another
+-- text.
 pub begins_is : (p t : List ℕ) → begins p t ≡ true → (rest : List ℕ) × (t ≡ p ++ rest)
 begins_is [] t h = (t, refl)
 begins_is (k ∷ p) [] h = absurd (cc)

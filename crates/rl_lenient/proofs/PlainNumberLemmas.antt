@@ -87,7 +87,7 @@ onto_first (suc k) n acc l h = go (n / 10 == 0) refl (λ above. onto_first k (n 
     go true e more = glyph_above n l e
     go false e more = more (quotient_above n e)
 
--- A test that every character passes. It shows that the digits of a number aren't empty.
+-- A test that every character passes. Lemmas use it to prove that a number has at least one digit.
 abbrev is_any : ℕ → Bool
 is_any c = true
 

@@ -180,7 +180,7 @@ order_in inside p kind (u ∷ us) at next h =
     (λ small. absurd (omega (arith, h, large, small)))
     (λ large_too. omega (arith, order_in inside p kind us (at - n) (next - n) (omega (arith, h, large)))))
 
--- The range of the text that a byte of the value comes from begins no later than it ends.
+-- The range that encodes a byte of the value begins no later than it ends.
 ends_after : (kind : Kind) (us : List QuotedUnit) (at : ℕ) → unit_place begins_in kind us at ≤ unit_place ends_in kind
     us at
 ends_after kind [] at = omega arith
@@ -195,7 +195,7 @@ ends_after kind (u ∷ us) at =
     go true more = cond_order (is_itself u) at (at + 1) 0 (byte_len (unit_text u)) (omega arith) (omega arith)
     go false more = omega (arith, more)
 
--- ---- each byte of the value of a text between quotes comes from one offset
+-- ---- each byte of the value of a text between quotes has one offset
 
 -- The first character of a character or escape shows whether it represents itself.
 told : (kind : Kind) (u : QuotedUnit) → IsUnit kind u → is_itself u ≡ first_passes (is_plain kind) (unit_text u)
@@ -348,7 +348,8 @@ units_long kind false body us are =
     let text = ap byte_len are.text_is in
     (sym text, omega (arith, text, ap length (values_bytes kind us), (row_shrinks kind us are.each).no_longer))
 
--- If a body is its own value, each byte of the value comes from the byte at its offset in the body.
+-- If a body is its own value, the offset of a byte of the value in the body's text is its offset in the value, plus `d`. For
+-- the offset where the byte begins, `d` is 0. For the offset where it ends, `d` is 1.
 itself_places : (inside : QuotedUnit → ℕ → ℕ) (d : ℕ) → ((c i : ℕ) → inside (Plain c) i ≡ i + d)
     → (kind : Kind) (plain : Bool) (body : List ℕ) (us : List QuotedUnit) (at : ℕ) → plain ≡ true
     → AreUnitsIn kind plain body us → at < byte_len body → unit_place inside kind us at ≡ at + d
@@ -420,7 +421,7 @@ stands_in kind t body u q =
       within_end = ends.within;
     }
 
--- The offset that a byte of the value comes from is within the literal's text.
+-- The offset in a literal's text that belongs to a byte of the value is within the text.
 in_text : (inside : QuotedUnit → ℕ → ℕ) → IsPlacing inside → (kind : Kind) (t : List ℕ) (at place : ℕ)
     → IsGivenAt inside kind t at place → place ≤ byte_len t
 in_text inside w kind t at place p = go p.units_are

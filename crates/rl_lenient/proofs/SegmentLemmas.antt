@@ -370,7 +370,7 @@ text_long kind v run units s e = go v e s
     go (Byte b) e s = absurd (cc)
     go Nothing e s = absurd (cc)
 
--- The offset that a byte of a segment's value comes from is before the end of the segment.
+-- The start of the range that encodes a byte of a segment's value is before the end of the segment.
 pub place_below : (kind : Kind) (s : Segment) (units : List QuotedUnit) (i : ℕ) → IsSegmentOf kind s.value units → s.hi
     ≡ s.lo + byte_len (texts units) → s.lo < s.hi → i < length (value_bytes s.value) → segment_place s i < s.hi
 place_below kind s units i is_segment long some small = go s.value refl
@@ -487,7 +487,8 @@ past_left inside s at place p e = record { units = p.units; are_left = p.are_lef
 
 -- ---- tables
 
--- The offset that belongs to a byte of the value of some characters and escapes doesn't change if others follow them.
+-- The offset that belongs to a byte of the value of some characters and escapes doesn't change if further characters and
+-- escapes follow them.
 pub place_before : (inside : QuotedUnit → ℕ → ℕ) (kind : Kind) (done more : List QuotedUnit) (at : ℕ)
     → at < length (units_bytes kind done) → unit_place inside kind (done ++ more) at ≡ unit_place inside kind done at
 place_before inside kind [] more at h = absurd (omega (arith, h))
@@ -505,7 +506,7 @@ place_before inside kind (u ∷ done) more at h =
     go true e ih = refl
     go false e ih = ap (λ z. byte_len (unit_text u) + z) (ih (ltb-false at (length (unit_bytes kind u)) e))
 
--- Returns the span of the part of a literal that a byte of the literal's value comes from.
+-- Returns the span of the range of a literal's text that encodes a byte of the literal's value.
 abbrev pub unit_span : SegmentsState → Span → List QuotedUnit → ℕ → Span
 unit_span s base units at = span_from base (s.at + unit_place begins_in s.kind units at)
     (s.at + unit_place ends_in s.kind units at)

@@ -8,8 +8,8 @@ use Rattle.rl_syntax.specs.Strict.{spaced_digit, is_octal, is_unicode_escape, Ha
 use Rattle.rl_syntax.proofs.Basics.{hex_is_sixteen}
 use Rattle.rl_syntax.proofs.StrictQuoted.{hex_first, bare_digits, digits_count}
 
--- A character or escape of Rust's grammar that has the text and the value of `u`, a character or escape of `syn`'s grammar.
--- It isn't an escaped line end.
+-- A character or escape of Rust's grammar, other than an escaped line end. It has the text and the value of `u`, a character
+-- or escape of `syn`'s grammar.
 pub record Back (k : Kind) (u : QuotedUnit) : Type 0 where
   pub unit : StrictUnit
   pub is_unit : is_strict_unit k unit ≡ true

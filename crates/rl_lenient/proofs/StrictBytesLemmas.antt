@@ -56,7 +56,7 @@ IsByteKind _ = ⊥
 -- ---- a character or escape
 
 -- A character or escape of Rust's grammar that has the text and the value of `u`, a character or escape of `syn`'s grammar.
--- Each text that may follow `u` may follow it too.
+-- Each text that may follow `u` may follow the equal character or escape of Rust's grammar too.
 record Same (k : Kind) (u : QuotedUnit) : Type 0 where
   unit : StrictUnit
   is_unit : is_strict_unit k unit ≡ true
@@ -64,8 +64,8 @@ record Same (k : Kind) (u : QuotedUnit) : Type 0 where
   value_is : unit_value k u ≡ strict_contents (strict_content_of k) unit
   may_end : (t : List ℕ) → EndsBefore u t → MayEnd unit t
 
--- An escape of `syn`'s grammar has an equal escape in Rust's grammar. If this one isn't an escaped line end, any text may
--- follow it.
+-- An escape of `syn`'s grammar has an equal escape in Rust's grammar, which isn't an escaped line end. So any text may
+-- follow the equal escape.
 escape_same : (k : Kind) (u : QuotedUnit) → Back k u → Same k u
 escape_same k u b = record { unit = b.unit; is_unit = b.is_unit; text_is = b.text_is; value_is = b.value_is; may_end = λ t e. no_break_ends b.unit t b.no_break }
 

@@ -21,7 +21,8 @@ bind_some : {A B : Type 0} (o : Option A) (f : A → Option B) (y : B) → optio
 bind_some None f y h = absurd (cc)
 bind_some (Some x) f y h = (x, refl, h)
 
--- Two options of pairs are equal only if both parts of the pairs are. The tactic `cc` doesn't split pairs.
+-- If `Some` of one pair equals `Some` of another pair, the pairs have equal first parts and equal second parts. The tactic
+-- `cc` doesn't split pairs.
 pub some_pair : {A B : Type 0} (p q : A × B) → Some p ≡ Some q → (p.0 ≡ q.0) × (p.1 ≡ q.1)
 some_pair p q h = let e : p ≡ q = cc in (ap (λ x. x.0) e, ap (λ x. x.1) e)
 

@@ -17,7 +17,7 @@ use Rattle.rl_lenient.specs.declared.found.Body.{Body}
 use Rattle.rl_lenient.specs.Founds.{IsFound, IsQuotedAt, suffix_in}
 
 -- `syn`'s and Rust's grammar agree on whether a text without CR is a byte literal, or a byte string literal that isn't raw,
--- and on its value and its suffix. Only suffixes that Rust's grammar allows count.
+-- and on its value and its suffix. Only literals with a suffix that Rust's grammar allows are compared.
 abbrev pub BytesWithoutReturnsAreStrict : Type 0
 BytesWithoutReturnsAreStrict =
     (text : List ℕ) → KeepsBytesStrict text
@@ -28,21 +28,22 @@ abbrev pub SegmentsMakeTheLiteral : Type 0
 SegmentsMakeTheLiteral =
     (kind : Kind) (text : List ℕ) → AllMakeTheLiteral kind text
 
--- A segment of a literal has one value. Plain characters are text. An escape, and a line end CR LF, is a character, a
--- byte or nothing, by the literal's kind.
+-- A segment of a literal has one value. Plain characters have a text as their value. An escape or a line end CR LF has a
+-- character, a byte or nothing as its value, which the literal's kind decides.
 abbrev pub ASegmentHasOneValue : Type 0
 ASegmentHasOneValue =
     (kind : Kind) (units : List QuotedUnit) → AreOneSegment kind units
 
--- Each byte of a literal's value comes from one range of the literal's text, which begins no later than it ends. The ranges
--- are in the order of the bytes: the range of a later byte neither begins nor ends before the range of an earlier byte.
+-- Each byte of a literal's value is encoded by one range of the literal's text, which begins no later than it ends. The
+-- ranges are in the order of the bytes: the range of a later byte neither begins nor ends before the range of an earlier
+-- byte.
 abbrev pub ThePlacesOfBytesAreInOrder : Type 0
 ThePlacesOfBytesAreInOrder =
     (kind : Kind) (text : List ℕ) → PlacesKeepTheOrder kind text
 
--- Each byte of a quoted literal's value comes from a range of the literal's text that is within the body. The byte offset
--- that belongs to the value's end, or to an offset after the end, is that of the closing quote. If the body is its own
--- value, the value's byte at an offset comes from the body's byte at that offset.
+-- Each byte of a quoted literal's value is encoded by a range of the literal's text that is within the body. An offset at or
+-- after the value's end is mapped to the closing quote. If the body is its own value, each byte of the body encodes the
+-- value's byte at the same offset.
 abbrev pub TheOffsetsOfBytesAreInTheBody : Type 0
 TheOffsetsOfBytesAreInTheBody =
     (kind : Kind) (text : List ℕ) (body : Body) → IsUtf8 text

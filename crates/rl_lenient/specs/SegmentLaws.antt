@@ -56,9 +56,9 @@ AllMakeTheLiteral kind text =
     (start end : SegmentsState) (ss : List Segment) → IsSegmentsOf kind text start
     → Passes start ss end → end.rest ≡ [] → MakeLiteral kind text ss
 
--- Each byte of a quoted literal's value comes from a range of the literal's text that is within the body. The byte offset
--- that belongs to the value's end, or to an offset after the end, is that of the closing quote. If the body is its own
--- value, the value's byte at an offset comes from the body's byte at that offset.
+-- Each byte of a quoted literal's value is encoded by a range of the literal's text that is within the body. An offset at or
+-- after the value's end is mapped to the closing quote. If the body is its own value, each byte of the body encodes the
+-- value's byte at the same offset.
 pub record OffsetsAreIn (kind : Kind) (text : List ℕ) (body : Body) : Type 0 where
   pub end : (at place : ℕ) → IsBytePlace kind (chars text) at place
       → length (body_in text body) ≤ at → place ≡ body.hi
@@ -71,7 +71,7 @@ pub record OffsetsAreIn (kind : Kind) (text : List ℕ) (body : Body) : Type 0 w
   pub within_end : (at place : ℕ) → IsByteEnd kind (chars text) at place
       → (body.lo ≤ place) × (place ≤ body.hi)
 
--- Each byte of a literal's value comes from a range of the literal's text, which begins no later than it ends. The ranges
+-- Each byte of a literal's value is encoded by a range of the literal's text, which begins no later than it ends. The ranges
 -- are in the order of the bytes: the range of a later byte neither begins nor ends before the range of an earlier byte.
 pub record PlacesKeepTheOrder (kind : Kind) (text : List ℕ) : Type 0 where
   pub places : (at later place other : ℕ) → IsBytePlace kind text at place

@@ -26,18 +26,18 @@ abbrev pub is_itself : QuotedUnit → Bool
 is_itself (Plain c) = true
 is_itself _ = false
 
--- Each byte of the value of a character or escape comes from a range of its text. This is the offset where the range of the
--- byte `at` begins. In a character that represents itself, the range is the byte itself, and begins at `at`. In an escape,
--- the range is the whole escape, and begins at 0. `ends_in` is the offset where the range ends.
+-- The start of the range, in the text of a character or escape, that encodes the byte `at` of its value. In a character that
+-- represents itself, each byte encodes itself, so the start is `at`. An escape encodes its value as a whole, so the start is
+-- 0. `ends_in` is the end of the range.
 abbrev pub begins_in : QuotedUnit → ℕ → ℕ
 begins_in unit at = if is_itself unit then at else 0
 
 abbrev pub ends_in : QuotedUnit → ℕ → ℕ
 ends_in unit at = if is_itself unit then at + 1 else byte_len (unit_text unit)
 
--- For the byte `at` of the value of a sequence of characters and escapes, a byte offset in their text. The byte belongs to
--- one character or escape, and `inside` gives the offset within that one. If the value has no byte `at`, the result is the
--- length of the text.
+-- A byte offset in the text of a sequence of characters and escapes, for the byte `at` of their value. One character or
+-- escape encodes the byte, and `inside` gives the offset within this character or escape. If the value has no byte `at`, the
+-- result is the length of the text.
 abbrev pub unit_place : (QuotedUnit → ℕ → ℕ) → Kind → List QuotedUnit → ℕ → ℕ
 unit_place inside kind [] at = 0
 unit_place inside kind (unit ∷ units) at =
@@ -56,22 +56,22 @@ AreUnitsOf kind text units lo =
     ⊎ ((value : List ℕ) × (suffix : List ℕ) × (s : Single kind text value suffix)
     × (units ≡ s.unit ∷ []) × (lo ≡ length (opener kind)))
 
--- `place` is a byte offset in the literal's text, for the byte `at` of its value. The byte belongs to one character or
--- escape, and `inside` gives the offset within that one. If the value has no byte `at`, `place` is the offset of the closing
--- quote.
+-- `place` is a byte offset in a literal's text, for the byte `at` of the literal's value. One character or escape encodes
+-- the byte, and `inside` gives the offset within this character or escape. If the value has no byte `at`, `place` is the
+-- offset of the closing quote.
 pub record IsGivenAt (inside : QuotedUnit → ℕ → ℕ) (kind : Kind) (text : List ℕ) (at place : ℕ) : Type 0 where
   pub units : List QuotedUnit
   pub lo : ℕ
   pub units_are : AreUnitsOf kind text units lo
   pub place_is : place ≡ lo + unit_place inside kind units at
 
--- The byte offset in a literal's text where the range begins that a byte of its value comes from. In `"\x41b"` it is 1 for
--- the byte 0 of the value, and 5 for the byte 1. If the value has no such byte, it is the offset of the closing quote.
+-- The start of the range of a literal's text that encodes a byte of its value. In `"\x41b"` the start is 1 for byte 0 of the
+-- value, and 5 for byte 1. If the value has no such byte, the start is the offset of the closing quote.
 abbrev pub IsBytePlace : Kind → List ℕ → ℕ → ℕ → Type 0
 IsBytePlace = IsGivenAt begins_in
 
--- The byte offset in a literal's text where the range ends that a byte of its value comes from. In `"\x41b"` it is 5 for the
--- byte 0 of the value, and 6 for the byte 1. If the value has no such byte, it is the offset of the closing quote.
+-- The end of the range of a literal's text that encodes a byte of its value. In `"\x41b"` the end is 5 for byte 0 of the
+-- value, and 6 for byte 1. If the value has no such byte, the end is the offset of the closing quote.
 abbrev pub IsByteEnd : Kind → List ℕ → ℕ → ℕ → Type 0
 IsByteEnd = IsGivenAt ends_in
 
@@ -107,14 +107,15 @@ value_bytes (Char c) = encode_utf8 c
 value_bytes (Byte b) = b ∷ []
 value_bytes Nothing = []
 
--- The offset in a segment where the range begins that the byte `at` of its value comes from. In a segment of plain
--- characters it is `at`. In any other segment, the range is the whole segment, and the offset is 0.
+-- The start of the range of a segment that encodes the byte `at` of its value, as an offset in the segment. In a segment of
+-- plain characters, each byte encodes itself, so the start is `at`. Any other segment encodes its value as a whole, so the
+-- start is 0.
 abbrev pub value_place : SegmentValue → ℕ → ℕ
 value_place (Text run) at = at
 value_place value at = 0
 
--- The byte offset in the literal's text where the range begins that the byte `at` of the segment's value comes from.
--- `segment_end` is the offset where the range ends.
+-- The start of the range of a literal's text that encodes the byte `at` of a segment's value. `segment_end` is the end of
+-- the range.
 abbrev pub segment_place : Segment → ℕ → ℕ
 segment_place s at = s.lo + value_place s.value at
 
@@ -199,15 +200,16 @@ abbrev pub GivesSegment : SegmentsState → Option Segment → SegmentsState →
 GivesSegment old segment new =
     MatchOption segment ((old.rest ≡ []) × (new ≡ old)) (λ s. TakesSegment old s new)
 
--- `place` is a byte offset in the literal's text, for the byte `at` of its value, where `at` counts from the cursor's
--- position. The byte belongs to one character or escape, and `inside` gives the offset within that one.
+-- `place` is a byte offset in a literal's text, for the byte `at` of the literal's value, where `at` counts from the
+-- cursor's position. One character or escape encodes the byte, and `inside` gives the offset within this character or
+-- escape.
 pub record IsLeftAt (inside : QuotedUnit → ℕ → ℕ) (s : SegmentsState) (at place : ℕ) : Type 0 where
   pub units : List QuotedUnit
   pub are_left : AreLeft s units
   pub place_is : place ≡ s.at + unit_place inside s.kind units at
 
--- The byte offset in the literal's text where the range begins that a byte of its value comes from. Bytes of the value count
--- from the cursor's position. `IsEndLeft` is for the offset where the range ends.
+-- The start of the range of a literal's text that encodes a byte of its value, where bytes count from the cursor's position.
+-- `IsEndLeft` is for the end of the range.
 abbrev pub IsPlaceLeft : SegmentsState → ℕ → ℕ → Type 0
 IsPlaceLeft = IsLeftAt begins_in
 
@@ -246,7 +248,7 @@ abbrev pub span_from : Span → ℕ → ℕ → Span
 span_from base lo hi = record { file = base.file; lo = base.lo + lo; hi = base.lo + hi }
 
 -- The table has an entry for each byte of the literal's value, counted from the cursor's position: the span of the range
--- that the byte comes from. Its last entry is the empty span at the closing quote. The literal's text begins at the start of
+-- that encodes the byte. Its last entry is the empty span at the closing quote. The literal's text begins at the start of
 -- the span `base`.
 pub record IsSpanTable (s : SegmentsState) (base : Span) (table : List Span) : Type 0 where
   pub units : List QuotedUnit

@@ -11,7 +11,7 @@ abbrev pub HasNoCarriageReturn : List ℕ → Type 0
 HasNoCarriageReturn text = IsTrue (list_all (λ c. not (c == code "\r")) text)
 
 -- `syn`'s and Rust's grammar agree on whether the text is a byte literal, or a byte string literal that isn't raw, and on
--- its value and its suffix. Only suffixes that Rust's grammar allows count.
+-- its value and its suffix. Only literals with a suffix that Rust's grammar allows are compared.
 pub record BytesAreStrict (text : List ℕ) : Type 0 where
   pub byte : (contents : Contents) (suffix : List ℕ)
       → (Reads text Byte contents suffix

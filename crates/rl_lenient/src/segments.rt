@@ -188,9 +188,8 @@ pub fn split_segment(kind: Kind, plain: bool, text: &str) -> (SegmentValue<'_>, 
 impl<'t> Segment<'t> {
     ghost use Rattle.rl_lenient.specs.Segments.{segment_end, segment_place};
 
-    /// Returns the byte offset in the literal's text where the range begins that the byte `at` of the segment's value
-    /// comes from. In a segment of plain characters, the range is the byte itself. In any other segment, the range is
-    /// the whole segment.
+    /// Returns the start of the range of the literal's text that encodes the byte `at` of the segment's value. In a
+    /// segment of plain characters, each byte encodes itself. Any other segment encodes its value as a whole.
     #[inline(always)]
     pub fn text_offset(self, at: usize) -> usize
         requires { segment_place self at < self.hi }
@@ -202,9 +201,8 @@ impl<'t> Segment<'t> {
         }
     }
 
-    /// Returns the byte offset in the literal's text where the range ends that the byte `at` of the segment's value
-    /// comes from. In a segment of plain characters, the range is the byte itself. In any other segment, the range is
-    /// the whole segment.
+    /// Returns the end of the range of the literal's text that encodes the byte `at` of the segment's value. In a
+    /// segment of plain characters, each byte encodes itself. Any other segment encodes its value as a whole.
     #[inline(always)]
     pub fn text_end_offset(self, at: usize) -> usize
         requires { segment_place self at < self.hi }
@@ -279,8 +277,8 @@ impl<'t> Segments<'t> {
         None
     }
 
-    /// Returns the byte offset in the literal's text where the range begins that the byte `at` of the literal's value
-    /// comes from. A byte of a plain character comes from itself, and a byte of an escape from the whole escape.
+    /// Returns the start of the range of the literal's text that encodes the byte `at` of the literal's value. A byte
+    /// of a plain character encodes itself, and an escape as a whole encodes its value.
     ///
     /// `at` counts from the start of the next segment's value. At the end of the value, and beyond it, the result is
     /// the offset of the closing quote.
@@ -294,9 +292,9 @@ impl<'t> Segments<'t> {
         }
     }
 
-    /// Returns the byte offset in the literal's text where the range ends that the byte `at` of the literal's value
-    /// comes from. A byte of a plain character comes from itself, and a byte of an escape from the whole escape. An
-    /// escaped line end after the range isn't included.
+    /// Returns the end of the range of the literal's text that encodes the byte `at` of the literal's value. A byte of
+    /// a plain character encodes itself, and an escape as a whole encodes its value. An escaped line end after the
+    /// range isn't included.
     ///
     /// `at` counts from the start of the next segment's value. At the end of the value, and beyond it, the result is
     /// the offset of the closing quote.
@@ -335,8 +333,8 @@ fn is_quoted(kind: Kind) -> bool
     !matches!(kind, Kind::Int | Kind::Float | Kind::Bool)
 }
 
-/// Returns the byte offset in the quoted literal `text` where the range begins that the byte `at` of its decoded value
-/// comes from. Returns `None` if the text isn't a quoted literal. [`Segments::text_offset`] describes the offset.
+/// Returns the start of the range of the quoted literal `text` that encodes the byte `at` of its decoded value.
+/// Returns `None` if the text isn't a quoted literal. [`Segments::text_offset`] describes the result.
 ///
 /// # Example
 ///

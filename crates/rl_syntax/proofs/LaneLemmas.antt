@@ -104,7 +104,7 @@ module _ {X : Type 0} (p q : X → Bool) (opposite : (x : X) → not (q x) ≡ p
       (prefix_len q (chunk i n d))
   split d i n = ap (prefix_len q) (chunk-drop i n d) ∙ prefix_len-append q (chunk i n d) (drop (i + n) d)
 
-  -- If no byte of a chunk of a list fails a test, the sequence of passing bytes continues after the chunk.
+  -- If no byte of a chunk fails a test, the sequence of passing bytes continues after the chunk.
   pub run_through : (d : List X) (i n : ℕ) → i + n ≤ length d → mask_l (map p (chunk i n d)) ≡ 0
       → prefix_len q (drop i d) ≡ n + prefix_len q (drop (i + n) d)
   run_through d i n room none =
@@ -113,7 +113,7 @@ module _ {X : Type 0} (p q : X → Bool) (opposite : (x : X) → not (q x) ≡ p
       (eq-eqb _ _ (same_run c ∙ leading_from_mask_l p c none))
       ∙ ap (λ k. k + prefix_len q (drop (i + n) d)) (length-chunk i n d room)
 
-  -- The lowest bit of the mask of a chunk is at the first byte of the chunk that fails a test.
+  -- A mask has a set bit for each byte of a chunk that fails a test. Its lowest set bit is at the first byte that fails.
   pub run_stops : (d : List X) (i n : ℕ) → i + n ≤ length d → n ≤ 64 → 0 < mask_l (map p (chunk i n d))
       → prefix_len q (drop i d) ≡ count_trailing_zeros 64 (mask_l (map p (chunk i n d)))
   run_stops d i n room short some =
@@ -122,7 +122,7 @@ module _ {X : Type 0} (p q : X → Bool) (opposite : (x : X) → not (q x) ≡ p
       (ne_eqb _ _ (λ (e : prefix_len q c ≡ length c). omega (arith, all_pass c (sym (same_run c) ∙ e))))
       ∙ same_run c ∙ sym (trailing_mask_l p 64 c (omega (arith, length-chunk i n d room)) some)
 
-  -- If the mask of a chunk isn't 0, its lowest bit is within the chunk.
+  -- If the mask of a chunk isn't 0, its lowest set bit is within the chunk.
   pub stops_within : (d : List X) (i n : ℕ) → i + n ≤ length d → n ≤ 64 → 0 < mask_l (map p (chunk i n d))
       → count_trailing_zeros 64 (mask_l (map p (chunk i n d))) < n
   stops_within d i n room short some =

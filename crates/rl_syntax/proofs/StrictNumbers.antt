@@ -157,8 +157,8 @@ without_minus t x Minus m r = (
   refl,
 )
 
--- The character is ASCII, and isn't a letter, a digit or an underscore. So no integer literal contains the character
--- directly after its sign.
+-- The character is ASCII, and isn't a letter, a digit or an underscore. So an integer's prefix and its digits don't contain
+-- the character.
 pub record IsForeign (k : ℕ) : Type 0 where
   pub small : k < 128
   pub no_word : (is_ascii_alphanumeric k || eqb k 95) ≡ false

@@ -39,7 +39,7 @@ on_from q (suc n) (x ∷ xs) h = go (q x) refl h (on_from q n xs)
         omega (arith, here, more (omega arith))
     go false e h more = absurd (omega arith)
 
--- The lowest bit of the mask of sixteen bytes is at the first of these bytes at which a literal or a comment may begin.
+-- The lowest set bit of the mask of sixteen bytes is at the first of these bytes at which a literal or a comment may begin.
 pub first_place : (bs : List ℕ) (at m : ℕ) → at ≤ literal_free_prefix_len bs → at + 16 ≤ length bs
     → m ≡ mask_l (map may_begin_at (chunk at 16 (around 0 bs))) → m ≢ 0 → at + count_trailing_zeros 64 m
     ≡ literal_free_prefix_len bs

@@ -74,7 +74,8 @@ appended : (p b w : List ℕ) → IsUtf8 p → IsUtf8 b → b ≡ p ++ encode_ut
 appended p b w u v e = sym (chars_from_encodes (chars p ++ w) b v
     (encodes-append (chars p) w ∙ ap (λ z. z ++ encode_utf8_all w) (encodes-chars p u) ∙ sym e))
 
--- If a literal is written after a text, the bytes with the closing delimiter are the text and then the whole literal.
+-- Bytes are a text, an opening delimiter and the written forms of a value's characters. With the closing delimiter appended,
+-- they are the text and the literal that is written for the value.
 pub begun_whole_after : (k : Kind) (p a b xs ys : List ℕ) → a ≡ p ++ begun k xs → b ≡ a ++ encode_utf8 (closer k) → xs
     ≡ ys → IsUtf8 p → IsUtf8 b → chars b ≡ chars p ++ written_text k ys
 begun_whole_after k p a b xs ys e h same u v =
@@ -88,7 +89,8 @@ begun_whole_after k p a b xs ys e h same u v =
     ∙ append_assoc p (begun k xs) (encode_utf8 (closer k)) ∙ ap (λ z. p ++ z) (sym all))
     ∙ ap (λ z. chars p ++ written_text k z) same
 
--- After the closing delimiter is written, the written bytes are the whole literal.
+-- Bytes are an opening delimiter and the written forms of a value's characters. With the closing delimiter appended, they
+-- are the literal that is written for the value.
 pub begun_whole : (k : Kind) (a b xs ys : List ℕ) → a ≡ begun k xs → b ≡ a ++ encode_utf8 (closer k) → xs ≡ ys
     → IsUtf8 b → chars b ≡ written_text k ys
 begun_whole k a b xs ys e h same u = begun_whole_after k [] a b xs ys e h same IsUtf8-nil u

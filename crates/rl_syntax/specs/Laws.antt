@@ -42,8 +42,8 @@ AStrictTextReads =
     (t : List ℕ) (k : Kind) (v : Contents) (x : List ℕ)
     → Strict t k v x → IsWithinLimit k t → Reads t k v x
 
--- By `syn`'s grammar, a minus directly before a number of Rust's grammar is a number too. The digits of its value begin
--- with `-`, and its suffix is that of the number. An integer must be within 128 bits.
+-- By `syn`'s grammar, a number of Rust's grammar with a minus directly before it is a number too. The digits of its value
+-- begin with `-`, and its suffix is the suffix of the number without the minus. An integer must be within 128 bits.
 abbrev pub AStrictNumberReadsAfterAMinus : Type 0
 AStrictNumberReadsAfterAMinus =
     (t : List ℕ) (k : Kind) (ds x : List ℕ)

@@ -56,7 +56,7 @@ trivia_piece_text (White c) = c ∷ []
 trivia_piece_text (Line body) = code "/" ∷ code "/" ∷ body ++ code "\n" ∷ []
 trivia_piece_text (Block inside) = code "/" ∷ code "*" ∷ inside_text inside
 
--- The text that may follow the `//` of a plain line comment, up to its LF.
+-- The text can be the part of a plain line comment between its `//` and its LF.
 pub record IsLineBody (body : List ℕ) : Type 0 where
   pub plain : IsTrue (is_comment_line body)
   pub one_line : IsTrue (list_all (λ c. not (c == code "\n")) body)

@@ -28,8 +28,9 @@ pub fn a_strict_literal_is_a_syn_literal()
     ensures { AStrictTextReads }
 {}
 
-/// By `syn`'s grammar, a minus directly before a number of Rust's grammar is a number too. The digits of its value
-/// begin with `-`, and its suffix is that of the number. An integer must be within 128 bits.
+/// By `syn`'s grammar, a number of Rust's grammar with a minus directly before it is a number too. The digits of its
+/// value begin with `-`, and its suffix is the suffix of the number without the minus. An integer must be within 128
+/// bits.
 pub fn a_negated_strict_number_is_a_syn_literal()
     ensures { AStrictNumberReadsAfterAMinus }
 {}

@@ -276,8 +276,8 @@ pub fn begins_number(text: &str) -> bool {
 /// with sign and prefix. The body of a `bool` is the whole text. Body and suffix are slices of the text.
 ///
 /// The postcondition `strict_bytes` is about texts without CR. `syn`'s and Rust's grammar agree on whether such a text
-/// is a byte literal, or a byte string literal that isn't raw, and on its value and its suffix. Only suffixes that
-/// Rust's grammar allows count.
+/// is a byte literal, or a byte string literal that isn't raw, and on its value and its suffix. Only literals with a
+/// suffix that Rust's grammar allows are compared.
 #[cfg(feature = "__rendered")]
 #[inline]
 pub fn shape(text: &str) -> Option<Parts<'_>> {

@@ -78,7 +78,8 @@ pub fn skip_hashes(text: &str) -> &str {
     skip_class(CharClass::Hash, text)
 }
 
-/// Returns the class of characters that `WORD` selects: identifier characters if `WORD` is `true`, else white space.
+/// Returns the class of characters that `WORD` selects: identifier characters if `WORD` is `true`, white space if
+/// `WORD` is `false`.
 #[cfg(any(feature = "sources", feature = "settings"))]
 #[inline(always)]
 fn run_class<const WORD: bool>() -> CharClass {
@@ -89,8 +90,8 @@ fn run_class<const WORD: bool>() -> CharClass {
     }
 }
 
-/// Returns the text after the leading identifier characters, if `WORD` is `true`, or after the leading white space, if
-/// `WORD` is `false`.
+/// Returns the text after its leading characters of one class: identifier characters if `WORD` is `true`, white space
+/// if `WORD` is `false`.
 ///
 /// Sixteen bytes are tested at once, up to the first non-ASCII character.
 #[cfg(any(feature = "sources", feature = "settings"))]

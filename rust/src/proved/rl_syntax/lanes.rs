@@ -75,8 +75,8 @@ fn run_end<const WORD: bool>(bytes: &[u8], from: usize) -> usize {
     run_end_by_byte::<WORD>(bytes, at)
 }
 
-/// Returns the number of leading ASCII identifier characters, if `WORD` is `true`, or the number of leading bytes of
-/// ASCII white space, if `WORD` is `false`.
+/// Returns the number of leading bytes of one class: ASCII identifier characters if `WORD` is `true`, ASCII white
+/// space if `WORD` is `false`.
 ///
 /// The first sixteen bytes are tested at once, and most sequences end there.
 #[inline]
