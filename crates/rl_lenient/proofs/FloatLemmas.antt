@@ -254,7 +254,7 @@ float_past t n x h =
     ∙ ap (λ k. cond (first_passes is_ascii_digit u && is_suffix k) (Some k) None) rest
     ∙ ap (λ b. cond b (Some x) None) (and_from (first_passes is_ascii_digit u) (is_suffix x) first ok)
 
--- The text `y` is a fraction, perhaps an empty one, and the text that `after_fraction` returns.
+-- The text `y` consists of a fraction, perhaps an empty one, and the text that `after_fraction` returns for `y`.
 record Fractioned (y : List ℕ) : Type 0 where
   fraction : Fraction
   is : IsFraction fraction
@@ -279,7 +279,7 @@ abbrev power_sign : List ℕ → List ℕ
 power_sign [] = []
 power_sign (c ∷ cs) = cond (c == 43 || c == 45) (c ∷ []) []
 
--- A text is the sign at its start, perhaps an empty one, and the text after the sign.
+-- A text consists of the sign at its start, perhaps an empty one, and the text after the sign.
 sign_splits : (v : List ℕ) → (v ≡ power_sign v ++ after_power_sign v) × (is_power_sign (power_sign v) ≡ true)
 sign_splits [] = (refl, refl)
 sign_splits (c ∷ cs) = go (c == 43 || c == 45) refl
@@ -307,7 +307,7 @@ begins_true c cs b =
     (ap (has_digit_at 10) p ∙ ap (list_any (has_value 10)) y.0
     ∙ ap (λ z. z || list_any (has_value 10) (run (is_run_part (has_value 10)) b.rest)) d)
 
--- The text `z` is an exponent, perhaps none, and the text that `after_exponent` returns.
+-- The text `z` consists of an exponent, perhaps none, and the text that `after_exponent` returns for `z`.
 record Powers (z : List ℕ) : Type 0 where
   exponent : Exponent
   is : IsExponent exponent (after_exponent z)

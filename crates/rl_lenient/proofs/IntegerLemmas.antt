@@ -11,7 +11,7 @@ use Rattle.rl_lenient.specs.Mirrors.NumberAt.{run, has_value, is_suffix, digit_r
 use Rattle.rl_lenient.proofs.DigitRowLemmas.{within_or_past, capped_within, capped_past}
 use Rattle.rl_lenient.proofs.RunLemmas.{run_all, run_ends, run_join, run_past, suffix_complete, suffix_sound}
 
--- After the digits of an exponent, a text that is empty or an identifier is a suffix.
+-- If the text after the digits of an exponent is empty or an identifier, the text is a suffix.
 rest_suffix : (x : List ℕ) → (x ≡ []) ⊎ IsTrue (xid_ok x) → first_passes (is_run_part (has_value 10)) x ≡ false
     → is_suffix x ≡ true
 rest_suffix [] h k = refl
@@ -244,7 +244,7 @@ int_built t b front some ends =
       magnitude_is = refl;
     }
 
--- If a choice between a value and `None` returns the value, its condition is true.
+-- If a choice between a value and `None` returns the value, the condition of the choice is true.
 pub chosen_some : {A : Type 0} (b : Bool) (q p : A) → cond b (Some q) None ≡ Some p → (b ≡ true) × (q ≡ p)
 chosen_some true q p h = (refl, cc)
 chosen_some false q p h = absurd (cc)

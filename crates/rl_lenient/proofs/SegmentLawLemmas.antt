@@ -197,7 +197,7 @@ ends_after kind (u ∷ us) at =
 
 -- ---- each byte of the value of a text between quotes has one offset
 
--- The first character of a character or escape shows whether it represents itself.
+-- The first character of the text of a character or escape decides whether the text represents itself.
 told : (kind : Kind) (u : QuotedUnit) → IsUnit kind u → is_itself u ≡ first_passes (is_plain kind) (unit_text u)
 told kind (Plain c) h = sym h
 told kind CrLf h = sym (quote_and_return kind h).1

@@ -57,7 +57,7 @@ character_named kind (Hex high low) b allowed other = refl
 character_named kind (Unicode first more) b allowed other = refl
 character_named kind (Continuation c run) b allowed other = no_line_end c allowed.1
 
--- If two characters have equal values in literals of a kind, they are equal.
+-- If two characters have equal values in literals of a kind, the characters are equal.
 one_content : (kind : Kind) (n c : ℕ) → IsScalar n → IsScalar c → content_of kind (n ∷ []) ≡ content_of kind (c ∷ [])
     → n ≡ c
 one_content kind n c s t e = go (decodes_to_chars kind) e

@@ -1,4 +1,4 @@
--- The bytes of a quoted literal are split as its characters are.
+-- The split of a quoted literal's characters into parts is also a split of its bytes.
 use Rattle.rl_syntax.proofs.Common.{◌≡◌, ℕ, zero, suc, List, [], ◌∷◌, ◌++◌, replicate, refl, sym, ap, ◌∙◌, inl, inr, arith, encode_utf8_all, IsAscii, IsUtf8, encodes-chars, encodes-append}
 use Rattle.rl_lenient.proofs.Names.{Kind, Str, ByteStr, CStr, Byte, Char, Int, Float, BoolKind, opener, raw_opener}
 use Rattle.std.specs.Str.{chars}

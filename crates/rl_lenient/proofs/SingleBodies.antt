@@ -107,7 +107,8 @@ single_parts : (form : QuotedForm) (kind : Kind) (t value body suffix : List ℕ
 single_parts SingleForm kind t value body suffix s p = p
 single_parts k kind t value body suffix s p = absurd (not_both kind p.0.string s)
 
--- The text at the byte offsets of the body of a character or byte literal is its body.
+-- In the parse result of a character or byte literal, the text at the body's byte offsets is the text between the literal's
+-- quotes.
 pub single_at : (kind : Kind) (t : List ℕ) (body : Body) → is_single kind ≡ true → IsQuotedAt kind t body
     → HasSingleBody kind (chars t) (body_in t body)
 single_at kind t body s at =

@@ -110,7 +110,7 @@ abbrev group : ℕ → ℕ → List ℕ → List (ℕ × ℕ)
 group first n [] = (first, n) ∷ []
 group first n (c ∷ cs) = cond (eqb c 95) (group first (suc n) cs) ((first, n) ∷ group c 0 cs)
 
--- One more underscore than n is n underscores with an underscore after them.
+-- A list of n + 1 underscores is n underscores and then one more.
 underscore_more : (n : ℕ) (cs : List ℕ) → replicate (suc n) 95 ++ cs ≡ replicate n 95 ++ (95 ∷ cs)
 underscore_more zero cs = refl
 underscore_more (suc n) cs = ap (λ z. 95 ∷ z) (underscore_more n cs)

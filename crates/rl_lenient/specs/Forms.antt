@@ -6,7 +6,8 @@ use Rattle.rl_syntax.specs.Quoted.{Cooked, Raw, Single, is_string, is_single, is
 use Rattle.rl_lenient.specs.declared.quoted_forms.QuotedForm.{QuotedForm}
 use Rattle.rl_lenient.specs.declared.quoted_forms.QuotedForm.TheVariants.{Cooked as CookedForm, Raw as RawForm, Single as SingleForm}
 
--- Whether literals of the kind can have the form. Strings can be with escapes or raw, and characters and bytes are single.
+-- Whether literals of the kind can have the form. A string can have the form with escapes or the raw form. A character or
+-- byte literal has the single form.
 abbrev pub has_form : QuotedForm → Kind → Bool
 has_form CookedForm kind = is_string kind
 has_form RawForm kind = is_string kind

@@ -49,7 +49,7 @@ TheOffsetsOfBytesAreInTheBody =
     (kind : Kind) (text : List ℕ) (body : Body) → IsUtf8 text
     → IsQuotedAt kind text body → OffsetsAreIn kind text body
 
--- If a minus precedes bytes of UTF-8, their decoded characters are the minus and the characters of the bytes.
+-- Decoding a minus and the bytes after it gives the minus and the decoded characters of the bytes.
 abbrev pub DecodingKeepsALeadingMinus : Type 0
 DecodingKeepsALeadingMinus = (bytes : List ℕ) → chars (code "-" ∷ bytes) ≡ code "-" ∷ chars bytes
 

@@ -126,7 +126,7 @@ value_end value lo hi at = hi
 abbrev pub segment_end : Segment → ℕ → ℕ
 segment_end s at = value_end s.value s.lo s.hi at
 
--- The value of an escape as that of a segment: a character in a literal of characters, and otherwise a byte.
+-- The segment value for the number that an escape represents: a character in a literal of characters, and otherwise a byte.
 abbrev pub number_segment : Kind → ℕ → SegmentValue
 number_segment kind n = if decodes_to_chars kind then Char n else Byte n
 

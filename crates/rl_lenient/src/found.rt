@@ -181,7 +181,8 @@ fn float_found<'t>(text: &'t str, suffix: &'t str) -> Found
     }
 }
 
-/// Parses the text as an integer literal. Returns `None` if it isn't one, and `Some(None)` if it is one above 128 bits.
+/// Parses the text as an integer literal. Returns `None` if the text isn't an integer literal, and `Some(None)` for an
+/// integer above 128 bits.
 pub fn find_int(text: &str) -> Option<Option<Found>>
     ensures none { IfNone result (HasNoInteger (chars text.now)) }
     ensures past { IfSome result (λ o. IfNone o (IsPast (chars text.now))) }

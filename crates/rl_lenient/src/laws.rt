@@ -35,7 +35,7 @@ pub fn text_offsets_are_in_the_body()
     ensures { TheOffsetsOfBytesAreInTheBody }
 {}
 
-/// If a minus precedes bytes of UTF-8, their decoded characters are the minus and the characters of the bytes.
+/// Decoding a minus and the bytes after it gives the minus and the decoded characters of the bytes.
 pub fn decoding_keeps_a_leading_minus()
     ensures { DecodingKeepsALeadingMinus }
 {}

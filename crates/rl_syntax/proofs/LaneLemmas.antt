@@ -33,12 +33,12 @@ both_lanes : {X : Type 0} (p q : X → Bool) (v : List X) → zip2 bit_or (map (
 both_lanes p q [] = refl
 both_lanes p q (x ∷ xs) = ap₂ (λ a b. a ∷ b) (lane_or (p x) (q x)) (both_lanes p q xs)
 
--- The bitwise or of the vectors for two tests is the vector for the test that one of the two passes.
+-- The bitwise or of the vectors of two tests is the vector of the disjunction of the tests.
 pub either : {X : Type 0} (p q : X → Bool) (v : List X) {a b : List ℕ} → a ≡ map (λ x. lane (p x)) v → b ≡ map (λ x. lane (q x)) v
     → zip2 bit_or a b ≡ map (λ x. lane (p x || q x)) v
 either p q v e f = ap₂ (zip2 bit_or) e f ∙ both_lanes p q v
 
--- The bitwise and of the vectors for two tests is the vector for the test that both pass.
+-- The bitwise and of the vectors of two tests is the vector of the conjunction of the tests.
 pub both : {X : Type 0} (p q : X → Bool) (v : List X) {a b : List ℕ} → a ≡ map (λ x. lane (p x)) v
     → b ≡ map (λ x. lane (q x)) v → zip2 bit_and a b ≡ map (λ x. lane (p x && q x)) v
 both {X = X} p q v e f = ap₂ (zip2 bit_and) e f ∙ go v

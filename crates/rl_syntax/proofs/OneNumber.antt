@@ -11,7 +11,7 @@ use Rattle.rl_syntax.proofs.StrictNumbers.{no_part, suffix_no_part, digit_front,
 
 -- ---- signs
 
--- A text can be split into a sign, perhaps none, and a text that begins with a digit in at most one way.
+-- There is at most one way to split a text into a sign, perhaps none, and a text that begins with a digit.
 pub same_sign : (s z : Sign) (a b : List ℕ) → first_passes is_ascii_digit a ≡ true → first_passes is_ascii_digit b
     ≡ true → sign_text s ++ a ≡ sign_text z ++ b → (s ≡ z) × (a ≡ b)
 same_sign NoSign NoSign a b ha hb e = (refl, e)
@@ -116,7 +116,7 @@ sign_cases (c ∷ []) h =
     ]
 sign_cases (c ∷ d ∷ s) h = absurd (cc)
 
--- The text after the letter of an exponent can be split into digits and a suffix in only one way.
+-- There is only one way to split the text after an exponent's letter into the digits of the exponent and a suffix.
 same_power : (us s run vs z sow x y : List ℕ) → list_all is_underscore us ≡ true → is_power_sign s ≡ true
     → list_all (is_run_part (is_digit Decimal)) run ≡ true → list_all is_underscore vs ≡ true → is_power_sign z ≡ true
     → list_all (is_run_part (is_digit Decimal)) sow ≡ true → IsSuffix x → IsSuffix y → (us ++ (s ++ run)) ++ x

@@ -464,7 +464,7 @@ signed_float sign t x v f =
 
 -- ---- the laws
 
--- Whether each integer that the text is parsed as is within 128 bits.
+-- In each parse result of the text as an integer, the magnitude is within 128 bits.
 abbrev pub IsWithin : List ℕ → Type 0
 IsWithin t = (sign : Sign) (magnitude : ℕ) (suffix : List ℕ) → IntReads t sign magnitude suffix → magnitude ≤ limit
 

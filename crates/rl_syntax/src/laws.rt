@@ -56,8 +56,8 @@ pub fn both_grammars_agree()
     ensures { BothGrammarsAgree }
 {}
 
-/// Two parse results of a text are equal as records of a kind, a value and a suffix, whether each is by `syn`'s or by
-/// Rust's grammar.
+/// Two parse results of a text are equal records of a kind, a value and a suffix. Each of the two may be by `syn`'s or
+/// by Rust's grammar.
 pub fn readings_of_a_text_are_equal()
     ensures readings { ReadingsOfATextAreOne }
     ensures strict { StrictReadingsOfATextAreOne }

@@ -11,7 +11,7 @@ use Rattle.rl_syntax.specs.Mirrors.RunsAt.{is_ascii_id_continue}
 abbrev pub is_likely_mark : ℕ → Bool
 is_likely_mark c = c == code "\"" || c == code "'" || c == code "/" || nat_le 128 c
 
--- Whether a byte may begin a literal, `true` or `false`, if no identifier character precedes the byte.
+-- Whether a byte may begin a literal or a word `true` or `false`, if no identifier character precedes the byte.
 abbrev pub is_likely_head : ℕ → Bool
 is_likely_head c =
     is_ascii_digit c || c == code "b" || c == code "c" || c == code "f" || c == code "r"
@@ -49,7 +49,7 @@ around before (c ∷ cs) = (before, c, first_or 0 cs) ∷ around c cs
 abbrev pub may_begin_at : ℕ × ℕ × ℕ → Bool
 may_begin_at x = not (begins_none x.0 x.1 x.2)
 
--- The number of bytes before the first one at which a literal or a comment may begin. The byte `before` precedes them.
+-- The number of bytes before the first one at which a literal or a comment may begin. The byte `before` precedes the list.
 abbrev pub unlikely_after : ℕ → List ℕ → ℕ
 unlikely_after before [] = 0
 unlikely_after before (c ∷ cs) =

@@ -88,8 +88,8 @@ const NAMED: [u8; 128] = [
     255, 255, b'\r', 255, b'\t', 255, 255, 255, 255, 255, 255, 255, 255, 255, 255, 255,
 ];
 
-/// Returns the value of the escape of a backslash and the character `letter` in a literal of the kind, as LF for `\n`.
-/// Returns `None` if it isn't an escape of that kind.
+/// Returns the value of the escape of a backslash and the character `letter`, as LF for `\n`. Returns `None` if a
+/// literal of the kind can't contain this escape.
 #[inline(always)]
 fn named_value(kind: Kind, letter: u8) -> Option<u8> {
     let value = NAMED[letter as usize];
@@ -172,8 +172,8 @@ pub fn parse_code_digits(text: &str, from: usize) -> Option<CodeDigits> {
     Some(more_digits(first, text, from, after))
 }
 
-/// Returns the character whose number the digits of an escape `\u{..}` represent, and the byte offset after its closing
-/// brace. Returns `None` if no brace follows the digits, or if no character has the number.
+/// Returns the character whose code point the digits of an escape `\u{..}` represent, and the byte offset after its
+/// closing brace. Returns `None` if no brace follows the digits, or if no character has the code point.
 #[inline(always)]
 fn closed_code(text: &str, digits: CodeDigits) -> Option<(char, usize)> {
     let Some((b'}', after)) = ascii_at(text, digits.end) else {
