@@ -13,7 +13,8 @@ abbrev pub BreakEnds : StrictUnit → List ℕ → Type 0
 BreakEnds (LineBreak blanks) after = IsFalse (first_passes is_dropped_blank after)
 BreakEnds _ after = ⊤
 
--- Each escaped line end in the sequence includes all white space after it. The text `rest` follows the sequence.
+-- Each escaped line end in a sequence of characters and escapes includes all white space after it. The text `rest` follows
+-- the sequence.
 abbrev pub BreaksEnd : List StrictUnit → List ℕ → Type 0
 BreaksEnd [] rest = ⊤
 BreaksEnd (u ∷ us) rest = BreakEnds u (flat_map strict_text us ++ rest) × BreaksEnd us rest
