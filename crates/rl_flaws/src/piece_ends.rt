@@ -102,8 +102,8 @@ fn after_escape(ends: LineEnds, quote: char, text: &str) -> &str
     }
 }
 
-/// Returns the text after the invalid escape or character with which the given text begins. There the parsing of a string
-/// continues.
+/// Returns the text after the invalid escape or character with which the given text begins. The parsing of a string continues
+/// at the returned text.
 #[tactic(auto, using(rl_syntax::proofs::TailLemmas::tail_self, rl_syntax::proofs::TailLemmas::tail_step, rl_strict::proofs::EndLemmas::self_in, rl_strict::proofs::EndLemmas::step_in))]
 pub fn after_bad_piece(ends: LineEnds, quote: char, text: &str) -> &str
     ensures read { read_of ends (chars result.now) ≡ after_bad_piece quote (read_of ends (chars text.now)) }

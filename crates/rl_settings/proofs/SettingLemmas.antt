@@ -1,4 +1,5 @@
--- The token or the end where a part of a setting was expected, and the end of a token tree.
+-- Lemmas about errors for missing parts of settings: the token or the text's end in the place of the part, and the end of a
+-- token tree.
 use Rattle.rl_syntax.proofs.Common.{◌≡◌, ◌≢◌, ℕ, ◌+◌, ◌-◌, ◌≤◌, inl, inr, Bool, true, false, List, [], ◌∷◌, length, refl, ◌∙◌, ◌==◌, ap, subst, arith, chars, if◌then◌else◌}
 use Rattle.rl_lexer.specs.declared.cursor.Lexeme.{Lexeme}
 use Rattle.rl_lexer.specs.declared.lex_error.LexKind.{LexKind}
@@ -21,7 +22,7 @@ other_name (found.Mark c) h e = absurd (cc)
 pub no_memory : (kind : LexKind) (r : List ℕ) → ((groups : List OpenGroup) → ErrorAt kind groups r) → kind ≡ Memory → ⊥
 no_memory kind r h e = subst (λ (k : LexKind). ErrorAt k [] r) e (h [])
 
--- If the code's test for an empty rest returns `false`, the rest isn't empty.
+-- If the code's test whether the unread text is empty returns `false`, this text isn't empty.
 pub some_rest : (rest now : List ℕ) (empty : Bool) → now ≡ rest → empty ≡ (length now == 0) → empty ≡ false → rest ≡ []
     → ⊥
 some_rest rest now empty same is none e =
@@ -41,8 +42,8 @@ one_deeper (MarkForm c) depth = omega arith
 
 -- ---- the loop over the tokens of a token tree
 
--- The loop's invariant: if the rest of the token tree after `t` ends at an offset, the whole token tree after `first` ends at
--- this offset.
+-- The loop over the tokens of a token tree began at the cursor `first`, and is now at the cursor `t`. The loop's invariant:
+-- if the token tree ends at an offset after `t`, it ends at this offset after `first`.
 abbrev pub Leads : ℕ → ℕ → CursorState → ℕ → ℕ → CursorState → Type 0
 Leads depth end t first_depth first_end first =
     (hi : ℕ) → EndsInside depth end t hi → EndsInside first_depth first_end first hi
@@ -59,7 +60,7 @@ pub ends_closed : (depth end first_depth first_end : ℕ) (t first : CursorState
     → Leads depth end t first_depth first_end first → EndsInside first_depth first_end first end
 ends_closed depth end first_depth first_end t first none leads = leads end ([], (inl none, refl))
 
--- If no token begins the rest of a text, the token tree ends at the end of the last token.
+-- If no token begins at the cursor's position, the token tree ends where the last token ends.
 pub ends_stuck : (depth end first_depth first_end : ℕ) (t first : CursorState) → BeginsNoLexeme (chars t.rest)
     → Leads depth end t first_depth first_end first → EndsInside first_depth first_end first end
 ends_stuck depth end first_depth first_end t first none leads = leads end ([], (inr none, refl))

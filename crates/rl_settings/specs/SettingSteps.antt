@@ -55,15 +55,15 @@ abbrev pub depth_after : LexemeForm → ℕ → ℕ
 depth_after (DelimiterForm c) depth = if is_opener c then depth + 1 else depth - 1
 depth_after _ depth = depth
 
--- The list has the next tokens, up to the one that closes the last open group, or up to an error of the lexer. Its last token
--- ends at the byte offset `hi`, and the token before the list ends at `end`.
+-- The list has the next tokens of a token tree of which `depth` groups are open. Its last token closes the last open group,
+-- or precedes an error of the lexer. The last token ends at the byte offset `hi`. The token before the list ends at `end`.
 abbrev pub AreRestOfTree : ℕ → ℕ → CursorState → List Lexeme → ℕ → Type 0
 AreRestOfTree depth end t [] hi = ((depth ≡ 0) ⊎ BeginsNoLexeme (chars t.rest)) × (hi ≡ end)
 AreRestOfTree depth end t (l ∷ ls) hi =
     (depth ≢ 0) × ((new : CursorState) × TakesNext t l new
     × AreRestOfTree (depth_after (form_view l.form) depth) l.hi new ls hi)
 
--- A token tree of which `depth` groups are open ends at the byte offset `hi`.
+-- The cursor is inside a token tree, of which `depth` groups are open. The token tree ends at the byte offset `hi`.
 abbrev pub EndsInside : ℕ → ℕ → CursorState → ℕ → Type 0
 EndsInside depth end t hi = (inside : List Lexeme) × AreRestOfTree depth end t inside hi
 

@@ -144,8 +144,8 @@ scalars_cased case (c ∷ cs) h =
     and_from (scalar (cased case c)) (scalars (map (cased case) cs)) (cased_scalar case c p.0)
     (scalars_cased case cs p.1)
 
--- If the code appends one more character in the given case, the written text is the longer sequence of characters in this
--- case.
+-- The code has written the characters `xs` in the given case. If it then writes the character `c` in this case, it has
+-- written `xs` and `c` in this case.
 pub cased_more : (case : Option Case) (p a b xs : List ℕ) (c : ℕ) → a ≡ p ++ encode_utf8_all (map (cased case) xs) → b
     ≡ a ++ encode_utf8 (cased case c) → b ≡ p ++ encode_utf8_all (map (cased case) (xs ++ (c ∷ [])))
 cased_more case p a b xs c e h =

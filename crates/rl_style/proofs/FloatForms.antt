@@ -161,8 +161,8 @@ shape_of numeral x (inr (inr a)) = PowerShape
 abbrev pub Groups : ℕ → ℕ → Bool → List ℕ → List ℕ
 Groups size least from_first run = regrouped from_first size least run
 
--- A text consists of digits and underscores, and of a rest that begins with neither. Then the digits at its start are all of
--- these digits and underscores, and the text after them is the rest.
+-- The text `run` consists of digits and underscores, and the text `x` begins with neither. At the start of `run ++ x`, the
+-- digits and underscores are exactly `run`, and `x` follows them.
 digits_past : (run x : List ℕ) → list_all (is_run_part is_ascii_digit) run ≡ true
     → first_passes (is_run_part is_ascii_digit) x ≡ false
     → (digit_run (run ++ x) ≡ run) × (after_run (is_run_part is_ascii_digit) (run ++ x) ≡ x)

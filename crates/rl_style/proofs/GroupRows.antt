@@ -51,7 +51,6 @@ bare_all test (c ∷ cs) h =
     go true k more = and_from (test c) (list_all test (without_underscores cs)) k more
     go false k more = more
 
--- If underscores fail a test, each character that is an underscore fails it.
 under_fails : (test : ℕ → Bool) (c : ℕ) → test 95 ≡ false → other c ≡ false → test c ≡ false
 under_fails test c n h = ap test (eq h) ∙ n
   where

@@ -31,7 +31,7 @@ run_shorter test (c ∷ t) = go (test c) (run_shorter test t)
     go true h = omega (arith, h)
     go false h = omega arith
 
--- The text after a sequence of characters isn't longer than the text that begins with this sequence.
+-- If characters at the start of a text are skipped, the text after them isn't longer than the whole text.
 no_longer : (test : ℕ → Bool) (c : ℕ) (t : List ℕ) → after_run test t ≡ c ∷ t → ⊥
 no_longer test c t e =
     let same : length (after_run test t) ≡ suc (length t) = ap length e in
@@ -136,7 +136,7 @@ not_based d (c ∷ u) h = go (d == 48) (c == 98) (c == 111) (c == 120) h
 letter_taken : (k : ℕ) (t : List ℕ) → is_start k ≡ true → after_suffix (k ∷ t) ≡ k ∷ t → ⊥
 letter_taken k t is h = no_longer is_continue k t (sym (ap (λ b. cond b (after_run is_continue t) (k ∷ t)) is) ∙ h)
 
--- If the lexer ends a decimal number at the start of a text, the text doesn't begin with the letter of a base.
+-- If the lexer's parser of decimal numbers consumes nothing of a text, the text doesn't begin with the letter of a base.
 base_taken : (c : ℕ) (t : List ℕ) → is_base_letter c ≡ true → after_decimal (c ∷ t) ≡ c ∷ t → ⊥
 base_taken c t is h = go (c == 120) (c == 111) refl refl is
   where
@@ -224,7 +224,7 @@ letter_fails test c lower upper h =
       | inr a ↦ subst (λ (x : ℕ). test x ≡ false) (sym (eqb-true c 69 a)) upper
     ]
 
--- If a sequence of digits and underscores contains a digit, it begins with a digit after its leading underscores.
+-- If a sequence of digits and underscores contains a digit, a digit follows its leading underscores.
 row_digit : (row w : List ℕ) → list_all is_part row ≡ true → list_any is_ascii_digit row ≡ true
     → first_passes is_ascii_digit (after_run is_underscore (row ++ w)) ≡ true
 row_digit [] w each some = absurd (cc)

@@ -300,8 +300,8 @@ again_hex drops plus digits letter c = go (cases_Bool (drops && c == 95))
         ∙ ap (λ z. z ∷ []) (twice_cased digits c))
         ∙ sym e
 
--- A property holds for each character if it holds for an underscore, for a plus, for `e`, for `E`, and for each other
--- character.
+-- Used to prove a property of all characters: it suffices to prove it for an underscore, for a plus, for `e`, for `E`, and
+-- for each other character.
 pub by_character : (P : ℕ → Type 0) (c : ℕ) → P 95 → P 43 → P 69 → P 101
     → ((c == 95) ≡ false → (c == 43) ≡ false → (c == 69) ≡ false → (c == 101) ≡ false → P c) → P c
 by_character P c under plus upper lower other =

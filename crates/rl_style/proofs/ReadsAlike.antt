@@ -20,7 +20,7 @@ same_dec m n e =
     let d : dec m ≡ dec n = cc in
     sym (dec_spells m) ∙ ap (place_value 10) d ∙ dec_spells n
 
--- If an integer token is within 128 bits, each integer token with an equal value is within 128 bits.
+-- If the value of an integer token is below 2^128, an integer token with an equal value is below 2^128 too.
 within : (t u : List ℕ) (k : Kind) (v : Contents) (x : List ℕ) → Reads t k v x → Strict t k v x → Strict u k v x
     → IsWithinLimit k u
 within t u Int v x r s w = λ sign m y h.

@@ -26,8 +26,8 @@ use Rattle.rl_style.proofs.NumberCharacters.{RowKeeps, RowStays, decimal_by, dig
 abbrev row_of : ℕ → List ℕ → Type 0
 row_of base run = list_all (is_run_part (of_base base)) run ≡ true
 
--- The sequence `kept` consists of digits and underscores, and contains a digit. It represents the number of the sequence
--- `run`, and is a sequence of decimal digits if `run` is.
+-- The sequence `kept` consists of digits and underscores, contains a digit, and represents the number that the sequence `run`
+-- represents. If `run` is a sequence of decimal digits, so is `kept`.
 pub record RowFacts (base : ℕ) (run kept : List ℕ) : Type 0 where
   pub each : row_of base kept
   pub some : list_any (of_base base) kept ≡ true

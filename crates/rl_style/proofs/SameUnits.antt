@@ -217,7 +217,7 @@ follows : (a b : Bool) → a ≡ true → (not a || b) ≡ true → b ≡ true
 follows true b h k = k
 follows false b h k = absurd (cc)
 
--- If a trial of each ASCII character shows that all visible ones pass a test, the visible character `n` passes the test.
+-- Used to prove by trying all ASCII characters that each visible character `n` passes a test.
 visible_test : (test : ℕ → Bool) (n : ℕ) → is_visible n ≡ true
     → ((n < 128) → (not (is_visible n) || test n) ≡ true) → test n ≡ true
 visible_test test n v all = follows (is_visible n) (test n) v (all (visible_low n v))
@@ -241,8 +241,8 @@ visible_allowed Char us n q v = visible_test (λ n. is_strict_unit Char (visible
     low)
 visible_allowed kind us n q v = absurd q
 
--- A property holds for each character that may have an escape with a letter if it holds for LF, CR and TAB, and for NUL in
--- case the character is NUL.
+-- Used to prove a property of each character that gets an escape with a letter. It suffices to prove the property for LF, CR
+-- and TAB, and for NUL in case the character is NUL.
 named_any : (P : ℕ → Type 0) (z : Bool) (n : ℕ) → gets_letter z n ≡ true → P 10 → P 13 → P 9
     → ((n == 0) ≡ true → P 0) → P n
 named_any P z n h a b c d =
@@ -644,7 +644,7 @@ twice_quote : (b : Bool) (style : Style) (k : Kind) (z : Bool) (c : ℕ) → (c 
 twice_quote true style k z c q e = shown_stays style k z c (quotes_shown c q)
 twice_quote false style k z c q e = ap (λ z. quote_unit z c) (sym e)
 
--- A numeric escape that is rewritten twice is equal to one that is rewritten once.
+-- If a numeric escape is rewritten a second time, it doesn't change.
 twice_respelled : (style : Style) (k : Kind) (z : Bool) (n : ℕ) (escape : StrictUnit) → restyled style k z escape
     ≡ respelled style k z n escape → restyled style k z (respelled style k z n escape) ≡ respelled style k z n escape
 twice_respelled style k z n escape h = go (style.ascii_escapes && is_visible n) (style.named_escapes && gets_letter z n)

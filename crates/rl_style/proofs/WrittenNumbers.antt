@@ -339,7 +339,8 @@ float_unchanged t new x v f mistyped e =
 
 -- ---- the code writes one part of a number after the other
 
--- If one more part is written, the whole text is still the text written so far and the text that is still to be written.
+-- The whole text consists of the text that is written so far, and of the text that is still to be written. If the code writes
+-- one more part, this still holds.
 pub one_more : (whole taken new one rest : List ℕ) → whole ≡ taken ++ encode_utf8_all (one ++ rest)
     → new ≡ taken ++ encode_utf8_all one → whole ≡ new ++ encode_utf8_all rest
 one_more whole taken new one rest e h =
@@ -347,7 +348,7 @@ one_more whole taken new one rest e h =
     ∙ sym (append_assoc taken (encode_utf8_all one) (encode_utf8_all rest))
     ∙ ap (λ z. z ++ encode_utf8_all rest) (sym h)
 
--- If a digit's group ends, the digit and then an underscore are written.
+-- If a digit is the last digit of its group, the code writes the digit and then an underscore.
 pub digit_marked : (old first new one : List ℕ) (b : Bool) → first ≡ old ++ encode_utf8_all one
     → new ≡ first ++ (95 ∷ []) → b ≡ true → new ≡ old ++ encode_utf8_all (one ++ cond b (95 ∷ []) [])
 digit_marked old first new one b e h is =

@@ -78,7 +78,7 @@ unraw_written style k t inside suffix new ui us p w =
 
 -- ---- the code writes one character of a raw string after another
 
--- The new text of the first characters of a raw string. The characters `left` follow them.
+-- The new text of the characters in the first list. The characters in the list `left` follow them in the raw string.
 abbrev pub raw_before : Style → List ℕ → List ℕ → List ℕ
 raw_before style [] left = []
 raw_before style (c ∷ cs) left =

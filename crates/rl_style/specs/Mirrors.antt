@@ -21,8 +21,8 @@ abbrev pub one_or_none : Option ℕ → List ℕ
 one_or_none None = []
 one_or_none (Some c) = c ∷ []
 
--- A rewritten sequence of digits and underscores. An underscore follows a digit if the number of digits after it passes the
--- test. Of the old underscores, only those at the end of the sequence are kept.
+-- A rewritten sequence of digits and underscores. The function `test` decides whether an underscore follows a digit, by the
+-- number of digits after it. Old underscores remain only at the end of the sequence.
 abbrev pub run_placed : (ℕ → List ℕ) → (ℕ → Bool) → List ℕ → List ℕ
 run_placed character test [] = []
 run_placed character test (c ∷ cs) =
@@ -31,7 +31,7 @@ run_placed character test (c ∷ cs) =
     else (character c ++ (if test (length (without_underscores cs)) then codes "_" else []))
     ++ run_placed character test cs
 
--- The text begins with the opening delimiter of a literal of the form and the kind.
+-- The text begins with the opening delimiter of a literal with the given form and kind.
 abbrev pub OpensAs : QuotedForm → Kind → List ℕ → Type 0
 OpensAs form kind text = (rest : List ℕ) × (opener_at text ≡ found_opener form kind rest)
 
@@ -61,17 +61,18 @@ pub record CookedParts (kind : Kind) (text inside suffix : List ℕ) : Type 0 wh
   pub is_suffix : IsStrictSuffix suffix
   pub text_is : text ≡ strict_opener kind ++ (inside ++ (strict_closer kind ++ suffix))
 
--- The first character of a value if it is ASCII, and 128 otherwise.
+-- The first character of a decoded value if it is ASCII, and 128 otherwise.
 abbrev pub ascii_in : List ℕ → ℕ
 ascii_in [] = 128
 ascii_in (n ∷ ns) = if nat_lt n 128 then n else 128
 
--- A visible ASCII character as it is written in a literal of the kind: with a backslash if it needs one.
+-- A visible ASCII character as a literal of the kind contains it. The closing quote and a backslash get a backslash before
+-- them.
 abbrev pub visible_text : Kind → ℕ → List ℕ
 visible_text kind c = if c == closer kind || c == code "\\" then code "\\" ∷ c ∷ [] else c ∷ []
 
--- The text of an escape's digits after the leading zeros and underscores. If it begins with the closing brace, a zero is put
--- before the brace.
+-- Puts a zero before the text if the text begins with `}`. The text is the end of a `\u{..}` escape, after the leading zeros
+-- and underscores. So at least one digit precedes the closing brace.
 abbrev pub zero_closed : List ℕ → List ℕ
 zero_closed [] = []
 zero_closed (c ∷ cs) = if c == code "}" then code "0" ∷ c ∷ cs else c ∷ cs
@@ -100,7 +101,7 @@ number_text style kind n text =
     else (if style.named_escapes && gets_letter true n then code "\\" ∷ letter_of n ∷ []
     else digits_text style text)
 
--- The new form of an escape with the value `n`. The argument is the text of the escape after its backslash.
+-- The new form of an escape with the value `n`. The last argument is the escape's text after the backslash.
 abbrev pub restyled_escape : Style → Kind → ℕ → List ℕ → List ℕ
 restyled_escape style kind n [] = code "\\" ∷ []
 restyled_escape style kind n (c ∷ cs) =

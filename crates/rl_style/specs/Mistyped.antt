@@ -1,4 +1,4 @@
--- Numbers whose suffix may be mistyped: `2_32` may be meant as `2_i32`. A character is its code.
+-- Numbers whose suffix may be mistyped: `2_32` may be meant as `2_i32`. Characters are code points.
 use Rattle.std.specs.Prelude.{ℕ, Bool, false, ◌&&◌, ◌||◌, ◌==◌, List, [], ◌∷◌}
 use Rattle.std.specs.List.{list_any}
 use Prim.Native.Char.{code}

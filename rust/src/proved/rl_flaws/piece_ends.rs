@@ -71,8 +71,8 @@ fn after_escape(ends: LineEnds, quote: char, text: &str) -> &str {
     }
 }
 
-/// Returns the text after the invalid escape or character with which the given text begins. There the parsing of a string
-/// continues.
+/// Returns the text after the invalid escape or character with which the given text begins. The parsing of a string continues
+/// at the returned text.
 #[inline]
 pub fn after_bad_piece(ends: LineEnds, quote: char, text: &str) -> &str {
     match split_first_char(ends, text) {

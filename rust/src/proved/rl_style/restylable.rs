@@ -5,10 +5,10 @@ use crate::rl_style::calls::{Calls, advance_calls, is_in_call};
 use crate::rl_lexer::{Form, LexError, SourceForm, SourceToken, Sources};
 use crate::rl_syntax::text::{begins_with_char, strip_byte};
 
-/// The last token before a number, as far as it shows whether the number is a field of a tuple.
+/// The description of the token before a number. It tells whether the number may be a field of a tuple, as in `t.0`.
 #[derive(Clone, Copy)]
 pub(crate) enum Last {
-    /// Another token, or no token.
+    /// No token, or a token after which a number isn't a field.
     Other,
     /// A dot without a dot directly before it. A number after it is a field, as in `t.0`.
     Dot,
@@ -49,7 +49,8 @@ pub struct Restylables<'t> {
     calls: Calls<'t>,
 }
 
-/// Describes the last token after one more dot. `is_joined` is true if the dot directly follows the token before it.
+/// Returns the description of a dot. `last` describes the token before the dot. `is_joined` is true if that token directly
+/// precedes the dot.
 #[inline]
 fn one_more(last: Last, is_joined: bool) -> Last {
     match last {
@@ -58,7 +59,8 @@ fn one_more(last: Last, is_joined: bool) -> Last {
     }
 }
 
-/// Describes the last token after the token `token`, where `last` describes the token before it, which ends at `end`.
+/// Returns the description of the token `token`. `last` describes the token before it, and `end` is the byte offset after
+/// that token.
 #[inline]
 fn last_after(last: Last, end: usize, token: SourceToken<'_>) -> Last {
     match token.form {
@@ -78,8 +80,8 @@ fn begins_one_colon(text: &str) -> bool {
     }
 }
 
-/// Whether a number is a field of a tuple. `last` describes the token before the number, and `rest` is the text after the
-/// number, without white space and comments at its beginning.
+/// Whether a number is a field of a tuple. `last` describes the token before the number. `rest` is the text after the number,
+/// without the white space and comments at its beginning.
 #[inline]
 fn names_field(last: Last, rest: &str) -> bool {
     match last {
