@@ -10,8 +10,8 @@ told_kind : FoundOpener → Option Kind
 told_kind None = None
 told_kind (Some p) = Some p.1
 
--- Either the text begins with the opening delimiter of a literal of the kind `k`, or it begins with no opening delimiter, and
--- is a number of the kind `k`, `true` or `false`.
+-- In the first case, the text begins with the opening delimiter of a literal of the kind `k`. In the second case, the text
+-- begins without an opening delimiter: it begins as a number of the kind `k`, or is `true` or `false`.
 Told : List ℕ → Kind → Type 0
 Told t k = (told_kind (opener_at t) ≡ Some k) ⊎ ((told_kind (opener_at t) ≡ None) × (OpensNumber k t ⊎ SpellsTruth k t))
 

@@ -6,7 +6,7 @@ use Rattle.rl_flaws.proofs.Names.{◌≡◌, ◌≢◌, ◌⊎◌, ◌==◌, ◌
 abbrev pub Read : Type 0
 Read = ℕ × List ℕ
 
--- The letter of a base prefix is never that of base ten.
+-- The letter of a base prefix (`b`, `o` or `x`) identifies a base other than ten.
 based_letter : (c : ℕ) (cs : List ℕ) → begins_base (48 ∷ c ∷ cs) ≡ true → radix_of c ≡ 10 → ⊥
 based_letter c cs h e =
     elim (cases_Bool (c == 98)) [

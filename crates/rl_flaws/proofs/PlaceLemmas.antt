@@ -8,8 +8,8 @@ pub place_at : (how : LineEnds) (len : ℕ) (text rest read : List ℕ) (at : �
 place_at how len text rest read at u r e is =
     record { rest = chars rest; rest_in = r; reads = e; at_is = omega (arith, is, ap length (encodes-chars rest u)) }
 
--- The text `b` is an end of the text `a`. If `b` is read from a byte offset on, the result is equal to that of reading `a`
--- from this offset on.
+-- The text `b` is an end of the text `a`. Reading `b` from a byte offset on and reading `a` from this offset on give equal
+-- results.
 pub place_in : (how : LineEnds) (len : ℕ) (a b read : List ℕ) (at : ℕ) → IsRestOf how a b → ReadsFrom how len b read at
     → ReadsFrom how len a read at
 place_in how len a b read at r p =

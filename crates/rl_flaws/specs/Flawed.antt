@@ -134,7 +134,7 @@ pub record TakesFlaw (old : FlawsState) (bad : InvalidPiece) (new : FlawsState) 
       (is_single_open old.kind && not (is_flaw_after_quote bad.flaw.kind)) old piece new
   pub same : IsSameText old new
 
--- The unchecked text has no flaw: no text is left to check, or it is a literal token.
+-- No flaw is left: either no text is left to check, or the text that would be parsed for the next flaw is a literal token.
 pub record HasNoFlaw (old new : FlawsState) : Type 0 where
   pub none : IsTrue old.over ⊎ IsToken (judged old)
   pub over : IsTrue new.over

@@ -1,5 +1,5 @@
--- The pieces of a quoted literal, valid and invalid. A valid piece is a segment of the valid text before the next flaw, and an
--- invalid piece is that of a flaw.
+-- The pieces of a quoted literal, valid and invalid. A valid piece is a segment of the valid text before the next flaw. An
+-- invalid piece is the text to show for a flaw.
 use Rattle.std.specs.Prelude.{◌≡◌, ◌+◌, ℕ, List, [], ◌++◌, length, Option, None, Some, MatchOption}
 use Rattle.std.specs.Str.{chars}
 use Rattle.rl_syntax.specs.Texts.{byte_len}

@@ -34,7 +34,7 @@ one_from xs start d h = ap (map open_view) (drop_more xs start d h)
 
 -- ---- the loop over a text's tokens
 
--- The text before its end `rest` is split into tokens. After these tokens, the groups in the list `groups` are open.
+-- The part of the text before `rest` is split into tokens. After these tokens, the groups in the list `groups` are open.
 pub record HasPassed (text rest : List ℕ) (groups : List OpenGroup) : Type 0 where
   pub cuts : List LexedToken
   pub are_cuts : LexesUpTo 0 (chars text) cuts (chars rest)

@@ -11,7 +11,7 @@ use Rattle.rl_lexer.specs.Lexemes.{LexemeForm, LiteralForm, IdentifierForm, Deli
 use Rattle.rl_lexer.specs.Cuts.{BeginsNoLexeme, OpenGroup, ErrorAt, is_opener}
 use Rattle.rl_settings.specs.SettingSteps.{depth_after, EndsInside}
 
--- If the code's form of a token isn't that of an identifier, the token's form in the definitions isn't that of an identifier.
+-- If the code finds that a token isn't an identifier, the token isn't an identifier by the definitions either.
 pub other_name : (f : FoundForm) → (f ≡ found.Identifier → ⊥) → form_view f ≡ IdentifierForm → ⊥
 other_name found.Literal h e = absurd (cc)
 other_name found.Identifier h e = h refl

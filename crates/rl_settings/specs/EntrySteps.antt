@@ -19,11 +19,11 @@ use Rattle.rl_settings.specs.SettingSteps.{TakesName, TakesMark, Misses, HasNo, 
 
 -- ---- names of entries
 
--- The form of a token is that of a dot.
+-- The token's form is a dot.
 abbrev pub IsDotForm : LexemeForm → Type 0
 IsDotForm form = form ≡ MarkForm (code ".")
 
--- The form of a token is that of a comma.
+-- The token's form is a comma.
 abbrev pub IsCommaForm : LexemeForm → Type 0
 IsCommaForm form = form ≡ MarkForm (code ",")
 

@@ -73,14 +73,14 @@ pub record MissesAtEnd (t : CursorState) (part : Part) (e : SyntaxError) : Type 
   pub kind : e.kind ≡ EndOfInput part
   pub hi : e.hi ≡ e.lo
 
--- If the lexer fails at the position of a missing part, the error is that of the lexer.
+-- If the lexer fails at the position of a missing part, the error is the lexer's error.
 pub record MissesToken (t : CursorState) (e : SyntaxError) : Type 0 where
   pub why : LexKind
   pub stands : (groups : List OpenGroup) → ErrorAt why groups (chars t.rest)
   pub kind : e.kind ≡ of_lexer why
   pub hi : e.hi ≡ e.lo
 
--- If another token tree is at the position of a missing part, the error's range is that of the token tree: one token, or a
+-- If another token tree is at the position of a missing part, the error's range is the whole token tree: one token, or a
 -- group with both its delimiters.
 pub record MissesAtTree (t : CursorState) (part : Part) (e : SyntaxError) : Type 0 where
   pub first : Lexeme
@@ -94,7 +94,7 @@ pub record Misses (t : CursorState) (part : Part) (e : SyntaxError) : Type 0 whe
   pub place : e.lo + length t.rest ≡ length t.text
   pub why : MissesAtEnd t part e ⊎ MissesToken t e ⊎ MissesAtTree t part e
 
--- The next token doesn't pass the test, or no token is next.
+-- The next token doesn't pass the test, or there is no next token.
 abbrev pub HasNo : (LexemeForm → Type 0) → CursorState → Type 0
 HasNo Is t =
     BeginsNoLexeme (chars t.rest)

@@ -41,8 +41,8 @@ tail_ends NoLexedFraction NoLexedExponent more u run fraction power = run.ends
 tail_ends (LexedDot ds) NoLexedExponent more u run (begins, digits) power = digits.ends
 tail_ends f (LexedPower letter s n d ds) more u run fraction (il, id, digits) = digits.ends
 
--- A number ends with an exponent, or without one, and the text `u` follows the number. If `e`, `E` and the first character of
--- `u` fail a test, so does the first character of the exponent and `u`.
+-- A text consists of an optional exponent, and of the text `u` after it. If `e`, `E` and the first character of `u` fail a
+-- test, the first character of the whole text fails it.
 power_first : (test : ℕ → Bool) (e p : LexedExponent) (u : List ℕ) → SamePower e p → test 101 ≡ false → test 69 ≡ false
     → first_passes test u ≡ false → first_passes test (lexed_exponent_text p ++ u) ≡ false
 power_first test NoLexedExponent NoLexedExponent u same a b h = h

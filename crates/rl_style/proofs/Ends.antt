@@ -82,7 +82,7 @@ unraw_front BytePrefix some n body parts x y z = alike [] 98 (114 ∷ raw_rest n
 unraw_front CPrefix some n body parts x y z = alike [] 99 (114 ∷ raw_rest n body x y)
     (34 ∷ (body_text parts ++ 34 ∷ x ++ z)) refl (not_r 99 refl)
 
--- The new literal `m` is a literal before the text `after`, and begins as the old literal `l` does.
+-- Before the text `after`, the new literal `m` is one token, and begins as the old literal `l` does.
 abbrev Keeps : Lexeme → List ℕ → Lexeme → Type 0
 Keeps l after m = IsLexeme m after × SameFront (lexeme_text l ++ after) (lexeme_text m ++ after)
 

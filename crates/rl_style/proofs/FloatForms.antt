@@ -201,7 +201,7 @@ pub at_dot : (f : ℕ → List ℕ) (closes : Bool) (size least : ℕ) (numeral 
     ≡ Groups size least false (flat_map f d) ++ (46 ∷ Closing closes)
 at_dot f closes size least numeral d h e = numeral_at f closes size least numeral d (46 ∷ []) h refl e
 
--- If digits follow the dot, no zero is added.
+-- If digits follow the dot of a float, the style adds no zero.
 dot_some : (f : ℕ → List ℕ) (closes : Bool) (g : List ℕ → List ℕ) (z e : List ℕ) → IsDigits z
     → after_dot closes f g (z ++ e)
     ≡ g (flat_map f (digit_run (z ++ e))) ++ flat_map f (after_run (is_run_part is_ascii_digit) (z ++ e))
@@ -277,7 +277,8 @@ pub record Numeral (numeral x : List ℕ) (shape : FloatShape) : Type 0 where
   pub form : FloatForm numeral x
   pub same_shape : shape_of numeral x form ≡ shape
 
--- Digits that are rewritten and then divided into groups are still a digit followed by digits and underscores.
+-- If a sequence of digits is rewritten, and then divided into groups, the result is still a digit and further digits and
+-- underscores.
 pub row_is : (drops plus : Bool) (digits letter : Option Case) (from_first : Bool) (size least : ℕ) (d : List ℕ)
     → IsDigits d
     → IsDigits (Groups size least from_first (flat_map (becomes drops false plus digits letter) d))

@@ -12,8 +12,9 @@ use Rattle.rl_style.specs.declared.style.Case.TheVariants.{Lower, Upper}
 use Rattle.rl_style.specs.Cases.{cased, exponent_letter}
 use Rattle.rl_style.proofs.CaseLemmas.{cased_underscore, cased_value, none_right, twice_cased}
 
--- The new characters for a character of a number. The three flags are true if underscores are dropped, if the number is
--- hexadecimal, and if a plus is dropped. The next arguments are the case of the digits and the case of an exponent's letter.
+-- The new characters for a character of a number. The three flags tell whether underscores are dropped, whether the number is
+-- hexadecimal, and whether a plus is dropped. The next arguments are the case of the digits and the case of an exponent's
+-- letter.
 abbrev pub becomes : Bool → Bool → Bool → Option Case → Option Case → ℕ → List ℕ
 becomes drops hex plus digits letter c =
     cond ((drops && c == 95) || ((not hex && plus) && c == 43)) []

@@ -130,8 +130,8 @@ token_full (DocBlockToken i) t is = tt
 token_full (BadQuoteToken q) t is = absurd is
 token_full (StrayToken c) t is = absurd is
 
--- The text `t` ends with the text `u`, and white space and comments precede `u` in `t`. The lexer also skips them if another
--- text follows them, which begins with neither white space nor a comment.
+-- The text `t` consists of white space and comments, and of the text `u` after them. The lexer skips the white space and
+-- comments before any text that begins with neither.
 abbrev pub SkipsTo : List ℕ → List ℕ → Type 0
 SkipsTo t u = (front : List ℕ) × (t ≡ front ++ u) × ((v : List ℕ) → after_piece v ≡ None → Skipped (front ++ v) v)
 
@@ -174,7 +174,7 @@ shifted at from to t (w ∷ ws) r low (after, skipped, is, place, more) =
 
 -- ---- the tokens of the whole text
 
--- If a text ends with neither a hash nor a dot, its second part ends with neither.
+-- If a text of two parts ends with neither a hash nor a dot, the second part ends with neither.
 may_drop : (a b : List ℕ) → may_precede_quote (a ++ b) ≡ true → may_precede_quote b ≡ true
 may_drop [] b h = h
 may_drop (c ∷ []) [] h = refl
@@ -231,7 +231,7 @@ pub record Recut (lead : List ℕ) (at : ℕ) (t : List ℕ) (before after : Lis
   pub cuts : SourcesUpTo at (front ++ (lexeme_text new ++ rest)) (before ++ (placed_literal new place
       ∷ moved (place + byte_len (lexeme_text old)) (place + byte_len (lexeme_text new)) after)) r
 
--- Returns the text after the literal `old`, by the tokens of the whole text.
+-- Finds the text after the literal `old` by the tokens of the whole text.
 abbrev pub literal_rest : (at : ℕ) (t : List ℕ) (before after : List CutSource) (old : Lexeme) (place : ℕ) (r : List ℕ)
     → SourcesUpTo at t (before ++ (placed_literal old place ∷ after)) r → List ℕ
 literal_rest at t [] after old place r (rest, skipped, is, place_is, more) = rest

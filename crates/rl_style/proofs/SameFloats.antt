@@ -363,7 +363,7 @@ spelled_kept style x numeral = go (trims_by style.suffix_separator x)
     go true = ap (map (λ c. cond (c == 69) 101 c)) (trimmed_filter (λ c. not (c == 95 || c == 43)) numeral refl)
     go false = refl
 
--- The value of the new float: the old value, and the zero that the style adds to a final dot.
+-- The value of the new float: the old value, and the zero that the style adds to a float that ends with its dot.
 abbrev pub new_digits : Style → (numeral x : List ℕ) → FloatForm numeral x → List ℕ
 new_digits style numeral x form = spelled numeral ++ added (shape_of numeral x form) style.float_zero
 
@@ -399,7 +399,7 @@ written style t u v x s e = record {
   contents = ap Digits (sym (new_spelled style s.numeral x s.form));
 }
 
--- If the style adds no zero to a final dot, the new float has the old value.
+-- If the style adds no zero to floats that end with their dots, the new float has the old value.
 digits_kept : (style : Style) (numeral x : List ℕ) (form : FloatForm numeral x) → style.float_zero ≡ false
     → new_digits style numeral x form ≡ spelled numeral
 digits_kept style numeral x form off = ap (λ b. spelled numeral ++ added (shape_of numeral x form) b) off
@@ -472,8 +472,8 @@ float_number style t u (inl c) = record {
 
 -- ---- if a float is rewritten again, nothing changes
 
--- If a text of two parts has no underscores at its end, its second part has none at its end. The second part contains a
--- character other than an underscore.
+-- The second part of a text contains a character other than an underscore. If the whole text has no underscores at its end,
+-- the second part has none at its end.
 tail_trims : (a b : List ℕ) → only b ≡ false → IsTrim (a ++ b) → IsTrim b
 tail_trims a b n h = same_tail a (trimmed b) b (sym (trimmed_join a b n) ∙ h)
 

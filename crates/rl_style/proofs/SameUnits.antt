@@ -124,8 +124,7 @@ quote_allowed Byte us c q h n = itself_at Byte c 34 (second_of (c == 39) (c == 3
 quote_allowed Char us c q h n = itself_at Char c 34 (second_of (c == 39) (c == 34) h n) refl
 quote_allowed kind us c q h n = absurd q
 
--- The new form of an escaped quote: the quote without its backslash, if the rule is set and the quote doesn't close the
--- literal.
+-- The new form of an escaped quote: without its backslash if `b` is true, and unchanged otherwise.
 abbrev quote_unit : Bool → ℕ → StrictUnit
 quote_unit b c = cond b (Itself c) (QuoteEscape c)
 

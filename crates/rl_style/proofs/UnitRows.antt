@@ -1,5 +1,5 @@
--- A text is exactly one sequence of characters and escapes. Each character or escape is rewritten according to the text after
--- it.
+-- A text consists of exactly one sequence of characters and escapes. The new form of each character or escape depends on the
+-- text after it.
 use Rattle.rl_syntax.proofs.Common.{is_ascii_digit, nat_tests, ◌≡◌, ℕ, ◌≤◌, inl, inr, arith, cases_lt, Bool, true, not, List, [], ◌∷◌, ◌++◌, Some, None, refl, sym, ap, subst, ◌∙◌, append_assoc, append-nil, append_cancel_right, and_parts, list_all, flat_map, encode_utf8_all, encodes-append}
 use Rattle.rl_syntax.proofs.Basics.{false_unless}
 use Rattle.rl_lenient.proofs.Names.{Kind, strict_content_of, strict_contents, first_passes, StrictUnit, strict_text, is_strict_unit, unit_value}

@@ -432,7 +432,7 @@ at_escape : (style : Style) (k : Kind) (n : ℕ) (t cs : List ℕ) → t ≡ 92 
 unfolding restyled_text
 at_escape style k n t cs e = ap (restyled_text style k n) e
 
--- An escaped quote loses its backslash if the rule is set and the quote doesn't close the literal.
+-- If the rule `quote_escapes` is set, an escaped quote that doesn't close the literal loses its backslash.
 quoted_escape : (style : Style) (k : Kind) (n c : ℕ) (cs : List ℕ) → (c == 39 || c == 34) ≡ true
     → restyled_escape style k n (c ∷ cs) ≡ cond (style.quote_escapes && not (c == closer k)) (c ∷ cs) (92 ∷ c ∷ cs)
 quoted_escape style k n c cs q =

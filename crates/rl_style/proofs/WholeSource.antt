@@ -44,7 +44,7 @@ marked (c ∷ t) = go (c == 65279) refl
           goes = λ u e. unmarked u (sym e ∙ ap (first_passes is_mark) same ∙ h);
         }
 
--- The text after `#!` isn't an interpreter's line if it begins with a bracket.
+-- If the text after `#!` begins with `[`, the line isn't an interpreter's line.
 no_line : (l : List ℕ) → begins (codes "[") l ≡ true → ((s : List ℕ) → Skipped l s → begins_char 91 s ≡ false) → ⊥
 no_line [] h none = both_ways false refl h
 no_line (c ∷ x) h none =

@@ -56,7 +56,7 @@ after_mark (AfterWord word) mark = if mark == code "!" && not (is_keyword word) 
 after_mark AfterBang mark = at_hash mark
 after_mark Outside mark = at_hash mark
 
--- The depth plus one, or the depth if it is the greatest 64-bit number.
+-- The depth plus one. If the depth is the greatest 64-bit number, the result is this number.
 abbrev pub deeper : ℕ → ℕ
 deeper depth = if nat_lt depth 18446744073709551615 then depth + 1 else depth
 
@@ -98,7 +98,7 @@ abbrev pub is_in_call : CallState → Bool
 is_in_call (Inside depth) = true
 is_in_call _ = false
 
--- Converts the code's position relative to macro calls to the position in the definitions.
+-- Converts the code's value of the type `Calls` to the definitions' value of the type `CallState`.
 abbrev pub calls_seen : Calls → CallState
 calls_seen found.Outside = Outside
 calls_seen (found.AfterWord word) = AfterWord word.now

@@ -31,7 +31,7 @@ exponent_letter (Some Lower) c = if c == code "E" then code "e" else c
 exponent_letter (Some Upper) c = if c == code "e" then code "E" else c
 
 -- Whether the style drops the underscores of a number with the given suffix. If the suffix begins with the letter of a base,
--- they are kept, so that `0_b1` doesn't become a binary number.
+-- the underscores are kept: `0_b1` without its underscore is a binary number.
 abbrev pub drops_underscores : Style → List ℕ → Bool
 drops_underscores style suffix = style.underscores && not (first_passes is_base_letter suffix)
 

@@ -18,7 +18,7 @@ base_group groups base =
     else (if base == 8 then groups.octal else (if base == 16 then groups.hexadecimal else groups.decimal))
 
 -- The number of digits in a group, for a number with the given base and suffix. If the suffix begins with the letter of a
--- base, the result is 0, so that `0_b1` doesn't become another number.
+-- base, the result is 0, and `0_b1` keeps its underscore.
 abbrev pub size_by : Option DigitGroups → ℕ → List ℕ → ℕ
 size_by None base suffix = 0
 size_by (Some groups) base suffix = if first_passes is_base_letter suffix then 0 else base_group groups base

@@ -16,7 +16,7 @@ use Rattle.rl_style.specs.Cases.{cased, is_padding}
 use Rattle.rl_writing.specs.AsciiStrings.{unicode_escape}
 use Rattle.rl_style.specs.Rewriting.{gets_letter, needs_number, is_visible, letter_of, lower_digit, needs_backslash}
 
--- The list of the optional character: one character, or an empty list for `None`.
+-- Converts an optional character to a list: one character, or none.
 abbrev pub one_or_none : Option ℕ → List ℕ
 one_or_none None = []
 one_or_none (Some c) = c ∷ []

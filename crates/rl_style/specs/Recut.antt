@@ -24,7 +24,7 @@ IsSound w = IsSoundToken w.token
 abbrev pub placed_literal : Lexeme → ℕ → CutSource
 placed_literal l at = record { token = PlainToken l; at = at }
 
--- The text with the new literal in place of the old one is lexed as before, except for this literal.
+-- If the new literal replaces the old literal in the text, all other tokens are lexed as before.
 pub record IsRecut (at : ℕ) (t : List ℕ) (before after : List CutSource) (old new : Lexeme) (place : ℕ) (r : List ℕ) :
     Type 0 where
   pub front : List ℕ
@@ -42,7 +42,7 @@ KeepsTheTokens =
     → SameEnds old new
     → IsRecut at t before after old new place r
 
--- The source with the new literal in place of the old one is lexed as before, except for this literal.
+-- If the new literal replaces the old literal in the source, all other tokens are lexed as before.
 pub record IsRecutSource (t : List ℕ) (before after : List CutSource) (old new : Lexeme) (place : ℕ) (r : List ℕ) : Type
     0 where
   pub front : List ℕ

@@ -236,18 +236,19 @@ may_lose_r _ front = true
 abbrev pub needs_backslash : ℕ → Bool
 needs_backslash c = c == code "\"" || c == code "\\"
 
--- Whether the style turns a raw string into a string with escapes. The text `front` precedes it, and `inside` is its content.
--- It does so in two cases: the content needs no escapes, or it contains characters that the style escapes.
+-- Whether the style turns a raw string into a string with escapes. The text `front` before the raw string must allow this
+-- (`may_lose_r`). Either the content `inside` needs no escapes, or it contains characters that the style escapes.
 abbrev pub loses_raw : Style → Kind → List ℕ → List ℕ → Bool
 loses_raw style kind front inside =
     may_lose_r kind front
     && ((style.raw && list_all (λ c. not (needs_backslash c)) inside) || (style.hidden && list_any needs_number inside))
 
--- A character of a raw string, as a character or escape of a string with escapes.
+-- Converts a character of a raw string to a character or escape of a string with escapes. A double quote and a backslash get
+-- a backslash before them.
 abbrev pub raw_unit : ℕ → StrictUnit
 raw_unit c = if c == code "\"" then QuoteEscape c else (if c == code "\\" then PlainEscape c else Itself c)
 
--- The string of the kind with escapes, in the style. It has the value `inside` and the given suffix.
+-- A string with escapes, written in the style. It has the given kind and suffix, and the value `inside`.
 abbrev pub unraw_text : Style → Kind → List ℕ → List ℕ → List ℕ
 unraw_text style kind inside suffix =
     strict_opener kind ++ (restyled_inside style kind (map raw_unit inside) ++ (strict_closer kind ++ suffix))

@@ -39,8 +39,8 @@ pub fn no_rule_changes_nothing()
     ensures { NoRuleChangesNothing }
 {}
 
-/// If a literal is replaced by one that begins as it does, the token before the literal is lexed as before. Invalid quotes
-/// and stray characters, which no valid Rust source contains, are excepted.
+/// If a new literal begins as the old literal does and replaces it, the token before the literal is lexed as before. Invalid
+/// quotes and stray characters, which no valid Rust source contains, are excepted.
 pub fn tokens_before_a_rewritten_literal_stay()
     ensures { StaysAround }
 {}

@@ -61,7 +61,7 @@ fn is_keyword(word: &str) -> bool {
     )
 }
 
-/// Returns `depth + 1`, or `depth` if it is the greatest `usize`.
+/// Returns `depth + 1`. If `depth` is the greatest `usize`, the result is `depth`.
 #[inline]
 fn deeper(depth: usize) -> usize {
     if depth < usize::MAX { depth + 1 } else { depth }
