@@ -11,7 +11,7 @@ first_bytes c cs = length-append (encode_utf8 c) (encode_utf8_all cs)
 some_bytes : (c : ℕ) (cs : List ℕ) → 0 < byte_len (c ∷ cs)
 some_bytes c cs = omega (arith, first_bytes c cs, length-encode c, len_utf8_bounds c)
 
--- The number of bytes of a text is the number of bytes of its first character, plus the number of bytes of the text after it.
+-- A text has as many bytes as its first character and the text after this character together.
 pub after_first_bytes : (t : List ℕ) → byte_len t ≡ first_len t + byte_len (drop 1 t)
 after_first_bytes [] = refl
 after_first_bytes (c ∷ cs) = first_bytes c cs

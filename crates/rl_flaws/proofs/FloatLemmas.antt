@@ -237,7 +237,7 @@ place_more (d ∷ ds) c =
     let long : length (ds ++ (c ∷ [])) ≡ suc (length ds) = length-append ds (c ∷ []) ∙ omega arith in
     rw (long, place_more ds c, pow-suc 10 (length ds)) (omega arith)
 
--- The code computes the number `capped` for an exponent. It is the exponent's value, or both numbers are at least 2^100.
+-- The number `capped`, which the code computes for an exponent, is the exponent's value, or both numbers are at least 2^100.
 abbrev pub IsCapped : ℕ → ℕ → Type 0
 IsCapped capped value = (capped ≡ value) ⊎ ((2 ^ 100 ≤ capped) × (2 ^ 100 ≤ value))
 
@@ -353,8 +353,8 @@ exactly false count places bound power value (inr q) c p b = (
   (λ h. absurd (omega (arith, q.0, p, b, h)), λ h. absurd (omega (arith, q.0, p, b, h))),
 )
 
--- The numbers that the code computes for a numeral are those of the definitions: the number of its digits without leading
--- zeros, the number of digits after its dot, and its exponent.
+-- The numbers that the code computes for a numeral `n`: `count`, the number of its digits without leading zeros, `places`,
+-- the number of digits after its dot, and `power`, which is its exponent, or at least 2^100.
 pub record IsMeasured (n bs : List ℕ) (count places power : ℕ) : Type 0 where
   pub bound : IsBound bs
   pub short : length bs ≤ 309

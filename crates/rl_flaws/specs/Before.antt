@@ -45,8 +45,8 @@ abbrev pub may_end_comment : List ℕ → Bool
 may_end_comment [] = false
 may_end_comment (b ∷ back) = (b == 47) || nat_le 128 b
 
--- A comment may hide the text before a literal. White space and opening parentheses may separate the comment and the literal.
--- Either a comment may end directly before them, or a line ends there that contains two slashes.
+-- A comment may hide the text before a literal. White space and opening parentheses may be between the comment and the
+-- literal. Directly before them, either a comment may end, or a line ends that contains two slashes.
 abbrev pub is_hidden : List ℕ → Bool
 is_hidden before =
     may_end_comment (reverse (without Passed before))

@@ -49,7 +49,7 @@ abbrev pub is_open : Option Kind → Bool
 is_open (Some kind) = true
 is_open None = false
 
--- A string is open. It may contain any number of characters and escapes.
+-- A string is open. A string may contain any number of characters and escapes.
 abbrev pub is_string_open : Option Kind → Bool
 is_string_open (Some kind) = is_string kind
 is_string_open None = false
@@ -158,7 +158,7 @@ abbrev pub IsOpenBy : Option Kind → List ℕ → List ℕ → Type 0
 IsOpenBy (Some kind) text front = IsOpener kind front
 IsOpenBy None text front = (front ≡ []) × ((kind : Kind) → OpensString kind text ⊎ OpensSingle kind text → ⊥)
 
--- The cursor is before the first flaw of this text.
+-- The cursor over the flaws of the text `text` is before the first flaw.
 pub record AreFlawsOf (ends : LineEnds) (text : List ℕ) (s : FlawsState) : Type 0 where
   pub ends_is : s.ends ≡ ends
   pub opened : IsOpenBy s.kind (chars text) s.front

@@ -21,8 +21,8 @@ pub record PiecesState : Type 0 where
   pub bad : Option InvalidPiece
   pub flaws : FlawsState
 
--- The segments are those of the valid text inside the open literal, with their byte offsets. The valid text ends at the next
--- flaw or at the closing delimiter.
+-- The cursor's segments are the segments of the valid text inside the open literal, with their byte offsets. The valid text
+-- ends at the next flaw or at the closing delimiter.
 pub record IsGoodInside (kind : Kind) (flaws : FlawsState) (s : SegmentsState) : Type 0 where
   pub form : QuotedForm
   pub hashes : List ℕ

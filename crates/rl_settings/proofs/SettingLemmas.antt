@@ -42,8 +42,8 @@ one_deeper (MarkForm c) depth = omega arith
 
 -- ---- the loop over the tokens of a token tree
 
--- The loop over the tokens of a token tree began at the cursor `first`, and is now at the cursor `t`. The loop's invariant:
--- if the token tree ends at an offset after `t`, it ends at this offset after `first`.
+-- The loop over the tokens of a token tree begins at the cursor `first`. The loop's invariant: if the end of the token tree
+-- is computed from the loop's current cursor `t`, it is also the end computed from `first`.
 abbrev pub Leads : ℕ → ℕ → CursorState → ℕ → ℕ → CursorState → Type 0
 Leads depth end t first_depth first_end first =
     (hi : ℕ) → EndsInside depth end t hi → EndsInside first_depth first_end first hi

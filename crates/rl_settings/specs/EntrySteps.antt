@@ -83,7 +83,7 @@ bytes_between lo t = drop lo (take (length t.text - length t.rest) t.text)
 abbrev pub has_line_end : ℕ → CursorState → Bool
 has_line_end lo t = list_any (λ c. c == code "\n") (bytes_between lo t)
 
--- A value ends at the byte offset `hi`. No comma is needed after the value, since the text or the line ends there.
+-- A value ends at the byte offset `hi`. The text or the line ends after the value, so no comma is needed.
 abbrev pub MayLackComma : ℕ → CursorState → Type 0
 MayLackComma hi t = (t.rest ≡ []) ⊎ IsTrue (has_line_end hi t)
 

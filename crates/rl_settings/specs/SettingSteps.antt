@@ -55,8 +55,9 @@ abbrev pub depth_after : LexemeForm → ℕ → ℕ
 depth_after (DelimiterForm c) depth = if is_opener c then depth + 1 else depth - 1
 depth_after _ depth = depth
 
--- The list has the next tokens of a token tree of which `depth` groups are open. Its last token closes the last open group,
--- or precedes an error of the lexer. The last token ends at the byte offset `hi`. The token before the list ends at `end`.
+-- The list has the next tokens of a token tree of which `depth` groups are open. The last token in the list closes the last
+-- open group, or precedes an error of the lexer. This last token ends at the byte offset `hi`. The token before the list ends
+-- at `end`.
 abbrev pub AreRestOfTree : ℕ → ℕ → CursorState → List Lexeme → ℕ → Type 0
 AreRestOfTree depth end t [] hi = ((depth ≡ 0) ⊎ BeginsNoLexeme (chars t.rest)) × (hi ≡ end)
 AreRestOfTree depth end t (l ∷ ls) hi =
@@ -89,7 +90,7 @@ pub record MissesAtTree (t : CursorState) (part : Part) (e : SyntaxError) : Type
   pub kind : e.kind ≡ Expected part
   pub ends : EndsInside (depth_after (form_view first.form) 0) first.hi following e.hi
 
--- The error for a missing part of a setting. It begins where the unread text begins.
+-- The error for a missing part of a setting. The error begins where the unread text begins.
 pub record Misses (t : CursorState) (part : Part) (e : SyntaxError) : Type 0 where
   pub place : e.lo + length t.rest ≡ length t.text
   pub why : MissesAtEnd t part e ⊎ MissesToken t e ⊎ MissesAtTree t part e

@@ -37,7 +37,7 @@ cased_value case c =
     low (Some Upper) c a = agree_below_at (λ c. digit_value (upper_case c) == digit_value c) (λ c. true) 128 c refl a
     low (Some Lower) c a = agree_below_at (λ c. digit_value (lower_case c) == digit_value c) (λ c. true) 128 c refl a
 
--- An underscore isn't changed by a change of case.
+-- A change of case doesn't change underscores.
 pub cased_underscore : (case : Option Case) (c : ℕ) → (cased case c == 95) ≡ (c == 95)
 cased_underscore case c =
     elim (cases_lt c 128) [

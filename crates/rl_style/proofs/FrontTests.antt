@@ -105,11 +105,11 @@ record Heads (h k : ℕ) (x y : List ℕ) : Type 0 where
   new_is : is_head k ≡ true
   raw : (h == 114) ≡ true → begins_hashed_quote x ≡ begins_hashed_quote y
 
--- A character that can't begin a literal is neither the first character of the old literal nor that of the new one.
+-- A character that can't begin a literal is the first character of neither the old nor the new literal.
 other_heads : (h k n : ℕ) (x y : List ℕ) → Heads h k x y → is_head n ≡ false → ((h == n) ≡ false) × ((k == n) ≡ false)
 other_heads h k n x y s other = (other_head h n s.old_is other, other_head k n s.new_is other)
 
--- A test of texts has equal results for two texts that begin alike.
+-- The test `f` has equal results for any two texts that begin alike.
 abbrev Agrees : (List ℕ → Bool) → Type 0
 Agrees f = (front : List ℕ) (h k : ℕ) (x y : List ℕ) → Heads h k x y → f (front ++ (h ∷ x)) ≡ f (front ++ (k ∷ y))
 

@@ -152,7 +152,8 @@ no_base_after : (y : List ℕ) → after_decimal y ≡ y → first_passes is_bas
 no_base_after [] h = refl
 no_base_after (c ∷ t) h = false_unless (is_base_letter c) (λ is. base_taken c t is h)
 
--- Whether the digit `d` and the text `u` after it begin with the prefix of a base, for example `0x`.
+-- Whether a text begins with the prefix of a base, such as `0x`. The text consists of the digit `d` and the text `u` after
+-- it.
 abbrev turns : ℕ → List ℕ → Bool
 turns d u = d == 48 && first_passes is_base_letter u
 

@@ -245,8 +245,8 @@ literal_is at t [] after old place r (rest, skipped, is, place_is, more) = is
 literal_is at t (d ∷ before) after old place r (u, skipped, is, place_is, more) = literal_is (source_end d) u before
     after old place r more
 
--- The literal `new` may replace the literal `old` before the text `rest`. It is one token there, and the token before it is
--- lexed as before.
+-- If the literal `new` replaces the literal `old` before the text `rest`, `new` is one token, and the token before the
+-- literal is lexed as before.
 abbrev pub Follows : List ℕ → ℕ → List ℕ → Lexeme → Lexeme → ℕ → List ℕ → Type 0
 Follows lead at t old new place rest =
     IsLexeme new rest

@@ -280,8 +280,8 @@ again_grouped drops hex plus digits letter from_first size least run same plain 
         ∙ ap (flat_map f) (row_kept other test run refl)
         ∙ sym (bare_flat drops hex plus digits letter run) ∙ ap without_underscores same
 
-    -- After `new` is rewritten a second time, the underscores at its end are those at the end of `run`. This holds whether or
-    -- not underscores are dropped.
+    -- After `new` is rewritten a second time, it ends with as many underscores as `run`, whether or not underscores are
+    -- dropped.
     last : (drops : Bool) → flat_map (becomes drops hex plus digits letter) run ≡ run
         → RowPlain (becomes drops hex plus digits letter) new
         → ending (flat_map (becomes drops hex plus digits letter) new) ≡ ending run

@@ -11,14 +11,14 @@ use Rattle.rl_style.specs.Restylable.{GivesLiteral, GivesNone, Here, Behind, Pas
 abbrev pub state : CursorState → Last → ℕ → CallState → RestylableState
 state tokens last end calls = record { tokens = tokens; last = last; end = end; calls = calls }
 
--- The code's variables after a token are those of the cursor's next state: `last`, which describes the token, and `calls`, the
--- position relative to macro calls.
+-- After a token, the code's variables `last` and `calls` are equal to the fields of the cursor's next state. `last` describes
+-- the token, and `calls` is the position relative to macro calls.
 pub record Steps (s : RestylableState) (token : SourceToken) (last : Last) (calls : CallState) : Type 0 where
   pub last_is : last ≡ last_after s.last s.end (source_view token.form) token.lo
   pub calls_are : calls ≡ advance_calls s.calls (source_view token.form) token.text.now
 
--- The variables of the code after a token are those of the cursor's next state. If a property holds for the next state, it
--- also holds for the state that these variables represent. The lemma `unstepped` is the reverse.
+-- After a token, the code's variables represent the cursor's next state. If a property holds for the next state, the property
+-- also holds for the state that the variables represent. The lemma `unstepped` is the reverse.
 stepped : (P : RestylableState → Type 0) (s : RestylableState) (token : SourceToken) (tokens : CursorState)
     (last : Last)
     (calls : CallState) → Steps s token last calls → P (passed s token tokens) → P (state tokens last token.hi calls)

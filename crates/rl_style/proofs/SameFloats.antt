@@ -334,8 +334,8 @@ Size style x = size_by style.digit_groups 10 x
 abbrev Least : Style → ℕ
 Least style = least_by style.digit_groups
 
--- The new text of a float before its suffix has the parts that `Numeral` describes: a whole part of digits, and the text
--- after it. Its form is the old form, except for an added zero.
+-- The new text of a float before its suffix consists of a whole part of digits and of the text after the whole part
+-- (`Numeral`). The form of the float changes only by an added zero.
 pub kept_numeral : (style : Style) (numeral x : List ℕ) (form : FloatForm numeral x)
     → Numeral (styled_numeral style x numeral) x
     (closed_shape (shape_of (kept_run style x numeral) x (kept_form style numeral x form).form) style.float_zero)

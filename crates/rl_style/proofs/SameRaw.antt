@@ -59,8 +59,8 @@ pub record Suits (inside : List ℕ) (n : ℕ) : Type 0 where
   pub few : n < 256
   pub first_close : (front rest : List ℕ) → inside ≢ (front ++ (34 ∷ replicate n 35)) ++ rest
 
--- Whether the text begins with a double quote. The text after a string's prefix does if the string has escapes, and doesn't
--- if the string is raw.
+-- Whether the text begins with a double quote. If the text is a string without its prefix, the string has escapes if and only
+-- if the text begins with a double quote.
 abbrev pub first_quote : List ℕ → Bool
 first_quote t = first_passes (λ c. c == 34) t
 

@@ -191,7 +191,7 @@ number_is style k z n m text escape of same =
         ap (λ b. number_text style k (cond b n 128) text) e ∙ kept_text style k text ∙ same
         ∙ ap strict_text (sym (kept_escape style k z n escape none unnamed))
 
--- An escape such as `\n` is unchanged. Its letter is neither a quote nor the letter of a numeric escape.
+-- An escape with a letter, such as `\n`, is unchanged: the letter is neither a quote nor the letter of a numeric escape.
 plain_text : (style : Style) (k : Kind) (n c : ℕ) → is_plain_letter c ≡ true → restyled_escape style k n (c ∷ [])
     ≡ 92 ∷ c ∷ []
 plain_text style k n c h =

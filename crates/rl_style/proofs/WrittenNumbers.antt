@@ -76,8 +76,8 @@ digits_found t v x i =
 
 -- ---- the bytes that the code writes for a number
 
--- If Unicode scalar values are written before a UTF-8 text, the result is UTF-8. Its characters are these values and then the
--- characters of the text.
+-- If Unicode scalar values are written before a UTF-8 text, the result is UTF-8. The result consists of these values and then
+-- of the characters of the text.
 followed : (m s b : List ℕ) → IsUtf8 s → scalars m ≡ true → b ≡ encode_utf8_all m ++ s → IsUtf8 b
     × (chars b ≡ m ++ chars s)
 followed m s b v h e = text_of b (m ++ chars s) (scalars_join m (chars s) h (scalars-chars s v))
@@ -208,7 +208,7 @@ pub number_utf8 : (style : Style) (front middle suffix new : List ℕ) → IsUtf
     → scalars middle ≡ true → Written style front middle suffix new → IsUtf8 new
 number_utf8 style front middle suffix new u us h e = (number_text style front middle suffix new u us h e).0
 
--- The base and the digits that the code finds in an integer are those of Rust's grammar.
+-- The code finds the base and the digits of an integer that Rust's grammar defines.
 pub digits_cut : (text digits suffix full : List ℕ) (base : ℕ) (v : Contents)
     → ◌≡◌ {A = ℕ × List ℕ} (base, chars digits) (radix_at (chars text))
     → chars digits ≡ chars full ++ chars suffix → (i : StrictInt (chars text) v (chars suffix))

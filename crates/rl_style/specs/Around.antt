@@ -62,8 +62,8 @@ pub record SameRawString (old new : Lexeme) : Type 0 where
   pub old_is : old ≡ RawLexeme prefix hashes body suffix
   pub new_is : new ≡ RawLexeme prefix new_hashes new_body suffix
 
--- The old literal is a raw string with the prefix `b` or `c`. The new literal is a string with escapes. It has a valid body,
--- and the old literal's prefix and suffix.
+-- The old literal is a raw string with the prefix `b` or `c`. The new literal is a string with escapes, which has a valid
+-- body and the old literal's prefix and suffix.
 pub record SameUnraw (old new : Lexeme) : Type 0 where
   pub prefix : LiteralPrefix
   pub has_prefix : prefix ≢ NoPrefix
@@ -85,8 +85,8 @@ pub record SameCharacter (old new : Lexeme) : Type 0 where
   pub old_is : old ≡ CharacterLexeme is_byte inside suffix
   pub new_is : new ≡ CharacterLexeme is_byte new_inside suffix
 
--- The old and the new literal are integers with equal base prefixes, as `0xab` and `0xAB`. Their digits may differ. A suffix
--- counts as digits here.
+-- The old and the new literal are integers with equal base prefixes, as `0xab` and `0xAB`. The digits, which include the
+-- suffix in this definition, may differ.
 pub record SameBased (old new : Lexeme) : Type 0 where
   pub letter : ℕ
   pub digits : List ℕ
@@ -113,8 +113,8 @@ SamePower (LexedPower _ _ _ _ _) (LexedPower letter sign n d more) =
 SamePower _ _ = ⊥
 
 -- The old and the new literal are decimal numbers. Their first digits are equal, and so are their suffixes. The new number
--- has a fraction if and only if the old one has one, and likewise an exponent. It doesn't begin with a base prefix such as
--- `0x`.
+-- has a fraction if and only if the old one has one, and an exponent if and only if the old one has one. The new number
+-- doesn't begin with a base prefix such as `0x`.
 pub record SameDecimal (old new : Lexeme) : Type 0 where
   pub digit : ℕ
   pub more : List ℕ

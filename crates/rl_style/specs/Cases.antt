@@ -80,8 +80,8 @@ or_zero (c ∷ cs) = c ∷ cs
 abbrev pub significant : List ℕ → List ℕ
 significant run = or_zero (after_run is_padding run)
 
--- Whether the style drops the leading zeros of an integer. Only a decimal integer loses them. It keeps them if its suffix
--- begins with the letter of a base (`b`, `o` or `x`).
+-- Whether the style drops the leading zeros of an integer. Only a decimal integer loses its leading zeros. An integer whose
+-- suffix begins with the letter of a base (`b`, `o` or `x`) keeps them.
 abbrev pub drops_zeros : Style → ℕ → List ℕ → Bool
 drops_zeros style base suffix = (style.leading_zeros && base == 10) && not (first_passes is_base_letter suffix)
 

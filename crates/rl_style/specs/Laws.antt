@@ -39,8 +39,8 @@ ReadsAlike t u =
     (kind : Kind) (contents : Contents) (suffix : List ℕ)
     → Reads t kind contents suffix → Reads u kind contents suffix
 
--- If the old text is a literal token of Rust's grammar, the new text is a literal token too. It has the kind, the value and
--- the suffix of the old text.
+-- If the old text is a literal token of Rust's grammar, the new text is a literal token too. The new token has the kind, the
+-- value and the suffix of the old one.
 abbrev pub StrictAlike : List ℕ → List ℕ → Type 0
 StrictAlike t u =
     (kind : Kind) (contents : Contents) (suffix : List ℕ)

@@ -40,8 +40,8 @@ is_opening (PlainKind (MarkForm c)) = c == code ","
 is_opening DocCommentKind = true
 is_opening _ = false
 
--- Returns the description (`Last`) of a token of the given kind. This token begins at the byte offset `lo`. The token before
--- it ends at `end`, and is described by `last`.
+-- Returns the description (`Last`) of a token, which has the given kind and begins at the byte offset `lo`. The previous
+-- token ends at the byte offset `end`, and `last` describes it.
 abbrev pub last_after : Last → ℕ → SourceKind → ℕ → Last
 last_after last end kind lo =
     if is_dot kind then one_more last (lo == end) else if is_opening kind then Opening else Other

@@ -8,8 +8,8 @@ use Rattle.rl_style.specs.declared.style.Style.{Style}
 use Rattle.rl_style.specs.Recut.{IsRecut, IsRecutSource, IsSound, begins_with_code, placed_literal}
 use Rattle.rl_style.specs.Rewriting.{Rewrites}
 
--- The new text is one token, with the form of the old literal. If it replaces the old literal, the other tokens of the text
--- are lexed as before.
+-- The new text is one token, with the form of the old literal. If the new text replaces the old literal, the other tokens of
+-- the text are lexed as before.
 pub record IsRestyled (at : ℕ) (t : List ℕ) (before after : List CutSource) (old : Lexeme) (written : List ℕ)
     (place : ℕ) (r : List ℕ) : Type 0 where
   pub new : Lexeme
@@ -32,8 +32,8 @@ KeepsTheTokensOfAStyle =
     → AllByRecursion IsSound before → FollowsFront at t old place front
     → Rewrites style front (lexeme_text old) written → IsRestyled at t before after old written place r
 
--- The new text is one token, with the form of the old literal. If it replaces the old literal, the other tokens of the source
--- are lexed as before.
+-- The new text is one token, with the form of the old literal. If the new text replaces the old literal, the other tokens of
+-- the source are lexed as before.
 pub record IsRestyledSource (t : List ℕ) (before after : List CutSource) (old : Lexeme) (written : List ℕ) (place : ℕ)
     (r : List ℕ) : Type 0 where
   pub new : Lexeme

@@ -83,8 +83,8 @@ styled_numeral style suffix numeral =
     float_in_groups style.float_zero (number_character style (drops_underscores style suffix) false)
     (λ from_first. grouped_run from_first style 10 suffix) (kept_run style suffix numeral)
 
--- The old text is a float. The new text has its digits, rewritten as those of an integer but with the leading zeros, and its
--- suffix.
+-- The old text is a float. In the new text, the digits are rewritten as in an integer, but leading zeros are kept. The suffix
+-- is unchanged.
 pub record StylesFloat (style : Style) (old new : List ℕ) : Type 0 where
   pub contents : Contents
   pub suffix : List ℕ
@@ -264,7 +264,7 @@ pub record StaysRaw (style : Style) (front old new : List ℕ) : Type 0 where
   pub hashes_are : HasHashes style.raw_hashes kind raw.inside raw.hashes hashes
   pub new_is : new ≡ raw_text kind hashes raw.inside ++ suffix
 
--- The old text is a raw string. The new text is a string with escapes, written in the style. Its value and suffix are those
+-- The old text is a raw string. The new text is a string with escapes, written in the style, and has the value and the suffix
 -- of the old text.
 pub record LosesRaw (style : Style) (front old new : List ℕ) : Type 0 where
   pub kind : Kind

@@ -89,14 +89,14 @@ pub fn the_tokens_of_an_edited_source_are_kept()
     ensures { KeepsTheEditedSource }
 {}
 
-/// If the text between a token and a raw string ends with neither a hash nor a dot, the string may be replaced by a string
-/// with escapes: the token is lexed as before.
+/// If a string with escapes replaces a raw string, the token before the string is lexed as before. The text between the token
+/// and the string must end with neither a hash nor a dot.
 pub fn tokens_before_a_replaced_raw_string_stay()
     ensures { StaysBeforeQuote }
 {}
 
-/// If neither a hash nor a dot precedes a raw string of a text, the string may be replaced by a string with escapes: all
-/// other tokens of the text are lexed as before.
+/// If a string with escapes replaces a raw string of a text, all other tokens of the text are lexed as before. Neither a hash
+/// nor a dot must directly precede the string.
 pub fn the_tokens_around_a_replaced_raw_string_are_kept()
     ensures { KeepsTheTokensUnraw }
 {}

@@ -13,7 +13,8 @@ use rl_lexer::{Form, LexError, SourceForm, SourceToken, Sources};
 use rl_syntax::text::{begins_with_char, strip_byte};
 use std::marker::Model;
 
-/// The description of the token before a number. It tells whether the number may be a field of a tuple, as in `t.0`.
+/// The description of the token before a number. The description tells whether the number may be a field of a tuple, as in
+/// `t.0`.
 #[derive(Clone, Copy)]
 pub(crate) enum Last {
     /// No token, or a token after which a number isn't a field.

@@ -28,8 +28,8 @@ fn is_code_part(c: char) -> bool {
     c.is_ascii_hexdigit() || c == '_'
 }
 
-/// Returns the text after an invalid `\u{..}` escape. `text` begins after the escape's first digit. Its digits and underscores
-/// are skipped, and then one character that isn't a backslash or the quote.
+/// Returns the text after an invalid `\u{..}` escape. `text` begins after the escape's first digit. The function skips digits
+/// and underscores, and then one character that isn't a backslash or the quote.
 #[inline]
 fn after_code_digits(ends: LineEnds, quote: char, text: &str) -> &str {
     let mut rest = text;

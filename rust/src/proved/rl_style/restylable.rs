@@ -5,7 +5,8 @@ use crate::rl_style::calls::{Calls, advance_calls, is_in_call};
 use crate::rl_lexer::{Form, LexError, SourceForm, SourceToken, Sources};
 use crate::rl_syntax::text::{begins_with_char, strip_byte};
 
-/// The description of the token before a number. It tells whether the number may be a field of a tuple, as in `t.0`.
+/// The description of the token before a number. The description tells whether the number may be a field of a tuple, as in
+/// `t.0`.
 #[derive(Clone, Copy)]
 pub(crate) enum Last {
     /// No token, or a token after which a number isn't a field.
