@@ -1,5 +1,5 @@
--- A new decimal number has the first digit and the suffix of the old one, and a fraction and an exponent if the old one has
--- them. Each text that may follow the old number may also follow the new one.
+-- A new decimal number has the first digit and the suffix of the old one. The new number has a fraction if the old one has
+-- one, and an exponent if the old one has one. Each text that may follow the old number may also follow the new one.
 use Rattle.rl_syntax.proofs.Common.{◌≡◌, ℕ, ◌<◌, inl, inr, Bool, true, false, not, ◌&&◌, ◌||◌, ◌==◌, List, [], ◌∷◌, ◌++◌, replicate, refl, sym, ◌∙◌, ap, subst, arith, nat_tests, lit<, append_assoc, and_parts, list_all, is_ascii_alphabetic, is_ascii_digit}
 use Rattle.rl_syntax.proofs.Basics.{false_unless}
 use Rattle.rl_syntax.specs.Texts.{is_white, first_passes, is_run_part, is_start}

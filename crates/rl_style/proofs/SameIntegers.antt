@@ -299,7 +299,7 @@ zeros_again : (style : Style) (drops : Bool) (base : ℕ) (x run : List ℕ) →
     ≡ flat_map (number_character style drops (base == 16)) (kept_digits style base x run)
 zeros_again style drops base x run each = go (drops_zeros style base x) refl
   where
-    -- The digits of a decimal integer, without leading zeros unless they are all octal.
+    -- The digits of a decimal integer. If one of the digits is 8 or 9, leading zeros are dropped.
     short : List ℕ → List ℕ
     short z = cond (list_any exceeds_octal z) (significant z) z
 

@@ -93,8 +93,8 @@ held_of Int n = alone_of n
 held_of Float n = alone_of n
 held_of BoolKind n = alone_of n
 
--- The code computes the number of an ASCII character, or 128 for another character. The definition computes an equal number
--- from the character's value.
+-- The code computes the code point of an ASCII character, or 128 for another character. The definition computes an equal
+-- number from the character's value.
 pub content_ascii : (k : Kind) (n m : ℕ) → m ≡ cond (nat_lt n 128) n 128 → m ≡ ascii_in (content_of k (n ∷ []))
 content_ascii k n m e = go (decodes_to_chars k)
   where

@@ -33,7 +33,7 @@ one_more Dot joined = cond joined Dots Dot
 one_more Dots joined = cond joined Dots Dot
 one_more _ joined = Dot
 
--- A tuple field and its colon may follow this token: `{`, `,`, `]`, which may end an attribute, or a doc comment.
+-- A tuple field and its colon may follow this token: a doc comment, `{`, `,` or `]`. A `]` may end an attribute.
 abbrev pub is_opening : SourceKind → Bool
 is_opening (PlainKind (DelimiterForm c)) = is_among (codes "{]") c
 is_opening (PlainKind (MarkForm c)) = c == code ","

@@ -23,8 +23,8 @@ pub(crate) enum Last {
     Dot,
     /// A dot directly after another dot.
     Dots,
-    /// A token after which a number is a field if one colon follows the number, as in `S { 0: x }`: `{`, `,`, the `]` that ends
-    /// an attribute, or a doc comment.
+    /// A token after which a number is a field if one colon follows the number, as in `S { 0: x }`: a doc comment, `{`, `,`,
+    /// or `]`, which may end an attribute.
     Opening,
 }
 
@@ -139,8 +139,8 @@ impl<'t> Restylables<'t> {
         }
     }
 
-    /// Returns the next literal: a literal token, valid or not, `true` or `false`. The result is `None` at the end of the
-    /// source and at its first error, which [`Restylables::error`] returns.
+    /// Returns the next literal, valid or invalid. `true` and `false` are literals too. The result is `None` at the end of
+    /// the source and at its first error, which [`Restylables::error`] returns.
     pub fn next(&mut self) -> Option<Restylable<'t>>
         ensures found { IfSome result (λ l. GivesLiteral self.old l self.new) }
         ensures shorter { IfSome result (λ l. length self.new.tokens.rest < length self.old.tokens.rest) }

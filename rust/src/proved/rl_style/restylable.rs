@@ -15,8 +15,8 @@ pub(crate) enum Last {
     Dot,
     /// A dot directly after another dot.
     Dots,
-    /// A token after which a number is a field if one colon follows the number, as in `S { 0: x }`: `{`, `,`, the `]` that ends
-    /// an attribute, or a doc comment.
+    /// A token after which a number is a field if one colon follows the number, as in `S { 0: x }`: a doc comment, `{`, `,`,
+    /// or `]`, which may end an attribute.
     Opening,
 }
 
@@ -110,8 +110,8 @@ impl<'t> Restylables<'t> {
         }
     }
 
-    /// Returns the next literal: a literal token, valid or not, `true` or `false`. The result is `None` at the end of the
-    /// source and at its first error, which [`Restylables::error`] returns.
+    /// Returns the next literal, valid or invalid. `true` and `false` are literals too. The result is `None` at the end of
+    /// the source and at its first error, which [`Restylables::error`] returns.
     #[inline]
     pub fn next(&mut self) -> Option<Restylable<'t>> {
         let (mut last, mut end, mut calls) = (self.last, self.end, self.calls);
