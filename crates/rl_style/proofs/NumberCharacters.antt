@@ -55,7 +55,7 @@ other_dropped : (b plus : Bool) (digits letter : Option Case) (c : ℕ) → b �
 other_dropped true plus digits letter c h = refl
 other_dropped false plus digits letter c h = absurd (cc)
 
--- A character other than an underscore, a plus, `e` and `E` is unchanged.
+-- In a number that isn't hexadecimal, each character other than an underscore, a plus, `e` and `E` is unchanged.
 pub stays : (drops plus : Bool) (digits letter : Option Case) (c : ℕ) → (c == 95) ≡ false → (c == 43) ≡ false
     → (c == 69) ≡ false → (c == 101) ≡ false → becomes drops false plus digits letter c ≡ c ∷ []
 stays drops plus digits letter c n p l u = other_kept (drops && c == 95) plus digits letter c

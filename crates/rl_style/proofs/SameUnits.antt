@@ -328,7 +328,7 @@ respelled_ends style k z n escape us b h =
     respelled_any (λ u. BlanksEnd (u ∷ us)) style k z n escape
     (λ v. visible_any (λ u. BlanksEnd (u ∷ us)) k n (λ e. b) (λ e. b) b) (λ e. b) h
 
--- A visible character that replaces a numeric escape, perhaps after a backslash, has itself as its value.
+-- A visible character that replaces a numeric escape represents itself, also if a backslash precedes it.
 visible_contents : (k : Kind) (n : ℕ) → is_visible n ≡ true → strict_contents (strict_content_of k) (visible_unit k n)
     ≡ n ∷ []
 visible_contents k n v =

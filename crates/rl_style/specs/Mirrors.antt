@@ -66,7 +66,7 @@ abbrev pub ascii_in : List ℕ → ℕ
 ascii_in [] = 128
 ascii_in (n ∷ ns) = if nat_lt n 128 then n else 128
 
--- A visible ASCII character as a literal of the kind contains it. The closing quote and a backslash get a backslash before
+-- The text of a visible ASCII character in a literal of the kind. The closing quote and a backslash get a backslash before
 -- them.
 abbrev pub visible_text : Kind → ℕ → List ℕ
 visible_text kind c = if c == closer kind || c == code "\\" then code "\\" ∷ c ∷ [] else c ∷ []
@@ -82,7 +82,7 @@ fewest_text [] = []
 fewest_text (c ∷ cs) =
     if is_padding c then without_underscores (zero_closed (after_run is_padding cs)) else without_underscores (c ∷ cs)
 
--- The text of a numeric escape with its digits in the style. A `\u{..}` escape has the fewest digits if the style requires
+-- A numeric escape, with its digits rewritten in the style. A `\u{..}` escape gets the fewest digits if the style requires
 -- this.
 abbrev pub digits_text : Style → List ℕ → List ℕ
 digits_text style text =
@@ -115,8 +115,7 @@ abbrev pub code_text : ℕ → List ℕ
 code_text c =
     if nat_lt c 128 then code "\\" ∷ code "x" ∷ lower_digit (c / 16) ∷ lower_digit (c % 16) ∷ [] else unicode_escape c
 
--- The new form of an invisible or bidirectional character. If the character is NUL and may be written as `\0`, it is the
--- escape `\0`. Otherwise it is a numeric escape.
+-- The new form of an invisible or bidirectional character: its numeric escape, or `\0` for a NUL that may be written as `\0`.
 abbrev pub hidden_text : Style → Bool → ℕ → List ℕ
 hidden_text style zero c =
     if style.named_escapes && (zero && c == 0) then code "\\" ∷ code "0" ∷ [] else digits_text style (code_text c)
