@@ -6,8 +6,8 @@ use Rattle.rl_lexer.specs.BadQuotes.{IsQuoteBody}
 use Rattle.rl_lexer.specs.Lexemes.{BodyPart, body_text}
 use Rattle.rl_lexer.specs.Sources.{is_apostrophe}
 
--- The closing quote is at the start of `closing`. In the text before it, a backslash escapes the next character, no slash
--- occurs, and an LF occurs only directly before the quote.
+-- The closing quote is at the start of `closing`. In the text before it, a backslash escapes the next character. Unescaped,
+-- this text contains neither a quote nor a slash, and an LF only as its last character.
 pub record ReachesQuote (inside closing : List ℕ) : Type 0 where
   pub parts : List BodyPart
   pub is_body : IsQuoteBody parts

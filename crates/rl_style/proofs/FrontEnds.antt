@@ -25,7 +25,7 @@ last_join [] y ys = refl
 last_join (x ∷ []) y ys = refl
 last_join (x ∷ z ∷ xs) y ys = last_join (z ∷ xs) y ys
 
--- The last byte of a character is `#` or `.` if and only if the character is `#` or `.`.
+-- The UTF-8 bytes of the character `c`: `first`, and the others. The last byte is `#` or `.` if and only if the character is.
 record Bytes (c : ℕ) : Type 0 where
   first : ℕ
   more : List ℕ
