@@ -145,8 +145,8 @@ skips_to t u full (inr s) = absurd (subst IsFull s.nothing full)
 
 -- ---- the tokens after the replaced literal
 
--- The byte offset of a token is the byte offset at which its text begins, plus the number of bytes between the start of the
--- text and the token.
+-- A text begins at the byte offset `at`, and contains a token. The byte offset of the token is `at`, plus the number of bytes
+-- before the token in this text.
 pub offset_of_rest : (at k : ℕ) (t f u : List ℕ) → t ≡ f ++ u → k + byte_len u ≡ at + byte_len t → k ≡ at + byte_len f
 offset_of_rest at k t f u e place = omega (arith, place, ap byte_len e, byte_len-append f u)
 
@@ -182,7 +182,8 @@ may_drop (c ∷ []) (d ∷ b) h = h
 may_drop (c ∷ e ∷ a) b h = may_drop (e ∷ a) b h
 
 -- The old text contains a raw string, and the new text a string with escapes in its place. The text `front` precedes the
--- string in both. The text `lead` precedes the old and the new text. Neither a hash nor a dot directly precedes the string.
+-- string in both texts. The text `lead` precedes the old and the new text. Neither a hash nor a dot directly precedes the
+-- string.
 pub record Unquoted (lead old new : List ℕ) : Type 0 where
   pub front : List ℕ
   pub raw : List ℕ
@@ -341,8 +342,8 @@ one_more lead at t d before after old new place r u front sound is text_is here 
       cuts = subst (λ (z : List ℕ). SourcesUpTo at z (d ∷ cuts) r) (sym whole) all;
     }
 
--- The text `u` follows the first token of the text `t`. If the new literal may replace the old one in `t`, it may also
--- replace it in `u`.
+-- The text `u` follows the first token of the text `t`. A new literal that may replace an old literal in `t` may also replace
+-- this old literal in `u`.
 follows_inner : (lead : List ℕ) (at : ℕ) (t : List ℕ) (d : CutSource) (old new : Lexeme) (place : ℕ)
     (u rest front : List ℕ) → t ≡ front ++ (source_text d.token ++ u) → d.at ≡ at + byte_len front
     → Follows lead at t old new place rest

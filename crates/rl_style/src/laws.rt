@@ -95,8 +95,8 @@ pub fn tokens_before_a_replaced_raw_string_stay()
     ensures { StaysBeforeQuote }
 {}
 
-/// If a string with escapes replaces a raw string of a text, all other tokens of the text are lexed as before. Neither a hash
-/// nor a dot must directly precede the string.
+/// If a string with escapes replaces a raw string of a text, all other tokens of the text are lexed as before. The text
+/// before the string must end with neither a hash nor a dot.
 pub fn the_tokens_around_a_replaced_raw_string_are_kept()
     ensures { KeepsTheTokensUnraw }
 {}
