@@ -118,7 +118,8 @@ none_unless : (t : List ℕ) (o : Option (List ℕ)) → after_piece t ≡ o →
 none_unless t None h stops = refl
 none_unless t (Some r) h stops = absurd (stops (begins-from_some t r (after_piece-sound t r h)))
 
--- One iteration of a function that skips white space and comments, with a limit on the number of iterations.
+-- The result of one iteration of a function that skips white space and comments: the text `t` if nothing was skipped,
+-- and otherwise the result of `f` for the text after the skipped white space or comment.
 abbrev goes_on : (List ℕ → List ℕ) → List ℕ → Option (List ℕ) → List ℕ
 goes_on f t None = t
 goes_on f t (Some r) = f r
@@ -148,7 +149,8 @@ skip_in-stops : (n : ℕ) (t : List ℕ) → after_piece t ≡ None → skip_in 
 skip_in-stops zero t h = refl
 skip_in-stops (suc n) t h = ap (λ x. goes_on (skip_in n) t x) h
 
--- If its limit is large enough, the skipping function reaches the text after all white space and comments.
+-- A function that skips white space and comments, with a limit on its iterations, returns `r` for the text `t` if the
+-- limit is large enough.
 abbrev Reaches : List ℕ → List ℕ → Type 0
 Reaches t r = (ps : List TriviaPiece) × ((n : ℕ) → skip_in (adds ps (suc n)) t ≡ r)
 
@@ -184,7 +186,7 @@ one_rest t r s a b =
     ) in
     sym (f m) ∙ ap (λ k. skip_in k t) e ∙ g n
 
--- If an empty text is joined from two texts, the second is empty.
+-- If two joined texts are empty together, the second text is empty.
 nil-append : (a r : List ℕ) → [] ≡ a ++ r → r ≡ []
 nil-append [] r h = sym h
 nil-append (x ∷ a) r h = absurd (cc)

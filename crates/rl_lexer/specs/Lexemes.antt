@@ -1,5 +1,6 @@
--- The lexemes of a text, which are its literals, identifiers, delimiters and punctuation characters. Each is a value of `Lexeme`,
--- which has the parts of its text, and is as long as the text after it allows. A character is represented by its code.
+-- The lexemes of a text: its literals, identifiers, delimiters and punctuation characters. A value of the type `Lexeme`
+-- consists of the parts of a lexeme's text. A character is represented by its code. A lexeme is as long as possible:
+-- `12` isn't a lexeme before `3`.
 --
 -- Lexemes are the tokens of the Rust Reference, chapters Tokens (sections Literals, Punctuation, Delimiters) and
 -- Identifiers. The text in a literal isn't checked, and doc comments, lifetimes and raw identifiers aren't lexemes.
@@ -205,7 +206,8 @@ IsLexedExponent (LexedPower letter sign n d more) after =
     IsTrue (is_exponent_letter letter) × IsTrue (is_ascii_digit d)
     × IsRun (is_run_part is_ascii_digit) more after
 
--- The lexeme is well formed, and as long as the text `after` it allows.
+-- The parts of the lexeme are valid, and the text `after`, which follows the lexeme, doesn't continue it. For example,
+-- the number `12` isn't a lexeme before `3`.
 abbrev pub IsLexeme : Lexeme → List ℕ → Type 0
 IsLexeme (QuotedLexeme p parts suffix) after = IsBody parts × IsLexedSuffix suffix after
 IsLexeme (RawLexeme p n body suffix) after = IsRawBody n body × IsLexedSuffix suffix after

@@ -139,7 +139,7 @@ impl<'t> Sources<'t> {
         // literals.
         ensures found { IfSome result (λ l. TakesLiteralAfter self.old l self.new) }
         ensures shorter { IfSome result (λ l. length self.new.rest < length self.old.rest) }
-        // If the result is `None`, tokens that aren't literals are consumed, and no token begins the rest.
+        // If the result is `None`, no consumed token is a literal, and no token begins the remaining text.
         ensures passed { IfNone result (PassesTo self.old self.new) }
         ensures none { IfNone result (BeginsNoSource (chars self.new.rest)) }
     {
@@ -157,7 +157,7 @@ impl<'t> Sources<'t> {
     pub fn error(&self) -> Option<LexError>
         ensures error { IfSome result (λ e. SourceErrorAt e.kind (chars self.now.rest)) }
         ensures place { IfSome result (λ e. e.at + length self.now.rest ≡ length self.now.text) }
-        // The error is the first error of the source, however the source before the cursor was lexed.
+        // The error is the first error of the source, provided that the source before the cursor can be lexed.
         ensures first { IfSome result (λ e. IsFirstSourceError self.now e.kind e.at) }
         // If the result is `None`, the cursor is at the end of the source, or before a token.
         ensures none { IfNone result ((self.now.rest ≡ [])
