@@ -14,7 +14,7 @@ use Rattle.rl_fronts.specs.Fronts.{IsFront, HasNoFront}
 use Rattle.rl_tokens.specs.Lexing.{Lexes}
 use Rattle.rl_tokens.specs.Whole.{place_at, RejectsLexing}
 
--- An attribute as plain data: its name, and the literal that the name is set to, each with its span.
+-- The parts of an attribute: its name, and the literal that the name is set to, each with its span.
 pub record Attribute : Type 0 where
   pub name : SpannedText
   pub literal : SpannedText

@@ -1,4 +1,4 @@
--- The literal and identifier tokens among the token trees of a text have the texts with which they were lexed.
+-- Lemmas: the text of a literal or identifier token among the token trees of a text is the text that was lexed.
 use Rattle.rl_syntax.proofs.Common.{◌≡◌, ℕ, Bool, true, false, List, [], ◌∷◌, ◌++◌, map, inl, inr, refl, sym, ◌∙◌, ap, subst, ⊤, if◌then◌else◌, AllByRecursion, chars, encode_utf8_all, scalar}
 use Rattle.std.proofs.Math.Utf8.{scalars}
 use Rattle.std.proofs.lemmas.Str.{chars-encodes}
