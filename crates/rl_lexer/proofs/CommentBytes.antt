@@ -72,8 +72,7 @@ after_block-encodes d (c ∷ []) = block_one d c (cases128 c)
 after_block-encodes d (c ∷ e ∷ cs) = block_two d c e cs (λ n. after_block-encodes n cs) (after_block-encodes d (e ∷ cs))
     (cases128 c) (cases128 e)
 
--- The code searches in bytes, and the model in characters. If the text that the code finds is the encoding of the text
--- that the model finds, the characters of the first text are the second text.
+-- If the code returns the encoding of the model's result, the characters of the code's result are the model's result.
 same_chars : (m : Option (List ℕ)) (rest : List ℕ) → IsUtf8 rest → Some rest ≡ option_map encode_utf8_all m
     → Some (chars rest) ≡ m
 same_chars None rest is e = absurd (cc)

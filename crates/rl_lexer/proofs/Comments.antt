@@ -4,8 +4,8 @@ use Rattle.rl_syntax.specs.Trivia.{is_comment_line, is_comment_block, Inside, En
 use Rattle.rl_lexer.specs.Mirrors.SkippedAt.{after_block, after_line}
 use Rattle.rl_syntax.proofs.Basics.{false_unless}
 
--- The text after the block comments that are still open after a closing delimiter, where the text `t` follows this
--- delimiter. If no block comment is open, the result is `t`.
+-- The text after the outermost of nested block comments, where the given text follows a closing delimiter, and `depth`
+-- comments are still open. If `depth` is 0, the result is the given text.
 abbrev pub closed : ℕ → List ℕ → Option (List ℕ)
 closed zero t = Some t
 closed (suc d) t = after_block d t

@@ -45,8 +45,8 @@ token_len : {text rest following token : List ℕ} {form : LexemeForm} {lo hi : 
 token_len {rest = rest} {following = following} {token = token} at = omega
     (arith, at.lo_place, at.hi_place, ap length at.rest_is, length-append token following)
 
--- Suppose that `rest` begins with a lexeme, and that the text `following` follows the lexeme. Then `TokenAt` holds for
--- the slice of `rest` before `following`.
+-- If `rest` begins with a lexeme and the text `following` follows the lexeme, `TokenAt` holds for the slice of `rest`
+-- before `following`.
 token_at : (text rest following token : List ℕ) (form : LexemeForm) → IsTail text rest → IsTail rest following
     → FormBefore (chars rest) form (chars following) → IsUtf8 token → token
     ≡ slice_range rest 0 (length rest - length following) → TokenAt text rest following token form

@@ -14,7 +14,7 @@ use Rattle.rl_syntax.proofs.Rests.{tail_length}
 use Rattle.rl_lexer.specs.Mirrors.LexemeAt.{begins_quote}
 use Rattle.rl_lexer.specs.Lexemes.{begins_raw_identifier}
 
--- The number of bytes of a text, computed from its characters, is the length of the text.
+-- The number of bytes to which the characters of a text are encoded is the length of the text in bytes.
 pub char_len : (t : List ℕ) → IsUtf8 t → byte_len (chars t) ≡ length t
 char_len t is = ap length (encodes-chars t is)
 

@@ -11,7 +11,8 @@ use Rattle.rl_lexer.proofs.LexemeRows.{power_text}
 use Rattle.rl_lexer.proofs.LexemeOpeners.{prefixed, opens_found, sign_found, underscores_found, passes_split, no_exponent_begins, none_otherwise}
 use Rattle.rl_lexer.proofs.LexemeFronts.{decimal_text, raw_text}
 
--- The text `t` begins with characters that pass the test, and `r` is the text after all of these characters.
+-- The text `t` consists of characters that pass the test, and of the text `r`, which doesn't begin with such a
+-- character.
 abbrev Row : (ℕ → Bool) → List ℕ → List ℕ → Type 0
 Row test t r = (run : List ℕ) × IsRun test run r × (t ≡ run ++ r)
 

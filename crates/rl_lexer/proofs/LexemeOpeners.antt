@@ -1,4 +1,4 @@
--- Lemmas about tests of the first characters of a text, which decide what lexeme may begin the text.
+-- Lemmas about tests of the first characters of a text. The tests decide what lexeme may begin the text.
 use Rattle.rl_syntax.proofs.Common.{◌≡◌, ℕ, suc, zero, ◌⊎◌, inl, inr, Bool, true, false, not, ◌&&◌, ◌||◌, ◌==◌, cond, List, [], ◌∷◌, ◌++◌, drop, replicate, refl, sym, ◌∙◌, ap, and_parts, codes, is_ascii_digit, and_from, or_left, or_right}
 use Rattle.rl_syntax.specs.Texts.{is_underscore, first_passes, begins, is_run_part, is_start, begins_char}
 use Rattle.rl_lexer.specs.Lexemes.{BeginsHashedQuote, LiteralPrefix, NoPrefix, BytePrefix, CPrefix, prefix_text, BeginsRaw, begins_prefixed_quote, begins_raw_identifier, BeginsOtherwise, LexedSign, NoLexedSign, LexedPlus, LexedMinus, lexed_sign_text, LexedExponent, NoLexedExponent, LexedPower, lexed_exponent_text, IsLexedExponent, BeginsLexedExponent}

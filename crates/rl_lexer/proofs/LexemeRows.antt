@@ -60,7 +60,7 @@ quote_past (PlainPart c ∷ parts) t (plain, is) =
     plain_past c (body_text parts ++ 34 ∷ t) t (body_cons parts t) k.0 k.1 ∙ quote_past parts t is
 quote_past (EscapedPart c ∷ parts) t is = quote_past parts t is
 
--- For a text of the body of a raw literal, its closing delimiter and the text `t`, `after_raw` returns `t`.
+-- If a text consists of the body of a raw literal, the closing delimiter and the text `t`, `after_raw` returns `t`.
 pub raw_past : (n : ℕ) (body t : List ℕ) → IsRawBody n body → after_raw n (body ++ 34 ∷ (replicate n 35 ++ t)) ≡ Some t
 raw_past n [] t is =
     ap (λ b. cond b (Some (drop n (replicate n 35 ++ t))) (after_raw n (replicate n 35 ++ t))) (hashes_here n t)
@@ -71,8 +71,8 @@ raw_past n (c ∷ body) t (here, is) =
     (hashes_inside n body (replicate n 35 ++ t)) ∙ here)
     ∙ raw_past n body t is
 
--- For a text of the end of an escape, the closing apostrophe and the text `t`, `after_apostrophe` returns `t`. In
--- `'\u{41}'` the end of the escape is `{41}`.
+-- If a text consists of the end of an escape, the closing apostrophe and the text `t`, `after_apostrophe` returns `t`.
+-- In `'\u{41}'` the end of the escape is `{41}`.
 apostrophe_past : (more t : List ℕ) → list_all (λ d. not (d == 39 || d == 10)) more ≡ true
     → after_apostrophe (more ++ 39 ∷ t) ≡ Some t
 apostrophe_past [] t is = refl
@@ -89,7 +89,7 @@ pub single_past : (inside : CharacterBody) (t : List ℕ) → IsCharacterBody in
 single_past (OneCharacter c) t is = ap (λ b. cond b (after_apostrophe t) (Some t)) (not_true (c == 92) is)
 single_past (EscapedCharacter c more) t is = apostrophe_past more t is
 
--- For a text of the fraction of a decimal number and the text `t`, `after_lexed_fraction` returns `t`.
+-- If a text consists of the fraction of a decimal number and the text `t`, `after_lexed_fraction` returns `t`.
 pub fraction_past : (f : LexedFraction) (t : List ℕ) → IsLexedFraction f t
     → after_lexed_fraction (lexed_fraction_text f ++ t) ≡ t
 fraction_past NoLexedFraction t is = ap (λ b. cond b (after_run (is_run_part is_ascii_digit) (drop 1 t)) t) is

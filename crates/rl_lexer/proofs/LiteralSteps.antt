@@ -84,7 +84,7 @@ pub reach_white : (c : ℕ) (t r : List ℕ) → is_white c ≡ true → Reaches
 reach_white c t r white h = record { start = h.start; skipped = skipped_after (c ∷ t) t h.start (after_piece-past (White c) t white) h.skipped; holds = h.holds }
 
 -- Suppose that only white space, comments and tokens other than literals precede the text `r`. This is still so if
--- white space or a plain comment is added at the start.
+-- white space or a plain comment is added at the start of the whole text.
 pub reach_piece : (t u r : List ℕ) → after_piece t ≡ Some u → Reaches u r → Reaches t r
 reach_piece t u r piece h = record { start = h.start; skipped = skipped_after t u h.start piece h.skipped; holds = h.holds }
 
@@ -92,7 +92,7 @@ pub reach_run : (t u r : List ℕ) → u ≡ after_run is_white t → Reaches u 
 reach_run t u r run h = record { start = h.start; skipped = skipped_run t u h.start run h.skipped; holds = h.holds }
 
 -- Suppose that only white space, comments and tokens other than literals precede the text `r`. This is still so if a
--- token other than a literal is added at the start.
+-- token other than a literal is added at the start of the whole text.
 pub reach_first : (t after r : List ℕ) (kind : SourceKind) → after_piece t ≡ None
     → (token : SourceBefore t kind after) → (IsLiteralText kind (source_text token.token) → ⊥) → Reaches after r
     → Reaches t r

@@ -1,5 +1,4 @@
--- Lemmas about number tokens: the first digit of a number shows that the token is a number, and a number may end right
--- after its digits.
+-- Lemmas about number tokens. The first digit shows that a token is a number. The token may end right after its digits.
 use Rattle.rl_syntax.proofs.Common.{◌≡◌, ℕ, ◌⊎◌, inl, inr, Bool, true, false, not, ◌&&◌, ◌||◌, ◌==◌, cond, List, [], ◌∷◌, Some, refl, sym, ◌∙◌, ap, lit<, arith, drop, nat_tests, is_ascii, is_ascii_digit}
 use Rattle.rl_syntax.proofs.Basics.{false_unless}
 use Rattle.rl_syntax.specs.Texts.{is_underscore, first_passes, is_run_part, is_start, is_continue}
@@ -77,8 +76,8 @@ same_row (d ∷ u) h = go (is_ascii_digit d) refl h (same_row u)
         (not_among d 95 no_start (ap not (neither_true (d == 46) (is_start d) h).1)
         (starts 95 (start_ascii 95 (lit< tt))))
 
--- If a function skips the leading digits of a text, and then the digits and underscores after them, it returns the text
--- after all leading digits and underscores.
+-- Skipping the leading digits of a text, and then the digits and underscores that follow, skips all leading digits and
+-- underscores.
 row_on : (t : List ℕ) → after_run (is_run_part is_ascii_digit) (after_run is_ascii_digit t)
     ≡ after_run (is_run_part is_ascii_digit) t
 row_on [] = refl

@@ -186,7 +186,7 @@ one_rest t r s a b =
     ) in
     sym (f m) ∙ ap (λ k. skip_in k t) e ∙ g n
 
--- If two joined texts are empty together, the second text is empty.
+-- If two texts joined are the empty text, the second one is empty.
 nil-append : (a r : List ℕ) → [] ≡ a ++ r → r ≡ []
 nil-append [] r h = sym h
 nil-append (x ∷ a) r h = absurd (cc)

@@ -18,8 +18,8 @@ use Rattle.rl_lexer.proofs.LexemeOpeners.{quote_begins}
 use Rattle.rl_lexer.proofs.SourceFronts.{proper_source, closed_here}
 use Rattle.rl_syntax.proofs.Rests.{tail_length}
 
--- A source is lexed into no tokens up to the text after its byte order mark, its interpreter's line, and the white
--- space and comments that follow.
+-- Before any token of a source is lexed, the source is lexed up to the text after its byte order mark, its
+-- interpreter's line, and the white space and comments that follow.
 pub begun : (text front rest : List ℕ) → IsUtf8 text → IsTail text front → IsWithoutPreamble (chars text) (chars front)
     → Skipped (chars front) (chars rest) → IsCutUpTo (chars text) [] (chars rest)
 begun text front rest is following is_front skipped = record {

@@ -203,7 +203,7 @@ slash_of false false true b h = absurd (cc)
 slash_of false false false b h = refl
 
 -- Suppose that only white space, comments and tokens other than literals precede the text `r`. This is still so if one
--- character that begins neither an identifier, nor a literal, nor a comment is added at the start.
+-- character that begins neither an identifier, nor a literal, nor a comment is added at the start of the whole text.
 reach_other : (c : ℕ) (u r : List ℕ) → c < 128 → is_ascii_id_continue c ≡ false → not (is_likely_mark c) ≡ true → Reaches u r
     → Reaches (c ∷ u) r
 reach_other c u r low plain unlikely more = go (is_white c) (is_always_token c) refl refl
@@ -465,8 +465,8 @@ unlikely-reaches bs rest n r u v e cut reaches =
     (agrees_bytes rest v) in
     subst (λ (z : List ℕ). Reaches z r) (sym whole) (reach_front 0 next front (chars rest) r agrees all reaches)
 
--- The bytes that the code skips contain only tokens that aren't literals, in the form in which the contract states it.
--- `before` is the last byte that was skipped.
+-- The bytes that the code skips contain only tokens that aren't literals, as the contract of `skip_unlikely` states.
+-- `before` is the last skipped byte.
 pub unlikely-holds : (bs rest past next : List ℕ) (n before : ℕ) → IsUtf8 bs → IsUtf8 rest → n ≤ literal_free_prefix_len bs
     → rest ≡ drop n bs → before ≡ byte_before bs n → past ≡ past_word before (chars rest) → Reaches past next
     → HasOnlyOtherTokens (chars bs) next

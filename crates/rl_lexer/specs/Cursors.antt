@@ -9,7 +9,7 @@ use Rattle.rl_lexer.specs.declared.lex_error.LexKind.{LexKind}
 use Rattle.rl_lexer.specs.declared.lexeme.Form.{Form as FoundForm}
 use Rattle.rl_lexer.specs.declared.lexeme.Form.TheVariants as found
 
--- The state of a cursor: the whole text, and the rest of it, which isn't lexed yet. Both are lists of bytes.
+-- The state of a cursor: the whole text, and the end of the text that isn't lexed yet. Both are lists of bytes.
 pub record CursorState : Type 0 where
   pub text : List ℕ
   pub rest : List ℕ

@@ -49,8 +49,8 @@ abbrev pub popped : List OpenGroup → List OpenGroup
 popped [] = []
 popped (o ∷ os) = os
 
--- The groups that are open after a delimiter, the innermost first. `None` if it is a closing delimiter that doesn't
--- match the innermost group, or an opening one inside 128 groups.
+-- The groups that are open after a delimiter, the innermost first. The result is `None` if the delimiter is a closing
+-- one that doesn't match the innermost group, or an opening one inside 128 groups.
 abbrev pub after_delimiter : List OpenGroup → ℕ → ℕ → Option (List OpenGroup)
 after_delimiter groups c at =
     if is_opener c
@@ -65,7 +65,8 @@ after_form groups _ at = Some groups
 abbrev pub after_lexeme : List OpenGroup → Lexeme → ℕ → Option (List OpenGroup)
 after_lexeme groups l at = after_form groups (form_of l) at
 
--- The groups that are open after the given tokens, where `groups` are open before them. `None` if a delimiter is an error.
+-- The groups that are open after the given tokens, where `groups` are open before the tokens. The result is `None` if a
+-- delimiter is an error.
 abbrev pub open_groups : List OpenGroup → List LexedToken → Option (List OpenGroup)
 open_groups groups [] = Some groups
 open_groups groups (w ∷ ws) =

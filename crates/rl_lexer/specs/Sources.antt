@@ -140,9 +140,9 @@ abbrev pub without_byte_order_mark : List ℕ → List ℕ
 without_byte_order_mark [] = []
 without_byte_order_mark (c ∷ t) = if c == 0xfeff then t else c ∷ t
 
--- The text `t` begins with an interpreter's line, and `rest` follows the line. The line is `#!` and the rest of the
--- line without its LF. If `[` follows, after white space and plain comments, it is an attribute, and not an
--- interpreter's line.
+-- The text `t` begins with an interpreter's line, and `rest` follows the line. The line is `#!` and all characters up
+-- to the next LF. If `[` follows the `#!`, after white space and plain comments, the text begins with an attribute
+-- instead.
 pub record IsScriptLine (t rest : List ℕ) : Type 0 where
   pub line : List ℕ
   pub text_is : t ≡ code "#" ∷ code "!" ∷ line ++ rest
@@ -217,7 +217,7 @@ GivesSource old token new =
 
 -- ---- literals
 
--- The token of a source is a literal: by its form, or because it is `true` or `false`.
+-- The token of a source is a literal: by its form, or because its text is `true` or `false`.
 abbrev pub IsLiteralText : SourceKind → List ℕ → Type 0
 IsLiteralText (PlainKind LiteralForm) text = ⊤
 IsLiteralText (PlainKind IdentifierForm) text = (b : Bool) × (text ≡ truth_text b)

@@ -301,7 +301,7 @@ fn after_any_name(text: &str) -> Option<&str>
 }
 
 /// Returns the text after a lifetime, where `text` follows the apostrophe. Returns `None` if the apostrophe begins no
-/// lifetime. In `'a'`, for example, it begins a character literal.
+/// lifetime. In `'a'`, for example, the apostrophe begins a character literal.
 fn after_lifetime(text: &str) -> Option<&str>
     ensures rest { option_map (λ rest. chars rest.now) result ≡ after_lifetime (chars text.now) }
     ensures following { IfSome result (λ rest. IsTail text.now rest.now) }

@@ -31,11 +31,11 @@ use rl_syntax::text::{begins_with_char, split_ascii, strip_byte};
 /// ```
 #[inline(always)]
 pub fn skip(text: &str) -> &str
-    // The result is `text` without all white space and plain comments at its start, as characters.
+    // The characters of the result are those of `text` after all leading white space and plain comments.
     ensures skipped { Skipped (chars text.now) (chars result.now) }
     // The result is a slice at the end of the text.
     ensures following { IsTail text.now result.now }
-    // The text after white space and plain comments is unique. Skipping them again doesn't change the result.
+    // The text after leading white space and plain comments is unique. A second call doesn't change the result.
     ensures only { OneRest }
     ensures again { Skipped (chars result.now) (chars result.now) }
 {
