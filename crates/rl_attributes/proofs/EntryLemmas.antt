@@ -183,7 +183,7 @@ value_refused seen trees at_equals at_literal after scope was name e begun equal
       }))));
     })
 
--- ---- lemmas about the span of an allocation failure, which is that of the first token tree
+-- ---- lemmas about the span of an allocation failure: it is the span of the first token tree
 
 -- An error that names a missing part isn't an allocation failure.
 no_word : (A : Type 0) (trees : List Tree) (word : List ℕ) → MissesWord {A = A} trees word Memory → ⊥

@@ -120,7 +120,7 @@ pub record MissesComma {A : Type 0} (seen : List ℕ → Bool) (trees : List Tre
   pub rejection : IsRejection following scope (codes "`,`") e
 
 -- The error `e` is the error for token trees that don't begin with an attribute with a new name, followed by a comma or
--- the end. It is the error for the first part that is missing.
+-- the end. The error names the first missing part, or is `Repeated` at a repeated name.
 pub record RejectsNextAttribute {A : Type 0} (seen : List ℕ → Bool) (trees : List Tree)
     (scope : Span) (e : Error A) : Type 0 where
   pub why : MissesName trees scope e ⊎ RepeatsName seen trees e ⊎ MissesEquals seen trees scope e

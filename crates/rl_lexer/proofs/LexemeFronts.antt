@@ -61,7 +61,7 @@ tail_slash c = cond (is_punct c) MarkHead (tail_punct c)
 abbrev pub after_delimiter : ℕ → HeadClass
 after_delimiter c = cond (c == 47) SlashHead (tail_slash c)
 
--- A character that is in no other class is a stray character.
+-- For a character that is in no other class, `head_class` returns the class `StrayHead`.
 pub stray_class : (c : ℕ) → is_start c ≡ false → is_among delimiters c ≡ false → (c == 47) ≡ false → is_among marks c
     ≡ false → is_ascii_digit c ≡ false → (c == 34) ≡ false → (c == 39) ≡ false → head_class c ≡ StrayHead
 stray_class c start delimiter slash mark digit quote apostrophe =
@@ -147,7 +147,8 @@ front_mark c t (inl is) =
     ∙ ap (λ b. cond (b || c == 47) MarkHead (tail_punct c)) is)
 front_mark c t (inr (e, h)) = ap (λ x. lexeme_at (x ∷ t)) e ∙ front_slash t h ∙ ap (λ x. Some (MarkForm x, t)) (sym e)
 
--- The text of a raw literal is the same, whether its parts and the text after it are joined from the left or from the right.
+-- The parts of a raw literal and the text after the literal can be joined from the left or from the right: the joined
+-- text is the same.
 pub raw_text : (n : ℕ) (body x t : List ℕ) → (((replicate n 35 ++ (34 ∷ body)) ++ (34 ∷ replicate n 35)) ++ x) ++ t
     ≡ replicate n 35 ++ (34 ∷ (body ++ (34 ∷ (replicate n 35 ++ (x ++ t)))))
 raw_text n body x t = simp append_assoc

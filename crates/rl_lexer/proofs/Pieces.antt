@@ -1,5 +1,5 @@
--- `after_piece` consumes exactly one piece: white space, a plain comment, or a line comment at the end of the text. So
--- the text after all pieces is unique.
+-- `after_piece` skips exactly one of these at the start of a text: a white space character, a plain comment, or a line
+-- comment at the end of the text. So the text after all white space and comments is unique.
 use Rattle.rl_syntax.proofs.Common.{◌≡◌, ℕ, suc, zero, ◌+◌, ◌⊎◌, inl, inr, Bool, true, false, ◌==◌, cond, List, [], ◌∷◌, ◌++◌, length, Option, Some, None, refl, sym, ◌∙◌, ap, subst, arith, append_assoc, nat_tests, AllByRecursion}
 use Rattle.rl_syntax.specs.Texts.{is_white, first_passes}
 use Rattle.rl_syntax.specs.Trivia.{is_comment_line, is_comment_block, inside_text, TriviaPiece, White, Line, Block, trivia_piece_text, IsTriviaPiece, trivia_text, IsTrivia}
@@ -26,7 +26,8 @@ after_line-sound : (t : List ℕ) → LineEnds t (after_line t)
 after_line-sound [] = inr (refl, refl)
 after_line-sound (c ∷ t) = line_ends_step c t (c == 10) refl (after_line-sound t)
 
--- The text `r` follows one piece of a text: white space, a plain comment, or a line comment at the end of the text.
+-- The text `t` begins with a white space character, with a plain comment, or with a line comment that ends the text.
+-- The text `r` follows this character or comment.
 abbrev pub TakesOff : List ℕ → List ℕ → Type 0
 TakesOff t r = ((p : TriviaPiece) × IsTriviaPiece p × (t ≡ trivia_piece_text p ++ r)) ⊎ (IsOpenLine t × (r ≡ []))
 
@@ -104,7 +105,7 @@ after_piece-open t l =
     ∙ ap (λ x. cond x (Some (after_line l.body)) None) l.is_body.plain
     ∙ ap Some (after_line-open l.body l.is_body.one_line)
 
--- If `after_piece` returns `None` for a text, neither white space nor a plain comment begins the text.
+-- If `after_piece` returns `None` for a text, the text begins with neither white space nor a plain comment.
 pub stops-from_none : (t : List ℕ) → after_piece t ≡ None → BeginsTrivia t → ⊥
 stops-from_none t h (inl (p, rest, is, same)) = none-some rest
     (sym h ∙ ap after_piece same ∙ after_piece-past p rest is)

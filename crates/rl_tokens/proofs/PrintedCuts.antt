@@ -58,8 +58,8 @@ last_cut file at last is = record {
   flat_is = refl;
 }
 
--- A text consists of a separator, a token other than a delimiter, and a remaining text. It is lexed into the token,
--- followed by the token trees of the remaining text.
+-- If a text consists of a separator, a token other than a delimiter, and a remaining text, the text is lexed into this
+-- token, followed by the token trees of the remaining text.
 token_cut : (file at : ℕ) (gap : List ℕ) (l : Lexeme) (after : List ℕ) (tree : Tree) (trees : List Tree) → IsTrivia gap
     → IsLexeme l after → ((groups : List OpenGroup) (n : ℕ) → after_form groups (form_of l) n ≡ Some groups) → flat tree
     ≡ flat_token file (record { lexeme = l; at = at + byte_len gap }) ∷ []

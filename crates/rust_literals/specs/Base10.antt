@@ -21,8 +21,8 @@ pub record IsMadeOf {N E : Type 0} (gives : List ℕ → Result N E → Type 0) 
   pub are : AreOf digits
   pub made : gives digits (Ok number)
 
--- The kind of error is `Number` with the message `words`, or with any message if `words` is `None`. Or it is `Memory`:
--- an allocation failed for the message.
+-- The kind of error is `Number` with the message `words`, or with any message if `words` is `None`. Or the kind is
+-- `Memory`: an allocation failed for the message.
 abbrev pub IsInWords : {A : Type 0} → Option (List ℕ) → ErrorKind A → Type 0
 IsInWords words (Number told) = IfSome words (λ w. string_bytes told ≡ w)
 IsInWords words Memory = ⊤

@@ -131,7 +131,7 @@ pub fn read_all<A: Allocator + Copy>(
 ) -> Result<Vec<Lit<A>, A>, Error<A>>
     // The whole text is lexed into the token trees of the returned literals.
     ensures read { IfOk result (λ list. AreRead (chars text.now) file list.items) }
-    // The returned error is the text's first error, or that of the first token tree that isn't a literal, or an
+    // The returned error is the text's first error, the error for the first token tree that isn't a literal, or an
     // allocation failure.
     ensures rejected { IfErr result (RejectsText (chars text.now) file (length text.now)) }
     // If the text consists of literals, the result is a list of these, or an allocation failed.

@@ -1,5 +1,5 @@
-//! The function that reads the list of attributes of a text. It lexes the text token by token, and doesn't build token
-//! trees unless there is an error.
+//! The function that reads the list of attributes of a text. The function lexes the text token by token, and doesn't
+//! build token trees unless there is an error.
 
 ghost use Rattle.std.specs.Prelude.{◌≡◌, All, List, length, IfSome, IfOk, IfErr, IsTrue, IsFalse};
 ghost use Rattle.std.specs.Str.{chars};

@@ -30,7 +30,7 @@ pub(crate) fn after_bad_quote(text: &str) -> Option<&str>
     }
 }
 
-/// Returns the text after an invalid quoted literal without prefix, where `text` follows its apostrophe.
+/// Returns the text after an invalid quoted literal without prefix, where `text` follows the opening apostrophe.
 ///
 /// The literal is an identifier between apostrophes; or a digit and the identifier characters after it, with or without
 /// a closing apostrophe; or everything up to the next apostrophe.

@@ -32,7 +32,8 @@ pub enum Form {
 /// Returns the form of the token at the start of a text, and the text after the token. Returns `None` if no token
 /// begins the text.
 ///
-/// Most tokens of a list are numbers, identifiers and punctuation characters. They are recognized without a call.
+/// Most tokens of a list are numbers, identifiers and punctuation characters. These tokens are recognized without a
+/// call.
 #[cfg_attr(debug_assertions, inline)]
 #[cfg_attr(not(debug_assertions), inline(always))]
 pub(crate) fn first_lexeme(text: &str) -> Option<(Form, &str)> {
@@ -271,10 +272,10 @@ fn after_slash(text: &str) -> Option<(Form, &str)> {
     }
 }
 
-/// Returns the text after a number, where `text` follows its first digit.
+/// Returns the text after a number, where `text` follows the first digit of the number.
 ///
-/// A prefix as `0x` needs no test: its letter and the digits after it are lexed like a suffix. Most numbers end after a
-/// sequence of digits.
+/// A prefix such as `0x` needs no test: the letter of the prefix and the digits after the letter are lexed like a
+/// suffix. Most numbers end after a sequence of digits.
 #[inline(always)]
 fn after_digit(text: &str) -> &str {
     let rest = after_digits(text);

@@ -219,7 +219,7 @@ fn after_any_name(text: &str) -> Option<&str> {
 }
 
 /// Returns the text after a lifetime, where `text` follows the apostrophe. Returns `None` if the apostrophe begins no
-/// lifetime. In `'a'`, for example, it begins a character literal.
+/// lifetime. In `'a'`, for example, the apostrophe begins a character literal.
 fn after_lifetime(text: &str) -> Option<&str> {
     let rest = after_any_name(text)?;
     match split_char(rest) {

@@ -82,9 +82,10 @@ pub(crate) fn after_line(text: &str) -> &str {
     after_first_line_feed(text).unwrap_or("")
 }
 
-/// Returns the text after a block comment, where `text` follows its `/*`. Returns `None` if the comment isn't closed.
+/// Returns the text after a block comment, where `text` follows the `/*` of the comment. Returns `None` if the comment
+/// isn't closed.
 ///
-/// The loop is over bytes, from one `*` or `/` to the next. It counts the nested block comments that are open.
+/// The loop is over bytes, from one `*` or `/` to the next. The loop counts the nested block comments that are open.
 #[cfg_attr(debug_assertions, inline)]
 #[cfg_attr(not(debug_assertions), inline(always))]
 pub(crate) fn after_block(text: &str) -> Option<&str> {

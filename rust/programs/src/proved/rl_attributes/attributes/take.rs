@@ -10,8 +10,8 @@ use crate::rust_literals::Lit;
 use crate::rattle_std::alloc::Allocator;
 use crate::rattle_std::collections::BTreeSet;
 
-/// The set of the attribute names that have been parsed. It is a balanced tree, so no choice of names makes the search
-/// slow.
+/// The set of the attribute names that have been parsed. The set is a balanced tree, so no choice of names makes the
+/// search slow.
 type Names<'a, A> = BTreeSet<Name<'a>, A>;
 
 /// Consumes the identifier at the start of `input` as an attribute's name, which must not be in `names` yet, and adds
