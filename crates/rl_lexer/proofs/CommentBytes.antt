@@ -1,4 +1,5 @@
--- The ends of comments, which the code finds in the bytes of a text.
+-- Lemmas about the end of a comment: the code finds it in the bytes of a text, and the model finds the same end in the
+-- characters of the text.
 use Rattle.rl_syntax.proofs.Common.{◌≡◌, ℕ, suc, zero, ◌<◌, ◌≤◌, ◌⊎◌, inl, inr, Bool, true, false, ◌&&◌, ◌==◌, cond, List, [], ◌∷◌, ◌++◌, Option, Some, None, refl, sym, ◌∙◌, ap, arith, ltb-false, is_ascii, chars, encode_utf8_all, IsUtf8, option_map, encodes-chars, chars_from_encodes}
 use Rattle.std.specs.Char.{encode_utf8}
 use Rattle.rl_syntax.specs.Texts.{first_passes}

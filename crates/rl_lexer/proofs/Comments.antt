@@ -1,4 +1,4 @@
--- The ends of block and line comments: the models of the code agree with the definitions.
+-- Lemmas about the ends of block and line comments: the models of the code agree with the definitions.
 use Rattle.rl_syntax.proofs.Common.{◌≡◌, ℕ, suc, zero, ◌⊎◌, inl, inr, Bool, true, false, not, ◌&&◌, ◌==◌, cond, List, [], ◌∷◌, ◌++◌, Option, Some, refl, sym, ◌∙◌, ap, arith, append_assoc, nat_tests, list_all, IsTrue}
 use Rattle.rl_syntax.specs.Trivia.{is_comment_line, is_comment_block, Inside, End, Other, Nested, inside_text, IsInside, BeginsNoMark}
 use Rattle.rl_lexer.specs.Mirrors.SkippedAt.{after_block, after_line}

@@ -34,6 +34,6 @@ pub record StopsInOpenLine (t r : List ℕ) : Type 0 where
 abbrev pub Skipped : List ℕ → List ℕ → Type 0
 Skipped t r = StopsAfterTrivia t r ⊎ StopsInOpenLine t r
 
--- The text after leading white space and comments is unique.
+-- For each text, the text after the leading white space and comments is unique.
 abbrev pub OneRest : Type 0
 OneRest = (t r s : List ℕ) → Skipped t r → Skipped t s → r ≡ s

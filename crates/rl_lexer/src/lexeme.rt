@@ -315,7 +315,7 @@ fn mark_form(c: char) -> Form
 // The functions `quoted_literal`, `character_literal` and `raw_literal` are alike. They are separate functions, because
 // a function zeroes the memory for the results of all its calls when it begins.
 
-/// Returns the form `Literal` and the text after a string literal, where `text` follows its opening `"`. Returns `None`
+/// Returns the form `Literal` and the text after a string literal, where `text` follows the opening `"`. Returns `None`
 /// if the literal isn't closed.
 #[inline(always)]
 fn quoted_literal(text: &str) -> Option<(Form, &str)>
@@ -326,7 +326,7 @@ fn quoted_literal(text: &str) -> Option<(Form, &str)>
     Some((Form::Literal, after_quoted(text)?))
 }
 
-/// Returns the form `Literal` and the text after a character or byte literal, where `text` follows its opening `'`.
+/// Returns the form `Literal` and the text after a character or byte literal, where `text` follows the opening `'`.
 /// Returns `None` if no `'` follows the one character or the escape.
 #[inline(always)]
 fn character_literal(text: &str) -> Option<(Form, &str)>
@@ -337,7 +337,7 @@ fn character_literal(text: &str) -> Option<(Form, &str)>
     Some((Form::Literal, after_character(text)?))
 }
 
-/// Returns the form `Literal` and the text after a raw literal, where `text` follows its `r`. Returns `None` if the
+/// Returns the form `Literal` and the text after a raw literal, where `text` follows the `r`. Returns `None` if the
 /// literal isn't closed.
 #[inline(always)]
 fn raw_literal(text: &str) -> Option<(Form, &str)>

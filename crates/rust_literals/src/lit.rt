@@ -258,8 +258,8 @@ impl<A: Allocator> Lit<A> {
     }
 }
 
-/// Returns the literal that `front` found at the start of token trees, or `None` if an allocation fails. A `bool`
-/// literal needs no allocation.
+/// Returns the literal that consists of the tokens of `front`, or `None` if an allocation fails. A `bool` literal needs
+/// no allocation.
 fn of_front<A: Allocator + Copy>(alloc: A, front: &Front<'_, A>) -> Option<Lit<A>>
     ensures { IfSome result (IsReadFrom (front_token front.now)) }
 {

@@ -104,9 +104,9 @@ fn with_memory_at<A: Allocator>(error: Error<A>, place: Span) -> Error<A> {
 /// # Errors
 ///
 /// The token trees are parsed from left to right. The error names the first part that is missing: `identifier`,
-/// `` `=` ``, `literal`, or `` `,` ``. The error for a name that another attribute before has is `Repeated`, at the
-/// name, even if `=` doesn't follow the name. An allocation failure is reported at the first token tree of the buffer.
-/// On an error the buffer is unchanged.
+/// `` `=` ``, `literal`, or `` `,` ``. The error for a name that an earlier attribute has is `Repeated`, at the name,
+/// even if `=` doesn't follow the name. An allocation failure is reported at the first token tree of the buffer. On an
+/// error the buffer is unchanged.
 impl<A: Allocator + Copy> Parse<A> for Attrs<A> {
     fn parse(alloc: A, input: &mut ParseBuffer<'_, A>) -> Result<Attrs<A>, Error<A>> {
         let place = input.span();
