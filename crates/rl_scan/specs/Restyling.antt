@@ -12,6 +12,7 @@ use Rattle.rl_restyle.specs.declared.edit.Macros.{Macros}
 use Rattle.rl_restyle.specs.declared.edit.Macros.TheVariants.{Skip}
 use Rattle.rl_sources.specs.declared.options.Options.{Options}
 use Rattle.rl_style.specs.Recut.{begins_with_code}
+use Rattle.rl_style.specs.declared.style.Style.{Style}
 use Rattle.rl_options.specs.declared.command.Command.{Command}
 use Rattle.rl_options.specs.declared.command.Output.{Output}
 use Rattle.rl_options.specs.declared.command.Output.TheVariants as output
@@ -35,9 +36,9 @@ macros_read None = Skip
 macros_read (Some macros) = macros
 
 -- An output line for each rewritten literal of a source, with its lines of context, in bytes.
-abbrev pub AreChangeBytes : Options → List ℕ → List (ℕ × ℕ × List ℕ) → List ℕ → Type 0
-AreChangeBytes options text edits bytes =
-    (lines : List ℕ) × AreChangeLines options text edits lines × (bytes ≡ encode_utf8_all lines)
+abbrev pub AreChangeBytes : Style → Options → List ℕ → List (ℕ × ℕ × List ℕ) → List ℕ → Type 0
+AreChangeBytes style options text edits bytes =
+    (lines : List ℕ) × AreChangeLines style options text edits lines × (bytes ≡ encode_utf8_all lines)
 
 -- The selection of output for `--fix`: the number of rewritten literals, and not their lines.
 abbrev pub fixed_output : Output → Output
@@ -50,7 +51,7 @@ fixed_output output.Nothing = output.Nothing
 abbrev pub IsPrintOf : Command → Output → Options → Option (Bor (List ℕ)) → List ℕ → List (ℕ × ℕ × List ℕ) → List ℕ
     → Type 0
 IsPrintOf command output options named text edits out =
-    (lines : List ℕ) × AreChangeBytes options text edits lines
+    (lines : List ℕ) × AreChangeBytes command.rules options text edits lines
     × (out ≡ printed_of output command.nul_after_paths command.form named lines)
 
 -- The output of `--check`: the literals that would be rewritten, with their new texts.

@@ -17,6 +17,7 @@ use rl_files::{Replace, push_visible};
 use rl_options::{Command, Output, Restyling, visible_text};
 use rl_restyle::{Macros, Restyled};
 use rl_sources::Options;
+use rl_style::Style;
 use std::alloc::{AllocError, Allocator};
 
 /// Returns a report with the bytes `out` for standard output, and nothing for standard error.
@@ -36,16 +37,24 @@ fn report_out<A: Allocator + Copy>(alloc: A, out: Vec<u8, A>, found: bool) -> Re
 /// Returns an output line for each rewritten literal of a source, and the lines of context below each.
 fn change_lines<A: Allocator + Copy>(
     alloc: A,
+    style: Style,
     options: Options<'_>,
     text: &str,
     restyled: &Restyled<A>,
 ) -> Result<Vec<u8, A>, AllocError>
     requires { AreEditsIn (chars text.now) (map edit_in restyled.now.edits.items) }
-    ensures { IfOk result (λ lines. AreChangeBytes options.entry (chars text.now)
+    ensures { IfOk result (λ lines. AreChangeBytes style options.entry (chars text.now)
         (map edit_in restyled.now.edits.items) lines.items) }
 {
     let mut lines = String::new(alloc);
-    push_changes(alloc, &mut lines, options, text, restyled.edits.as_slice())?;
+    push_changes(
+        alloc,
+        &mut lines,
+        style,
+        options,
+        text,
+        restyled.edits.as_slice(),
+    )?;
     Ok(lines.into_bytes())
 }
 
@@ -62,7 +71,7 @@ fn report_checked<A: Allocator + Copy>(
     ensures { IfOk result (λ r. IsChecked command.entry options.entry path.entry (chars text.now)
         (map edit_in restyled.now.edits.items) (in_report r)) }
 {
-    let lines = change_lines(alloc, options, text, restyled)?;
+    let lines = change_lines(alloc, command.rules, options, text, restyled)?;
     let out = written(
         alloc,
         command.output,
@@ -157,7 +166,7 @@ fn report_fixed<A: Allocator + Copy, F: Replace>(
     }
     let mut bare = options;
     bare.context = None;
-    let lines = change_lines(alloc, bare, text, &restyled)?;
+    let lines = change_lines(alloc, command.rules, bare, text, &restyled)?;
     let output = fixed_output(command.output);
     let out = written(
         alloc,

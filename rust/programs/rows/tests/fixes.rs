@@ -1,6 +1,7 @@
 //! Tests the output for a source whose literals would be rewritten: changes as text, JSON objects and annotations, and unified
 //! diffs. The expected output is written by hand.
 
+use navyspindle::rendered::rl_style::Rule;
 use navyspindle_programs::rattle_std::alloc::{Allocator, Global};
 use navyspindle_programs::rattle_std::string::String as Line;
 use navyspindle_programs::rattle_std::vec::Vec as List;
@@ -22,10 +23,23 @@ fn hunks(old: &str, new: &str) -> String {
     hunks.expect("a head").to_string()
 }
 
-fn change(form: Form, path: Option<&str>, place: &Place, old: &str, new: &str) -> String {
+/// Returns the output for a change by the rules `rules`.
+fn change_by(
+    rules: &[Rule],
+    form: Form,
+    path: Option<&str>,
+    place: &Place,
+    old: &str,
+    new: &str,
+) -> String {
     let mut out = Line::new(Global);
-    push_change(Global, &mut out, form, path, place, old, new).expect("memory");
+    push_change(Global, &mut out, form, path, place, old, new, rules).expect("memory");
     out.as_str().to_string()
+}
+
+/// Returns the output for a change by the rule `fewest_hashes`.
+fn change(form: Form, path: Option<&str>, place: &Place, old: &str, new: &str) -> String {
+    change_by(&[Rule::RawHashes], form, path, place, old, new)
 }
 
 #[test]
@@ -98,7 +112,7 @@ fn lines_of_changes() {
     let place = Place::Line(LineColumn { line: 3, column: 7 });
     assert_eq!(
         change(Form::Plain, Some("a.rs"), &place, "0XFF", "0xff"),
-        "a.rs:3:7: 0XFF -> 0xff\n"
+        "a.rs:3:7: 0XFF -> 0xff [fewest_hashes]\n"
     );
     assert_eq!(
         change(
@@ -108,11 +122,20 @@ fn lines_of_changes() {
             "\"a\nb\"",
             "\"\u{202e}\""
         ),
-        "2..9 \"a\\nb\" -> \"<U+202E>\"\n"
+        "2..9 \"a\\nb\" -> \"<U+202E>\" [fewest_hashes]\n"
     );
     assert_eq!(
         change(Form::Colored, Some("a.rs"), &place, "1", "2"),
-        "\x1b[35ma.rs\x1b[0m:\x1b[32m3:7\x1b[0m: 1 -> 2\n"
+        "\x1b[35ma.rs\x1b[0m:\x1b[32m3:7\x1b[0m: 1 -> 2 [fewest_hashes]\n"
+    );
+    let rules = [Rule::Hidden, Rule::HexDigits, Rule::DigitGroups];
+    assert_eq!(
+        change_by(&rules, Form::Plain, None, &place, "1", "2"),
+        "3:7 1 -> 2 [escape_invisible,hex_digits,digit_groups]\n"
+    );
+    assert_eq!(
+        change_by(&[], Form::Plain, None, &place, "1", "2"),
+        "3:7 1 -> 2 []\n"
     );
 }
 
@@ -133,15 +156,22 @@ fn changes_as_objects_and_annotations() {
     assert_eq!(
         change(Form::Json, Some("a:\u{202e}.rs"), &place, old, "\t\\"),
         "{\"path\":\"a:\\u202e.rs\",\"lo\":20,\"hi\":29,\"line\":3,\"column\":7,\"end_line\":4,\"end_column\":2,\
-        \"byte_column\":8,\"end_byte_column\":3,\"text\":\"'\\\\'\\u200b50%\\n'\",\"new\":\"\\t\\\\\"}\n"
+        \"byte_column\":8,\"end_byte_column\":3,\"text\":\"'\\\\'\\u200b50%\\n'\",\"new\":\"\\t\\\\\",\"rules\":[\"fewest_hashes\"]}\n"
     );
     assert_eq!(
         change(Form::Github, Some("./a:.rs"), &place, old, "\t\\"),
-        "::error file=a%3A.rs,line=3,endLine=4,col=7,endColumn=2,title=style::'\\'<U+200B>50%25\\n' -> \\t\\\n"
+        "::error file=a%3A.rs,line=3,endLine=4,col=7,endColumn=2,title=style::'\\'<U+200B>50%25\\n' -> \\t\\ [fewest_hashes]\n"
     );
     assert_eq!(
         change(Form::Github, None, &place, "", ""),
-        "::error line=3,endLine=4,col=7,endColumn=2,title=style:: -> \n"
+        "::error line=3,endLine=4,col=7,endColumn=2,title=style:: ->  [fewest_hashes]\n"
+    );
+    let rules = [Rule::Raw, Rule::RawHashes];
+    assert_eq!(
+        change_by(&rules, Form::Json, None, &place, "1", "2"),
+        "{\"lo\":20,\"hi\":29,\"line\":3,\"column\":7,\"end_line\":4,\"end_column\":2,\
+        \"byte_column\":8,\"end_byte_column\":3,\"text\":\"1\",\"new\":\"2\",\
+        \"rules\":[\"drop_raw\",\"fewest_hashes\"]}\n"
     );
 }
 
@@ -191,14 +221,16 @@ fn changes_of_a_source_as_objects() {
     assert_eq!(
         output("--check", json, "\u{200b}.rs", TEXT),
         "{\"path\":\"\\u200b.rs\",\"lo\":9,\"hi\":12,\"line\":1,\"column\":9,\"end_line\":1,\"end_column\":12,\
-        \"byte_column\":10,\"end_byte_column\":13,\"text\":\"1E5\",\"new\":\"1e5\"}\n\
+        \"byte_column\":10,\"end_byte_column\":13,\"text\":\"1E5\",\"new\":\"1e5\",\
+        \"rules\":[\"exponent_letter\"]}\n\
         {\"path\":\"\\u200b.rs\",\"lo\":16,\"hi\":26,\"line\":2,\"column\":3,\"end_line\":3,\"end_column\":3,\
-        \"byte_column\":3,\"end_byte_column\":4,\"text\":\"\\\"it\\\\'s\\nä\\\"\",\"new\":\"\\\"it's\\nä\\\"\"}\n"
+        \"byte_column\":3,\"end_byte_column\":4,\"text\":\"\\\"it\\\\'s\\nä\\\"\",\"new\":\"\\\"it's\\nä\\\"\",\
+        \"rules\":[\"drop_quote_escapes\"]}\n"
     );
     assert_eq!(
         output("--check", json, "-", "1E5"),
         "{\"lo\":0,\"hi\":3,\"line\":1,\"column\":1,\"end_line\":1,\"end_column\":4,\"byte_column\":1,\
-        \"end_byte_column\":4,\"text\":\"1E5\",\"new\":\"1e5\"}\n"
+        \"end_byte_column\":4,\"text\":\"1E5\",\"new\":\"1e5\",\"rules\":[\"exponent_letter\"]}\n"
     );
     assert_eq!(output("--check", json, "a.rs", "1e5"), "");
 }
@@ -208,16 +240,17 @@ fn changes_of_a_source_as_annotations() {
     let github = |command: &mut Command<'_>| command.form = Form::Github;
     assert_eq!(
         output("--check", github, "./\u{200b}.rs", TEXT),
-        "::error file=\\u{200b}.rs,line=1,endLine=1,col=9,endColumn=12,title=style::1E5 -> 1e5\n\
-        ::error file=\\u{200b}.rs,line=2,endLine=3,col=3,endColumn=3,title=style::\"it\\'s\\nä\" -> \"it's\\nä\"\n"
+        "::error file=\\u{200b}.rs,line=1,endLine=1,col=9,endColumn=12,title=style::1E5 -> 1e5 [exponent_letter]\n\
+        ::error file=\\u{200b}.rs,line=2,endLine=3,col=3,endColumn=3,title=style::\"it\\'s\\nä\" -> \"it's\\nä\" \
+        [drop_quote_escapes]\n"
     );
 }
 
 #[test]
 fn changes_of_a_source_with_context() {
     let around = |command: &mut Command<'_>| command.around = Some(1);
-    let first = "a.rs:1:9: 1E5 -> 1e5\n    let é = 1E5;\n            ^^^\n    f(\"it\\'s\n";
-    let second = "a.rs:2:3: \"it\\'s\\nä\" -> \"it's\\nä\"\n    let é = 1E5;\n    f(\"it\\'s\n      ^^^^^^\n    ä\", 2);\n";
+    let first = "a.rs:1:9: 1E5 -> 1e5 [exponent_letter]\n    let é = 1E5;\n            ^^^\n    f(\"it\\'s\n";
+    let second = "a.rs:2:3: \"it\\'s\\nä\" -> \"it's\\nä\" [drop_quote_escapes]\n    let é = 1E5;\n    f(\"it\\'s\n      ^^^^^^\n    ä\", 2);\n";
     assert_eq!(
         output("--check", around, "a.rs", TEXT),
         first.to_string() + second
@@ -225,7 +258,7 @@ fn changes_of_a_source_with_context() {
     let before = |command: &mut Command<'_>| command.before = Some(0);
     assert_eq!(
         output("--check", before, "-", "é 1E5\n"),
-        "3..6 1E5 -> 1e5\n    é 1E5\n      ^^^\n"
+        "3..6 1E5 -> 1e5 [exponent_letter]\n    é 1E5\n      ^^^\n"
     );
     let count = |command: &mut Command<'_>| {
         command.around = Some(1);

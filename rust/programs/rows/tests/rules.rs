@@ -95,7 +95,10 @@ fn examples_are_changes() {
             words.extend(["--rule", setting]);
         }
         let text = old.replace("<U+200B>", "\u{200b}");
-        let expected = format!("0..{} {change}\n", text.len());
+        // The sizes of digit groups and the least number of digits are one rule.
+        let is_of_groups = name.ends_with("_groups") || name == "min_digits";
+        let rule = if is_of_groups { "digit_groups" } else { name };
+        let expected = format!("0..{} {change} [{rule}]\n", text.len());
         assert_eq!(run(&words, &text), (expected, 1), "{example}");
         // A rule that isn't set is off.
         assert_eq!(
@@ -104,6 +107,25 @@ fn examples_are_changes() {
             "{example}"
         );
     }
+}
+
+/// Each line names the rules each of which alone changes the literal.
+#[test]
+fn rules_of_a_change() {
+    let words = [
+        "--check",
+        "--rule=hex_digits=lower",
+        "--rule=drop_underscores",
+        "--rule=fewest_escape_digits",
+        "--rule=escape_digits=upper",
+        "--rule=named_escapes",
+    ];
+    let text = "0xA_B 0xA 0xa_b \"\\u{0e_9}\\x0a\"";
+    let expected = "0..5 0xA_B -> 0xab [hex_digits,drop_underscores]\n\
+        6..9 0xA -> 0xa [hex_digits]\n\
+        10..15 0xa_b -> 0xab [drop_underscores]\n\
+        16..30 \"\\u{0e_9}\\x0a\" -> \"\\u{E9}\\n\" [escape_digits,fewest_escape_digits,named_escapes]\n";
+    assert_eq!(run(&words, text), (expected.to_string(), 1));
 }
 
 #[test]

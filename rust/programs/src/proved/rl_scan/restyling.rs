@@ -11,6 +11,7 @@ use crate::rl_files::{Replace, push_visible};
 use crate::rl_options::{Command, Output, Restyling, visible_text};
 use crate::rl_restyle::{Macros, Restyled};
 use crate::rl_sources::Options;
+use crate::rl_style::Style;
 use crate::rattle_std::alloc::{AllocError, Allocator};
 
 /// Returns a report with the bytes `out` for standard output, and nothing for standard error.
@@ -28,12 +29,20 @@ fn report_out<A: Allocator + Copy>(alloc: A, out: Vec<u8, A>, found: bool) -> Re
 /// Returns an output line for each rewritten literal of a source, and the lines of context below each.
 fn change_lines<A: Allocator + Copy>(
     alloc: A,
+    style: Style,
     options: Options<'_>,
     text: &str,
     restyled: &Restyled<A>,
 ) -> Result<Vec<u8, A>, AllocError> {
     let mut lines = String::new(alloc);
-    push_changes(alloc, &mut lines, options, text, restyled.edits.as_slice())?;
+    push_changes(
+        alloc,
+        &mut lines,
+        style,
+        options,
+        text,
+        restyled.edits.as_slice(),
+    )?;
     Ok(lines.into_bytes())
 }
 
@@ -46,7 +55,7 @@ fn report_checked<A: Allocator + Copy>(
     text: &str,
     restyled: &Restyled<A>,
 ) -> Result<Report<A>, AllocError> {
-    let lines = change_lines(alloc, options, text, restyled)?;
+    let lines = change_lines(alloc, command.rules, options, text, restyled)?;
     let out = written(
         alloc,
         command.output,
@@ -126,7 +135,7 @@ fn report_fixed<A: Allocator + Copy, F: Replace>(
     }
     let mut bare = options;
     bare.context = None;
-    let lines = change_lines(alloc, bare, text, &restyled)?;
+    let lines = change_lines(alloc, command.rules, bare, text, &restyled)?;
     let output = fixed_output(command.output);
     let out = written(
         alloc,
