@@ -6,7 +6,7 @@ use navyspindle_programs::rattle_std::string::String as Line;
 use navyspindle_programs::rattle_std::vec::Vec as List;
 use navyspindle_programs::rl_files::{MemoryReplacements, PathError, Tree};
 use navyspindle_programs::rl_options::rules_page;
-use navyspindle_programs::rl_scan::{call, Console};
+use navyspindle_programs::rl_scan::{run_with_arguments, Console};
 
 /// A file tree in which standard input has this text, and which has no other files.
 struct Input(String);
@@ -43,7 +43,7 @@ fn run(words: &[&str], text: &str) -> (String, u8) {
         unwritable: &[],
         handed: List::new(Global),
     };
-    let ending = call(
+    let ending = run_with_arguments(
         Global,
         &words,
         console,
