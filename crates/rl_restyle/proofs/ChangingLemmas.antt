@@ -1,5 +1,5 @@
 -- Lemmas about the rules that change a literal.
-use Rattle.rl_syntax.proofs.Common.{◌≡◌, ℕ, List, [], ◌∷◌, ◌++◌, Option, Some, None, append-nil, append_assoc, arith, chars, false, inl, inr, length, refl, string_bytes, subst, sym, true}
+use Rattle.rl_syntax.proofs.Common.{◌≡◌, ℕ, List, [], ◌∷◌, ◌++◌, ◌∙◌, Option, Some, None, ap, append-nil, append_assoc, arith, chars, false, inl, inr, length, refl, string_bytes, subst, sym, true}
 use Rattle.std.specs.Prelude.{◌⊎◌, String, is_some}
 use Rattle.std.proofs.lemmas.Bool.{false≢true}
 use Rattle.rl_style.specs.Rules.{Changes, all_rules, only}
@@ -44,11 +44,13 @@ pub taken_step : (style : Style) (front old : List ℕ) (rest after taken more :
     → AreTaken style front old after more
 taken_step style front old rest after taken more rule is are (inl (changes, pushed)) = record {
   goes = λ others left. subst (AreChangingRules style front old)
-      (rw pushed (sym (append_assoc taken (rule ∷ []) others)))
-      (are.goes (rule ∷ others) (rw is (inl (changes, (others, left, refl)))));
+      (sym (ap (λ (z : List Rule). z ++ others) pushed ∙ append_assoc taken (rule ∷ []) others))
+      (are.goes (rule ∷ others) (subst (λ (z : List Rule). AreChangingAmong style front old z (rule ∷ others)) (sym is)
+      (inl (changes, (others, left, refl)))));
 }
 taken_step style front old rest after taken more rule is are (inr (same, kept)) = record {
-  goes = λ others left. rw kept (are.goes others (rw is (inr (same, left))));
+  goes = λ others left. subst (λ (z : List Rule). AreChangingRules style front old (z ++ others)) (sym kept)
+      (are.goes others (subst (λ (z : List Rule). AreChangingAmong style front old z others) (sym is) (inr (same, left))));
 }
 
 -- After the last rule, the taken rules are all changing rules.
