@@ -431,7 +431,8 @@ fn scan_ruled<A: Allocator + Copy, T: Tree, W: Write, E: Write, F: Replace>(
       handed_new = F.handed files.new;
     }) result }
 {
-    if asked.settings.is_empty() {
+    let settings = asked.settings.as_slice();
+    if settings.is_empty() {
         return scan_requested(
             alloc,
             asked,
@@ -443,7 +444,7 @@ fn scan_ruled<A: Allocator + Copy, T: Tree, W: Write, E: Write, F: Replace>(
             files,
         );
     }
-    match style_of_settings(alloc, asked.settings.as_slice()) {
+    match style_of_settings(alloc, settings) {
         Ok(rules) => scan_requested(alloc, asked, rules, is_terminal, tree, out, err, files),
         Err(error) => rules_error(alloc, "--rule", error),
     }
