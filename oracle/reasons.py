@@ -3,7 +3,7 @@
 
     oracle/reasons.py [--families worked,cuts,..] [--rustc] [--alone N] ..      a minute for 1,000 random texts, with --rustc ten
 
-The texts are those of oracle/stored.rs and of the rows of rl_rows, and generated ones. With --rustc, rustc lexes many texts in
+The texts are those of rust/programs/tests/stored/texts.rs and of the rows of rl_rows, and generated ones. With --rustc, rustc lexes many texts in
 one source if they leave no quote, comment or group open, and N of the others each alone; --alone sets N. A table then shows the
 relation of rustc's errors to ours. Other options: frame.py.
 """

@@ -24,7 +24,7 @@ FRAMES = [
     ('1e1', ''), ('1_', ''), ('0xe', ''), ('0b1e', ''), ('tru', ''), ('true', ''), ('-0', ''),
 ]
 
-with open(os.path.join(frame.HERE, 'stored.rs'), encoding='utf-8', newline='') as file:
+with open(os.path.join(frame.TOP, 'rust/programs/tests/stored/texts.rs'), encoding='utf-8', newline='') as file:
     # For each command of rl_tool, texts with the lines that it must print, by `syn` and an independent model. The tests of Cargo
     # include this file too, so it is a tuple of lists of pairs both in Rust and in Python.
     STORED = dict(zip(('text', 'read', 'attr'), ast.literal_eval(file.read())))

@@ -1,5 +1,5 @@
 //! Tests that the translated programs print the stored output of the proved program, and that `rl_tool` prints the results of
-//! `oracle/stored.rs`, which are those of `syn` and of an independent model.
+//! `stored/texts.rs`, which are those of `syn` and of an independent model.
 
 mod stored;
 
@@ -49,7 +49,7 @@ fn ending(result: &str) -> (Option<i32>, String, String) {
 
 #[test]
 fn single_texts() {
-    let (texts, lists, settings) = include!("../../../oracle/stored.rs");
+    let (texts, lists, settings) = include!("stored/texts.rs");
     for (command, pairs) in [
         ("text", &texts[..]),
         ("read", &lists[..]),

@@ -1,5 +1,5 @@
-//! Compares the package with other files of the repository: the messages of flaws, and the single texts of `oracle/stored.rs`, each
-//! with the kind, the value and the suffix as `rl_tool text` prints them.
+//! Compares the package with other files of the repository: the messages of flaws, and the single texts of
+//! `rust/programs/tests/stored/texts.rs`, each with the kind, the value and the suffix as `rl_tool text` prints them.
 
 use navyspindle::{write_byte_str, write_c_str, write_str, Lit, ParseErrorKind};
 use std::collections::HashSet;
@@ -53,7 +53,7 @@ fn line_of(text: &str) -> String {
 
 #[test]
 fn stored_lines() {
-    let (texts, _, _) = include!("../../../../oracle/stored.rs");
+    let (texts, _, _) = include!("../../tests/stored/texts.rs");
     let wrong: Vec<_> = texts
         .iter()
         .filter(|(text, line)| line_of(text) != *line)
