@@ -29,7 +29,7 @@ none_listed (a ∷ others) (b, i, c) = absurd (no_attribute a b i)
 one_mark : (ch : ℕ) (trees a b : List Tree) → IsAfterMark ch trees a → IsAfterMark ch trees b → a ≡ b
 one_mark ch trees a b h k = let e = h.trees_are in let f = k.trees_are in cc
 
--- If token trees begin with the punctuation character `ch`, the test `begins_mark` for it is `true`.
+-- If token trees begin with the punctuation character `ch`, the test `begins_mark` for `ch` is `true`.
 mark_begins : (ch : ℕ) (trees rest : List Tree) → IsAfterMark ch trees rest → begins_mark ch trees ≡ true
 mark_begins ch trees rest h = rw (h.trees_are, h.is) (search arith)
 
@@ -72,8 +72,8 @@ next_shorter trees a rest h =
 
 -- ---- lemmas about consumed attributes and the remaining token trees
 
--- The attributes `done` were consumed from the start of the token trees `trees`, each with its comma or the end after
--- it, and the token trees `rest` remain.
+-- The attributes `done` were consumed from the start of the token trees `trees`, and the token trees `rest` remain.
+-- After each consumed attribute, a comma was consumed or the token trees ended.
 pub record AreTaken (trees : List Tree) (done : List Attribute) (rest : List Tree) : Type 0 where
   pub stand : rest ≢ [] → AreAttributesBefore trees done rest
   pub on : (more : List Attribute) → AreListed rest more → AreListed trees (done ++ more)
@@ -95,8 +95,8 @@ stand_more trees [] rest a following next h i m = (
 stand_more trees (x ∷ xs) rest a following next (b, n, j, k, h) i m =
     (b, n, j, k, stand_more n xs rest a following next h i m)
 
--- If token trees are an attribute, followed by a comma or the end, and then a list of attributes, all of the token
--- trees are a list of attributes.
+-- Suppose that token trees begin with an attribute and a comma, or are only an attribute. If the token trees after
+-- these are a list of attributes, all of the token trees are a list of attributes.
 pub listed_more : (rest : List Tree) (a : Attribute) (next : List Tree) (more : List Attribute) → IsNext rest a next
     → AreListed next more → AreListed rest (a ∷ more)
 listed_more rest a next more n h =
@@ -285,8 +285,8 @@ refused_next trees done rest scope e t d some r = record {
       never_refused done on.more rest scope e some (subst NamesDiffer on.list_is are.differ) on.listed r;
 }
 
--- If two tests of names give the same results, a name at the start of token trees is new for both or for neither. So
--- both tests give the next attribute equal errors (`same_seen`).
+-- If two tests of names give equal results, a name that is new for one test is new for the other. So both tests give
+-- the next attribute equal errors (`same_seen`).
 same_new : (s t : List ℕ → Bool) (trees : List Tree) (name : SpannedText) (following : List Tree)
     → ((n : List ℕ) → s n ≡ t n) → HasNewName s trees name following → HasNewName t trees name following
 same_new s t trees name following e h = record { named = h.named; anew = sym (e name.text) ∙ h.anew }

@@ -183,7 +183,7 @@ value_refused seen trees at_equals at_literal after scope was name e begun equal
       }))));
     })
 
--- ---- lemmas about the span of an allocation failure, which is that of the first token tree
+-- ---- lemmas about the span of an allocation failure: it is the span of the first token tree
 
 -- An error that names a missing part isn't an allocation failure.
 no_word : (A : Type 0) (trees : List Tree) (word : List ℕ) → MissesWord {A = A} trees word Memory → ⊥
@@ -296,8 +296,8 @@ apart entries name i k d e differ order within one other =
     let both = rw (first, second) at differs in
     absurd (cc)
 
--- The names of the attributes differ. If the attribute at an index has a name, each attribute with that name has the
--- value of the attribute at the index.
+-- Suppose that the names of the attributes differ, and that the attribute at an index has the name `name`. Then each
+-- attribute with this name has the value of the attribute at the index.
 pub value_lent : {A : Type 0} (entries : List (Entry A)) (name : List ℕ) (i : ℕ) (entry : Entry A)
     → EntriesDiffer entries → i < length entries → entry ≡ get_or entries i entry → HasName name entry
     → (k : ℕ) (d : Entry A) → k < length entries → HasName name (get_or entries k d) → entry.value
@@ -336,8 +336,8 @@ parted_at xs i x below is =
     sym (take-append-drop i xs) ∙ ap (λ z. take i xs ++ z) (drop_more xs i x below
     ∙ ap (λ z. z ∷ drop (i + 1) xs) (sym is))
 
--- If some attribute has a name, all attributes with that name have the value `value`, and `value` has the property `P`,
--- then some attribute with that name has a value with the property `P`.
+-- Suppose that some attribute has the name `name`, and that all attributes with this name have the value `value`. If
+-- `value` has the property `P`, some attribute with this name has a value with the property `P`.
 pub value_rejected : {A : Type 0} (entries : List (Entry A)) (name : List ℕ) (value : Lit A) (P : Lit A → Type 0)
     → Any (HasName name) entries → All (λ e. HasName name e → value ≡ e.value) entries → P value
     → Any (λ e. HasName name e × P e.value) entries

@@ -27,8 +27,8 @@ use Rattle.rl_attributes.specs.NextEntries.{borrowed_token, attribute_at, IsEntr
 use Rattle.rl_attributes.proofs.AttributeLemmas.{listed_more, differ_more, differ_none, named_more}
 use Rattle.rl_attributes.proofs.FlatSettings.{TakesAttribute, takes_attribute}
 
--- The text before the remaining text `rest` is the attributes `list`, whatever attributes follow. If no text remains,
--- no attributes follow.
+-- The text before `rest` consists of the attributes `list`. If the attributes `more` follow, all attributes together
+-- are `list` and `more`. If `rest` is empty, nothing follows.
 pub record AreFlat (text : List ℕ) (file : ℕ) (list : List Attribute) (rest : List ℕ) : Type 0 where
   pub trees : List Tree
   pub cuts : LexesTreesUpTo (chars text) file trees (chars rest)

@@ -30,7 +30,7 @@ use Rattle.rl_attributes.specs.NextEntries.{borrowed_token, signed_token, value_
 
 -- ---- lemmas about consumed tokens as token trees
 
--- The tokens between the cursors `old` and `new` are the token trees `trees`, without groups.
+-- The tokens between the cursors `old` and `new` are the token trees `trees`. The token trees contain no groups.
 pub record TakesTrees (file : ℕ) (old : CursorState) (trees : List Tree) (new : CursorState) : Type 0 where
   pub cuts : (done : List Tree) → LexesTreesUpTo (chars old.text) file done (chars old.rest)
       → LexesTreesUpTo (chars old.text) file (done ++ trees) (chars new.rest)
@@ -121,7 +121,7 @@ minus_short (DecimalLexeme d more fr ex x) e = absurd (cc)
 minus_short (IdentifierLexeme c more) e = absurd (cc)
 minus_short (DelimiterLexeme c) e = absurd (cc)
 
--- The byte range of a number that follows a minus begins and ends after that of the minus.
+-- The byte range of a number that follows a minus begins and ends no earlier than the byte range of the minus.
 number_behind : (old between new : CursorState) (m l : Lent) → TakesNext old m between → TakesNext between l new
     → form_view m.form ≡ MarkForm 45 → (m.lo ≤ l.lo) × (m.hi ≤ l.hi)
 number_behind old between new m l t u is =
@@ -204,7 +204,7 @@ takes_value file old new value (inr n) = signed file old new value n
 -- ---- lemmas about a whole setting
 
 -- The tokens between the cursors `old` and `new` are the attribute `a` and its comma, whatever token trees follow. At
--- the end of the text none follow.
+-- the end of the text the comma may be missing.
 pub record TakesAttribute (file : ℕ) (old : CursorState) (a : Attribute) (new : CursorState) : Type 0 where
   pub trees : List Tree
   pub takes : TakesTrees file old trees new

@@ -242,7 +242,7 @@ check_accepts settings es err j rd kn bare =
 
 -- ---- lemmas about the value of one name
 
--- If a setting has the value `found`, the text sets the setting's name to that value, or `found` is `None` and no
+-- If a setting has the value `found`, the text sets the setting's name to that value. If `found` is `None`, no
 -- attribute has the name.
 pub set_in_text : {A V : Type 0} (p : Setting) (es : List (Entry A)) (Holds : Lit A → V → Type 0) (found : Option V)
     (Is : V → Attribute → Type 0) → AreReadValues es
@@ -384,7 +384,7 @@ no_integer : (t : List ℕ) → ∥ ReadsAs FloatKind t ∥₁ → HasNoInteger 
 no_integer t h = λ sign magnitude suffix r.
     ∥∥₁_elim h (λ p q. absurd p) (λ is. is.2.no_integer sign magnitude suffix r)
 
--- If a text is a float and not an integer, the text's value as a literal is its digits.
+-- If a text is a float and not an integer, the digits of the float are the value of the literal.
 float_contents : (t ds : List ℕ) → HasNoInteger t → HasDigits FloatKind t (chars ds)
     → HasContents FloatKind t (Digits (chars ds))
 float_contents t ds none h =

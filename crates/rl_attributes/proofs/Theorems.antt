@@ -1,7 +1,8 @@
 -- The theorems of src/laws.rt, as lemmas that callers may cite, and further lemmas for callers. If a property holds for
--- all entries, or for one, it holds for their attributes. The value of a setting with a default follows from the value
--- that the attributes set, or from the absence of such a value, and the reverse. If a property holds for an optional
--- result, it holds in each of the two cases.
+-- all entries, or for one entry, it holds for the attributes of these entries. `set_or_of_set` and `set_or_of_unset`
+-- prove the value of a setting with a default. `set_of_set_or` and `default_of_set_or` prove from this value which
+-- value the attributes set, or that the value is the default. If a property holds for an optional result, it holds in
+-- each of the two cases.
 pub use Rattle.rl_attributes.proofs.TextLemmas.{set_or_of_set, set_or_of_unset, set_of_set_or, default_of_set_or, rejected_named, in_some, in_none}
 use Rattle.std.proofs.Common.{◌↔◌, List, All, Any}
 use Rattle.rl_attributes.specs.declared.attributes.Entry.{Entry}

@@ -31,12 +31,12 @@ pub record LacksMemoryInStep {A : Type 0} (trees : List Tree) (e : Error A) : Ty
   pub begun : IsTrue (begins_ident trees)
   pub memory : e.kind ≡ Memory
 
--- The error `e` of parsing the next attribute of a list: an allocation failure, or a missing part or repeated name at
--- the start of `trees`. `seen` tells which names occurred before.
+-- The error `e` is an error of parsing the next attribute of a list: an allocation failure, or the error for a missing
+-- part or a repeated name at the start of `trees`. `seen` tells which names occurred before.
 abbrev pub RejectsStep : {A : Type 0} → (List ℕ → Bool) → List Tree → Span → Error A → Type 0
 RejectsStep seen trees scope e = LacksMemoryInStep trees e ⊎ RejectsNextAttribute seen trees scope e
 
--- An error of the kind and span given. If the kind is an allocation failure, its span is replaced by `place`.
+-- An error of the given kind with the span `span`. If the kind is an allocation failure, the span is `place` instead.
 abbrev pub kind_reported_at : {A : Type 0} → ErrorKind A → Span → Span → Error A
 kind_reported_at Memory span place = memory_at place
 kind_reported_at kind span place = record { span = span; kind = kind }

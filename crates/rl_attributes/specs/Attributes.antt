@@ -14,7 +14,7 @@ use Rattle.rl_fronts.specs.Fronts.{IsFront, HasNoFront}
 use Rattle.rl_tokens.specs.Lexing.{Lexes}
 use Rattle.rl_tokens.specs.Whole.{place_at, RejectsLexing}
 
--- An attribute as plain data: its name, and the literal that the name is set to, each with its span.
+-- The parts of an attribute: its name, and the literal that the name is set to, each with its span.
 pub record Attribute : Type 0 where
   pub name : SpannedText
   pub literal : SpannedText
@@ -120,7 +120,7 @@ pub record MissesComma {A : Type 0} (seen : List ℕ → Bool) (trees : List Tre
   pub rejection : IsRejection following scope (codes "`,`") e
 
 -- The error `e` is the error for token trees that don't begin with an attribute with a new name, followed by a comma or
--- the end. It is the error for the first part that is missing.
+-- the end. The error names the first missing part, or is `Repeated` at a repeated name.
 pub record RejectsNextAttribute {A : Type 0} (seen : List ℕ → Bool) (trees : List Tree)
     (scope : Span) (e : Error A) : Type 0 where
   pub why : MissesName trees scope e ⊎ RepeatsName seen trees e ⊎ MissesEquals seen trees scope e

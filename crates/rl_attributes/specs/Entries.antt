@@ -7,7 +7,8 @@ use Rattle.rust_literals.specs.Literals.{kind_of, token_of}
 use Rattle.rl_attributes.specs.declared.attributes.Entry.{Entry}
 use Rattle.rl_attributes.specs.Attributes.{Attribute, NamesDiffer}
 
--- An attribute whose value is a parsed literal, as plain data of an attribute.
+-- Converts an attribute whose value is a parsed literal to an `Attribute`, which contains the texts and spans of the
+-- name and the literal.
 abbrev pub attribute_of : {A : Type 0} → Entry A → Attribute
 attribute_of entry =
     record {

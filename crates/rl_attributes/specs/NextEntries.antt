@@ -23,7 +23,7 @@ signed_token file (Some lo) l =
 abbrev pub value_token : ℕ → NextLiteral → SpannedText
 value_token file l = signed_token file l.minus_at l.token
 
--- The attribute that is built from a setting of a text, as plain data.
+-- The `Attribute` that is built from a setting of a text. It contains the texts and spans of the name and the literal.
 abbrev pub attribute_at : ℕ → NextSetting → Attribute
 attribute_at file s = record { name = borrowed_token file s.name; literal = value_token file s.value }
 

@@ -16,7 +16,7 @@ use Rattle.rl_attributes.specs.Attributes.{Attribute}
 use Rattle.rl_attributes.specs.Entries.{attributes_of}
 use Rattle.rl_attributes.specs.Settings.{RejectsSetValue}
 
--- The attributes of a list as plain data.
+-- The attributes of a list, each converted to an `Attribute`.
 abbrev pub list_of : {A : Type 0} → Attrs A → List Attribute
 list_of attrs = attributes_of (entries_of attrs)
 
@@ -54,7 +54,7 @@ HaveBareTexts list = All (λ a. HasBareText a.literal) list
 abbrev pub IsUnset : List ℕ → List Attribute → Type 0
 IsUnset name list = All (λ a. IsNamed name a → ⊥) list
 
--- An attribute has the name `name`, and the property `Is` holds for each attribute that has it.
+-- An attribute has the name `name`, and the property `Is` holds for each attribute with this name.
 pub record IsSetWith (name : List ℕ) (Is : Attribute → Type 0) (list : List Attribute) : Type 0 where
   pub named : Any (IsNamed name) list
   pub every : All (λ a. IsNamed name a → Is a) list

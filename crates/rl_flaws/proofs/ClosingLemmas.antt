@@ -10,7 +10,7 @@ no_empty test t e h = both_ways (first_passes test t) (ap (first_passes test) e)
 no_first : (test : ℕ → Bool) (t cs : List ℕ) (c : ℕ) → t ≡ c ∷ cs → test c ≡ false → first_passes test t ≡ true → ⊥
 no_first test t cs c e n h = both_ways (first_passes test t) (ap (first_passes test) e ∙ n) h
 
--- If the text doesn't begin with its closing quote, the text before this quote begins with a plain character or an escape.
+-- If the text doesn't begin with a quote, the text before its closing quote begins with a plain character or an escape.
 first_part : (c : ℕ) (t closing : List ℕ) → (c == 39) ≡ false → (r : ReachesQuote (c ∷ t) closing)
     → (p : BodyPart) × (parts : List BodyPart) × (r.parts ≡ p ∷ parts)
 first_part c t closing other r = go r.parts refl
@@ -186,8 +186,8 @@ search_passes how c t closing quote escape on = go (c == 47) (c == 10) (begins_c
     go false true false x y z h = absurd (both_ways true h refl)
     go false false d x y z h = passes x (λ e. absurd (both_ways (c == 10) y (ap (λ w. w == 10) e)))
 
--- The search has skipped the first characters of the text, and the closing quote of the rest is that of the whole text. If the
--- search skips one more character or escape, this still holds.
+-- The search for the closing quote skips one character or escape after the other. After each step, the closing quote of the
+-- remaining text is the closing quote of the whole text.
 pub passes_on : (t s f r closing : List ℕ) (c : ℕ) → ReachesQuote t closing ↔ ReachesQuote s closing → s ≡ c ∷ f
     → ReachesQuote (c ∷ f) closing ↔ ReachesQuote r closing → ReachesQuote t closing ↔ ReachesQuote r closing
 passes_on t s f r closing c before e part = (

@@ -14,7 +14,8 @@ use Rattle.rl_syntax.specs.declared.integer_type.IntegerType.TheVariants.{U8, U1
 use Rattle.rl_flaws.specs.declared.number_types.NumberType.{NumberType}
 use Rattle.rl_flaws.specs.declared.number_types.NumberType.TheVariants.{Integer, F32, F64}
 
--- The names of number types are mapped to different numbers. So a suffix is the name of at most one number type.
+-- A number that is computed from the bytes of a suffix. The names of number types have different numbers, so a suffix is the
+-- name of at most one number type.
 number_of : List ℕ → ℕ
 number_of [] = 0
 number_of (b ∷ bs) = b + 256 * number_of bs
@@ -185,7 +186,7 @@ quoted_alone BasedFloat k text m n s q h = absurd (no_quoted k q (inr (inl h.0))
 quoted_alone OutOfRange k text m n s q (inl h) = absurd (no_quoted k q (inr (inl h.0)))
 quoted_alone OutOfRange k text m n s q (inr h) = absurd (no_quoted k q (inr (inr h.0)))
 
--- If a suffix has the error that it isn't the name of a number type, the literal has no other type error.
+-- If a literal has the type error `UnknownSuffix`, it has no other type error.
 unknown_alone : (error : TypeError) (k : Kind) (text : List ℕ) (m : ℕ) (n : Bool) (s : List ℕ)
     → HasTypeError UnknownSuffix k text m n s → HasTypeError error k text m n s → UnknownSuffix ≡ error
 unknown_alone QuotedSuffix k text m n s h q = sym (quoted_alone UnknownSuffix k text m n s q.0 h)
@@ -198,7 +199,7 @@ unknown_alone OutOfRange k text m n s (number, some, unknown) (inl (i, no_base, 
 unknown_alone OutOfRange k text m n s (number, some, unknown) (inr (f, (t, typed, out))) =
     absurd (not_named s t unknown some typed)
 
--- If a float has the error that its suffix is an integer type, the literal has no other type error.
+-- If a literal has the type error `FloatSuffix`, it has no other type error.
 integers_alone : (error : TypeError) (k : Kind) (text : List ℕ) (m : ℕ) (n : Bool) (s : List ℕ)
     → HasTypeError FloatSuffix k text m n s → HasTypeError error k text m n s → FloatSuffix ≡ error
 integers_alone QuotedSuffix k text m n s h q = sym (quoted_alone FloatSuffix k text m n s q.0 h)

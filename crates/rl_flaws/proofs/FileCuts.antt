@@ -11,7 +11,7 @@ first_bytes c cs = length-append (encode_utf8 c) (encode_utf8_all cs)
 some_bytes : (c : ℕ) (cs : List ℕ) → 0 < byte_len (c ∷ cs)
 some_bytes c cs = omega (arith, first_bytes c cs, length-encode c, len_utf8_bounds c)
 
--- The number of bytes of a text is the number of bytes of its first character, plus the number of bytes of the text after it.
+-- A text has as many bytes as its first character and the text after this character together.
 pub after_first_bytes : (t : List ℕ) → byte_len t ≡ first_len t + byte_len (drop 1 t)
 after_first_bytes [] = refl
 after_first_bytes (c ∷ cs) = first_bytes c cs
@@ -20,7 +20,7 @@ pub first_parts : (t : List ℕ) → (front : List ℕ) × (t ≡ front ++ drop 
 first_parts [] = ([], refl)
 first_parts (c ∷ cs) = (c ∷ [], refl)
 
--- Two ends of one text with equal numbers of bytes are equal.
+-- If one text is divided in two ways, and the first parts have equally many bytes, the second parts are equal.
 pub cut_once : (f g p q : List ℕ) → f ++ p ≡ g ++ q → byte_len f ≡ byte_len g → p ≡ q
 cut_once f g p q e same = go (meets f g p q e)
   where
@@ -106,7 +106,7 @@ one_place File len t r s a b e p q =
       at_is = omega (arith, ap byte_len p.rest_in.text_is, byte_len-append p.rest_in.front p.rest);
     }
 
--- ---- the offset of a character is below the offset after it
+-- ---- the offset of a character is at most the offset after the character
 
 pub in_order : (t stop : List ℕ) (len lo hi : ℕ) → ReadsFrom File len t stop lo → ReadsFrom File len t (drop 1 stop) hi
     → lo ≤ hi

@@ -154,7 +154,7 @@ stays_open how o rest piece false true (Closed k r) f = tt
 stays_open how o rest piece false true Nothing f = tt
 stays_open how o rest piece false false left f = subst (StaysOpen o) (sym f) tt
 
--- After a flaw, the unchecked text is shorter.
+-- With each flaw, the number `left_count` decreases, so the cursor comes nearer to its end.
 pub inside_less : (how : LineEnds) (o : Opened) (rest : Bor (List ℕ)) (len : ℕ) (piece : List ℕ) (s u d : Bool) (left :
     Left) → length piece ≤ length rest.now → (u ≡ true → chars piece ≢ []) → IsLeftAfter (s && u) d how o rest.now piece
     left → left_count (state_of how len left) < left_count (state_of how len (Inside o rest))

@@ -115,7 +115,7 @@ length_zeros (suc n) = ap suc (length_zeros n)
 padded : (ds : List ℕ) (n : ℕ) → length (ds ++ zeros n) ≡ length ds + n
 padded ds n = length-append ds (zeros n) ∙ ap (λ k. length ds + k) (length_zeros n)
 
--- If digits and zeros are appended to a number, the result is at least the number with as many zeros appended.
+-- A number with digits and zeros appended is at least the number with as many zeros appended: 5370 is at least 5000.
 past_zeros : (x : ℕ) (ds : List ℕ) (up down : ℕ) → length ds + up ≡ down → onto x (zeros down) ≤ onto x (ds ++ zeros up)
 past_zeros x ds up down e =
     subst (λ n. onto x (zeros n) ≤ onto x (ds ++ zeros up)) (padded ds up ∙ e)
@@ -134,7 +134,7 @@ all_padded : (ds : List ℕ) (n : ℕ) → list_all is_ascii_digit ds ≡ true �
 all_padded ds n h = list_all-append is_ascii_digit ds (zeros n) ∙ and_from (list_all is_ascii_digit ds)
     (list_all is_ascii_digit (zeros n)) h (all_zeros n)
 
--- If two lists of digits begin with one digit, the comparison of their numbers continues with the next digits.
+-- If two lists of digits begin with equal digits, the comparison of their numbers continues with the second digits.
 same_front : (r : Bool) (x d : ℕ) (ours least : List ℕ) → Ordered r (x * 10 + digit_value d) ours least
     → Ordered r x (d ∷ ours) (d ∷ least)
 unfolding onto
@@ -189,7 +189,7 @@ ordered x (d ∷ ds) (b ∷ bs) up down hd hb e =
 
 -- ---- the order of decimal numbers
 
--- The list consists of decimal digits, and it has a first digit, which isn't zero.
+-- The list consists of decimal digits. It isn't empty, and its first digit isn't zero.
 abbrev pub IsFirst : List ℕ → Type 0
 IsFirst [] = ⊥
 IsFirst (d ∷ ds) = (list_all is_ascii_digit (d ∷ ds) ≡ true) × ((d == 48) ≡ false)
@@ -197,7 +197,8 @@ IsFirst (d ∷ ds) = (list_all is_ascii_digit (d ∷ ds) ≡ true) × ((d == 48)
 first_value : (d : ℕ) → is_ascii_digit d ≡ true → (d == 48) ≡ false → 0 < digit_value d
 first_value d h n = let e = (digit_code d h).0 in grind (arith, nat_tests)
 
--- A longer sequence of digits represents a greater number, if its first digit isn't zero.
+-- If one number has more digits than another one, it is greater: 100 is greater than 99. The zeros of a factor 10^n count as
+-- digits. The first digit of the greater number isn't zero.
 pub more_digits : (ds bs : List ℕ) (up down : ℕ) → IsFirst ds → list_all is_ascii_digit bs ≡ true
     → length bs + down < length ds + up → place_value 10 bs * 10 ^ down < place_value 10 ds * 10 ^ up
 unfolding onto
@@ -236,7 +237,7 @@ place_more (d ∷ ds) c =
     let long : length (ds ++ (c ∷ [])) ≡ suc (length ds) = length-append ds (c ∷ []) ∙ omega arith in
     rw (long, place_more ds c, pow-suc 10 (length ds)) (omega arith)
 
--- The number `capped` is the value of an exponent, or both are at least 2^100.
+-- The number `capped`, which the code computes for an exponent, is the exponent's value, or both numbers are at least 2^100.
 abbrev pub IsCapped : ℕ → ℕ → Type 0
 IsCapped capped value = (capped ≡ value) ⊎ ((2 ^ 100 ≤ capped) × (2 ^ 100 ≤ value))
 
@@ -352,8 +353,8 @@ exactly false count places bound power value (inr q) c p b = (
   (λ h. absurd (omega (arith, q.0, p, b, h)), λ h. absurd (omega (arith, q.0, p, b, h))),
 )
 
--- The numbers that the code computes for a numeral are those of the definitions: the number of its digits without leading
--- zeros, the number of digits after its dot, and its exponent.
+-- The numbers that the code computes for a numeral `n`: `count`, the number of its digits without leading zeros, `places`,
+-- the number of digits after its dot, and `power`, which is its exponent, or at least 2^100.
 pub record IsMeasured (n bs : List ℕ) (count places power : ℕ) : Type 0 where
   pub bound : IsBound bs
   pub short : length bs ≤ 309

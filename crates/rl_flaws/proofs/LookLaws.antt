@@ -10,8 +10,8 @@ told_kind : FoundOpener → Option Kind
 told_kind None = None
 told_kind (Some p) = Some p.1
 
--- The text begins as a literal of the kind `k`. It begins with an opening delimiter of this kind, or without one, as a number,
--- `true` or `false`.
+-- In the first case, the text begins with the opening delimiter of a literal of the kind `k`. In the second case, the text
+-- begins without an opening delimiter: it begins as a number of the kind `k`, or is `true` or `false`.
 Told : List ℕ → Kind → Type 0
 Told t k = (told_kind (opener_at t) ≡ Some k) ⊎ ((told_kind (opener_at t) ≡ None) × (OpensNumber k t ⊎ SpellsTruth k t))
 
@@ -30,8 +30,8 @@ told t k (inr (inl s)) = let p = single_told t k s in inl (ap told_kind p.1)
 told t k (inr (inr (inl n))) = inr (ap told_kind (number_closed t k n), inl n)
 told t k (inr (inr (inr (e, (b, is))))) = inr (ap told_kind (ap opener_at is ∙ word_has_none b), inr (e, (b, is)))
 
--- If a text begins as a number, perhaps with a minus, it begins with a digit after the minus, and the text after the minus
--- identifies the kind.
+-- A text that begins as a number has a digit at its start, or after a minus. The text from this digit on identifies the kind
+-- of number.
 number_digits : (t : List ℕ) (k : Kind) → OpensNumber k t → (k ≡ number_kind (after_minus t))
     × (first_passes is_ascii_digit (after_minus t) ≡ true)
 number_digits t k (d, e, digit, is) =

@@ -6,7 +6,7 @@ use Rattle.rl_flaws.proofs.Names.{◌≡◌, ◌≢◌, ◌⊎◌, ◌==◌, ◌
 abbrev pub Read : Type 0
 Read = ℕ × List ℕ
 
--- If a number begins with a base prefix, the letter of the prefix is that of a base other than ten.
+-- The letter of a base prefix (`b`, `o` or `x`) identifies a base other than ten.
 based_letter : (c : ℕ) (cs : List ℕ) → begins_base (48 ∷ c ∷ cs) ≡ true → radix_of c ≡ 10 → ⊥
 based_letter c cs h e =
     elim (cases_Bool (c == 98)) [
@@ -58,8 +58,8 @@ based (z ∷ c ∷ cs) h e = go (z == 48) refl
         let radix : (radix_at (48 ∷ c ∷ cs)).0 ≡ 10 = subst (λ d. (radix_at (d ∷ c ∷ cs)).0 ≡ 10) is e in
         based_letter c cs first (named (radix_of c == 10) refl radix)
 
--- The kind of a number. The first flag is true if the number has a base prefix, and the second flag if a dot or the letter of
--- an exponent follows its digits.
+-- The kind of a number. The first flag is true if the number has a base prefix. The second flag is true if a dot or the
+-- letter of an exponent follows the number's digits.
 abbrev pub by_row : Bool → Bool → Kind
 by_row base mark = cond base Int (cond mark Float Int)
 

@@ -1,4 +1,4 @@
--- Names that several lemmas cite, with those of `Common` of `rl_syntax`.
+-- Names that the proofs of this crate cite, and the names of `Common` of `rl_syntax`.
 unfoldable pub use Rattle.rl_flaws.specs.BadPieces.{after_code_digits}
 pub use Rattle.rl_flaws.specs.BadPieces.{after_bad_piece, after_brace, after_escape, after_hex, after_one, after_unicode, is_flaw_after_quote, is_flaw_of_unit}
 pub use Rattle.rl_flaws.specs.Closings.{ClosesBy, IsClosedBy, ReachesQuote, begins_two_quotes}

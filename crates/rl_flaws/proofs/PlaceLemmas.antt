@@ -1,14 +1,15 @@
 -- The byte offsets of invalid pieces.
 use Rattle.rl_flaws.proofs.Names.{◌≡◌, ◌+◌, ℕ, Bool, true, false, List, length, sym, ap, subst, ◌∙◌, arith, encodes-chars, IsUtf8, chars, IsRestOf, read_of, LineEnds, step_in, EndsWhere, ReadsFrom}
 
--- If a byte offset and the number of bytes of an end of a text are together the text's length, the end begins at this offset.
+-- If a byte offset and the number of bytes in an end of a text add up to the text's length, this end of the text begins at
+-- the offset.
 pub place_at : (how : LineEnds) (len : ℕ) (text rest read : List ℕ) (at : ℕ) → IsUtf8 rest → IsRestOf how text (chars
     rest) → read_of how (chars rest) ≡ read → at + length rest ≡ len → ReadsFrom how len text read at
 place_at how len text rest read at u r e is =
     record { rest = chars rest; rest_in = r; reads = e; at_is = omega (arith, is, ap length (encodes-chars rest u)) }
 
--- The text `b` is an end of the text `a`. If `read` is the end of `b` from a byte offset on, `read` is also the end of `a`
--- from this offset on.
+-- The text `b` is an end of the text `a`. Reading `b` from a byte offset on and reading `a` from this offset on give equal
+-- results.
 pub place_in : (how : LineEnds) (len : ℕ) (a b read : List ℕ) (at : ℕ) → IsRestOf how a b → ReadsFrom how len b read at
     → ReadsFrom how len a read at
 place_in how len a b read at r p =

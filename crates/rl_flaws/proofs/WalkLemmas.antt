@@ -92,7 +92,7 @@ pub single_told : (t : List ℕ) (k : Kind) → OpensSingle k t → (inside : Li
     ≡ found_opener SingleForm k inside)
 single_told t k (s, (inside, text)) = (inside, ap opener_at text ∙ front_complete SingleForm k inside s)
 
--- The number of the form that an opening delimiter has. Different forms have different numbers.
+-- A number for each form of a quoted literal. Different forms have different numbers.
 tag : QuotedForm → ℕ
 tag CookedForm = 1
 tag RawForm = 2
@@ -150,7 +150,7 @@ no_unit_suffix form suffix f h u =
     let j = judged_by form suffix (Some (found_flaw f.kind (chars f.rest.now))) h in
     both_ways (is_flaw_of_unit f.kind) (suffix_no_unit form f.kind j.1.stops.front (chars f.rest.now) j.1.spoils) u
 
--- ---- a flaw's piece and its rest are ends of the text
+-- ---- a flaw's piece, and the text from the flaw on, are ends of the text
 
 pub part : (t a b : List ℕ) → IsUtf8 b → t ≡ a ++ chars b → byte_len t ≡ byte_len a + length b
 part t a b u e = ap byte_len e ∙ ap length (encodes-append a (chars b)) ∙ length-append (encode_utf8_all a)

@@ -113,8 +113,8 @@ front_free SingleForm k h has = opener_free k
 front_free RawForm k h (s, (n, few, e)) = both_free (raw_opener k) (h ++ (34 ∷ [])) (raw_free k)
     (both_free h (34 ∷ []) (ap lacks_cr e ∙ hashes_free n) refl)
 
--- If CR LF is read as LF after an opening delimiter, the delimiter and the result are together the whole text with CR LF read
--- as LF.
+-- An opening delimiter contains no CR. So it makes no difference whether CR LF is read as LF in the whole text, or only in
+-- the text after the opening delimiter.
 pub opened_read : (how : LineEnds) (o : Opened) (t rest : List ℕ) → IsOpened o → t ≡ opened_front o ++ rest
     → opened_front o ++ read_of how rest ≡ read_of how t
 opened_read how o t rest opens e = sym (ap (read_of how) e

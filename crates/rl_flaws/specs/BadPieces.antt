@@ -9,40 +9,41 @@ use Rattle.rl_syntax.specs.Quoted.{is_hex_digit}
 use Rattle.rl_strict.specs.declared.flaws.FlawKind.{FlawKind}
 use Rattle.rl_strict.specs.declared.flaws.FlawKind.TheVariants.{UnknownEscape, NoUnicode, NoHexDigit, NoBrace, EmptyBraces, TooManyDigits, HexEscapeOutOfRange, UnicodeEscapeOutOfRange, Surrogate, Nul, NotAscii, MustEscape, CarriageReturn, TextAfterQuote, ExtraHash, UnderscoreSuffix, BadSuffix}
 
--- Skips the first character of a text, unless it is a backslash or the literal's closing quote.
+-- Returns the text without its first character. A backslash or the literal's closing quote isn't skipped.
 abbrev pub after_one : ℕ → List ℕ → List ℕ
 after_one quote [] = []
 after_one quote (c ∷ cs) = if c == code "\\" || c == quote then (c ∷ cs) else cs
 
--- Skips the digits of an escape after `\x`. If one of the two characters isn't a digit, it ends the escape.
+-- Returns the text after an invalid `\x` escape. The given text begins after `\x`. The escape ends after its second
+-- character, or after its first character if that isn't a hexadecimal digit.
 abbrev pub after_hex : ℕ → List ℕ → List ℕ
 after_hex quote [] = []
 after_hex quote (c ∷ cs) = if is_hex_digit c then after_one quote cs else after_one quote (c ∷ cs)
 
--- Skips the digits and underscores between the braces of `\u{..}`, and then one character, usually the closing brace. This
--- character isn't skipped if it is a backslash or the literal's closing quote.
+-- Returns the text after an invalid `\u{..}` escape. The given text begins after the first digit. The further digits and
+-- underscores are skipped, and then one character that is neither a backslash nor the literal's closing quote.
 unfoldable pub after_code_digits : ℕ → List ℕ → List ℕ
 after_code_digits quote [] = []
 after_code_digits quote (c ∷ cs) =
     if is_hex_digit c || is_underscore c then after_code_digits quote cs else after_one quote (c ∷ cs)
 
--- Skips the digits and the closing brace of a `\u{..}` escape. The given text begins after the opening brace.
+-- Returns the text after an invalid `\u{..}` escape. The given text begins after the opening brace.
 abbrev pub after_brace : ℕ → List ℕ → List ℕ
 after_brace quote [] = []
 after_brace quote (c ∷ cs) = if is_hex_digit c then after_code_digits quote cs else after_one quote (c ∷ cs)
 
--- Skips the rest of an invalid `\u` escape. The given text begins after `\u`.
+-- Returns the text after an invalid `\u` escape. The given text begins after `\u`.
 abbrev pub after_unicode : ℕ → List ℕ → List ℕ
 after_unicode quote [] = []
 after_unicode quote (c ∷ cs) = if c == code "{" then after_brace quote cs else after_one quote (c ∷ cs)
 
--- Skips the rest of an invalid escape. The given text begins after the backslash of the escape.
+-- Returns the text after an invalid escape. The given text begins after the backslash of the escape.
 abbrev pub after_escape : ℕ → List ℕ → List ℕ
 after_escape quote [] = []
 after_escape quote (c ∷ cs) =
     if c == code "x" then after_hex quote cs else (if c == code "u" then after_unicode quote cs else cs)
 
--- Skips the invalid escape or character with which the given text begins.
+-- Returns the text after the invalid escape or character with which the given text begins.
 abbrev pub after_bad_piece : ℕ → List ℕ → List ℕ
 after_bad_piece quote [] = []
 after_bad_piece quote (c ∷ cs) = if c == code "\\" then after_escape quote cs else cs

@@ -1,4 +1,5 @@
--- Rules about the text directly before a literal. Texts are lists of bytes. A reversed text begins at the literal.
+-- Rules about the text directly before a literal. Texts are lists of bytes. Some definitions use a reversed list, which
+-- begins with the byte directly before the literal.
 use Rattle.std.specs.Prelude.{◌==◌, ℕ, nat_le, Bool, true, false, cond, not, ◌||◌, ◌&&◌, List, [], ◌∷◌, length, drop, reverse, Option, Some, None}
 use Rattle.std.specs.Char.{is_ascii_alphanumeric}
 use Rattle.std.specs.Char.{is_ascii_digit}
@@ -17,12 +18,12 @@ has_part Passed b = is_inline b || (b == 10)
 has_part Hash b = b == 35
 has_part Word b = is_ascii_alphanumeric b || (b == 95)
 
--- The bytes of a text without its first bytes that are in the class `part`.
+-- The list without the bytes at its start that are in the class `part`.
 abbrev pub kept : Part → List ℕ → List ℕ
 kept part [] = []
 kept part (b ∷ back) = cond (has_part part b) (kept part back) (b ∷ back)
 
--- The bytes of a text without its last bytes that are in the class `part`.
+-- The list without the bytes at its end that are in the class `part`.
 abbrev pub without : Part → List ℕ → List ℕ
 without part bytes = reverse (kept part (reverse bytes))
 
@@ -31,26 +32,28 @@ abbrev pub comes_first : ℕ → List ℕ → Bool
 comes_first wanted [] = false
 comes_first wanted (b ∷ back) = b == wanted
 
--- The last line of a text, whose bytes are in reverse order here, contains two slashes next to each other.
+-- The last line of a text contains two slashes next to each other, which may begin a comment. The bytes of the text are in
+-- reverse order.
 abbrev pub holds_comment : List ℕ → Bool
 holds_comment [] = false
 holds_comment (b ∷ back) =
     not (b == 10) && (((b == 47) && comes_first 47 back) || holds_comment back)
 
--- The first byte of a reversed text may be the end of a comment. It is a slash, or a byte of non-ASCII white space.
+-- A comment may end at the end of a text. The text's last byte is a slash, or belongs to a non-ASCII character, which may be
+-- white space after a comment. The bytes of the text are in reverse order.
 abbrev pub may_end_comment : List ℕ → Bool
 may_end_comment [] = false
 may_end_comment (b ∷ back) = (b == 47) || nat_le 128 b
 
--- A comment may hide the text before a literal. Directly before the literal are white space and opening parentheses. A comment
--- may end before them, or the line before them contains two slashes.
+-- A comment may hide the text before a literal. White space and opening parentheses may be between the comment and the
+-- literal. Directly before them, either a comment may end, or a line ends that contains two slashes.
 abbrev pub is_hidden : List ℕ → Bool
 is_hidden before =
     may_end_comment (reverse (without Passed before))
     || (comes_first 10 (reverse (without Inline before)) && holds_comment (reverse (without Passed before)))
 
--- The text before a literal without the white space and opening parentheses at its end, or `None` if a comment may hide the
--- text.
+-- The text before a literal, without the white space and opening parentheses at its end. If a comment may hide the text, the
+-- result is `None`.
 abbrev pub seen_before : List ℕ → Option (List ℕ)
 seen_before before = cond (is_hidden before) None (Some (without Passed before))
 
@@ -62,12 +65,13 @@ ends_in_minus (Some front) = comes_first 45 (reverse front)
 abbrev pub may_negate : List ℕ → Bool
 may_negate before = ends_in_minus (seen_before before)
 
--- The bytes begin as an identifier does, and not as a number.
+-- The list isn't empty, and begins with a byte that isn't an ASCII digit.
 abbrev pub begins_name : List ℕ → Bool
 begins_name [] = false
 begins_name (b ∷ bytes) = not (is_ascii_digit b)
 
--- The list begins with a quote, a hash or a non-ASCII byte, so an identifier after it may be part of another token.
+-- The byte before an identifier is a quote, a hash or part of a non-ASCII character. So the identifier may be part of another
+-- token, as in `r#f`. The bytes before the identifier are in reverse order.
 abbrev pub may_go_on : List ℕ → Bool
 may_go_on [] = false
 may_go_on (b ∷ back) = (b == 34) || (b == 39) || (b == 35) || nat_le 128 b
@@ -77,7 +81,7 @@ abbrev pub is_after_word : List ℕ → Bool
 is_after_word bytes =
     begins_name (drop (length (without Word bytes)) bytes) && not (may_go_on (reverse (without Word bytes)))
 
--- The bytes end with hashes that don't close a raw string, since no double quote is before the hashes.
+-- The bytes end with hashes that don't close a raw string, since no double quote directly precedes the hashes.
 abbrev pub is_after_hashes : List ℕ → List ℕ → Bool
 is_after_hashes bytes front = comes_first 35 (reverse bytes) && not (comes_first 34 (reverse front))
 
@@ -93,7 +97,7 @@ year_of E2018 = 2018
 year_of E2021 = 2021
 year_of E2024 = 2024
 
--- If a form is reserved from the edition `from` on, `edition` reserves it.
+-- The edition `edition` is `from` or a later one. A literal is reserved from the edition `from` on.
 abbrev pub is_in_edition : Edition → Option Edition → Bool
 is_in_edition edition None = false
 is_in_edition edition (Some from) = nat_le (year_of from) (year_of edition)

@@ -6,8 +6,8 @@ use Rattle.rl_lexer.specs.BadQuotes.{IsQuoteBody}
 use Rattle.rl_lexer.specs.Lexemes.{BodyPart, body_text}
 use Rattle.rl_lexer.specs.Sources.{is_apostrophe}
 
--- The text before the closing quote is what a source may contain in single quotes: a backslash skips the character after it, no
--- slash occurs, and an LF occurs only directly before the quote.
+-- The closing quote is at the start of `closing`. In the text before it, a backslash escapes the next character. Unescaped,
+-- this text contains neither a quote nor a slash, and an LF only as its last character.
 pub record ReachesQuote (inside closing : List ℕ) : Type 0 where
   pub parts : List BodyPart
   pub is_body : IsQuoteBody parts
@@ -23,7 +23,7 @@ abbrev pub ClosesBy : Bool → List ℕ → List ℕ → Type 0
 ClosesBy true inside closing = inside ≡ codes "'" ++ closing
 ClosesBy false inside closing = ReachesQuote inside closing
 
--- The quote at the beginning of `closing` closes the literal. `inside` is the text after the opening quote. If `inside` begins
--- with two quotes, the second one closes the literal.
+-- The quote at the start of `closing` closes the literal. The text `inside` follows the opening quote. If `inside` begins
+-- with two quotes, the second quote closes the literal.
 abbrev pub IsClosedBy : List ℕ → List ℕ → Type 0
 IsClosedBy inside closing = ClosesBy (begins_two_quotes inside) inside closing

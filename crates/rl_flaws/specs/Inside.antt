@@ -22,8 +22,8 @@ IsUnitUpTo kind text closing =
 abbrev pub MayBeRaw : Kind → List ℕ → Type 0
 MayBeRaw kind body = IsRawInside kind body × HasNoCarriageReturn body
 
--- The valid content of a raw string ends here: at the closing delimiter, before a character that a raw string can't contain,
--- or at the end of the text.
+-- The valid content of a raw string ends directly before a text. This text begins with the closing delimiter or with a
+-- character that a raw string can't contain, or is empty.
 abbrev pub EndsRaw : Kind → List ℕ → List ℕ → Type 0
 EndsRaw kind hashes [] = ⊤
 EndsRaw kind hashes (c ∷ cs) = ((c ≡ code "\"") × IsTrue (begins hashes cs)) ⊎ (MayBeRaw kind (c ∷ []) → ⊥)
@@ -36,7 +36,8 @@ pub record IsRawUpTo (kind : Kind) (hashes text closing : List ℕ) : Type 0 whe
   pub no_closer : (front after : List ℕ) → body ≢ front ++ (code "\"" ∷ (hashes ++ after))
   pub ends : EndsRaw kind hashes closing
 
--- The valid content of a quoted literal of the form: for a string with escapes, all valid characters and escapes.
+-- The valid content of a quoted literal with the given form. For a string with escapes, the valid content is all characters
+-- and escapes up to the first invalid one or the closing quote.
 abbrev pub IsInsideUpTo : QuotedForm → Kind → List ℕ → List ℕ → List ℕ → Type 0
 IsInsideUpTo CookedForm kind hashes text closing = BeginsStrictUnits kind text closing × HasNoStrictUnit kind closing
 IsInsideUpTo RawForm kind hashes text closing = IsRawUpTo kind hashes text closing

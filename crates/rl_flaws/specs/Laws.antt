@@ -24,8 +24,8 @@ TheFirstFlawExplainsTheText = (ends : LineEnds) (text : List ℕ) → FirstFlawE
 abbrev pub ATokenHasNoFlaw : Type 0
 ATokenHasNoFlaw = (ends : LineEnds) (text : List ℕ) → TokensHaveNone ends text
 
--- The unchecked rest of a text has at most one next flaw, with one kind, one range and one piece. `Flaws::next` returns this
--- flaw.
+-- The unchecked part of a text has at most one next flaw, with one kind, one range and one piece of text to show.
+-- `Flaws::next` returns this flaw.
 abbrev pub TheRestHasOneNextFlaw : Type 0
 TheRestHasOneNextFlaw = (left : FlawsState) → HasOneNextFlaw left
 

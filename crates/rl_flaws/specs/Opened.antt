@@ -8,7 +8,7 @@ use Rattle.rl_lenient.specs.declared.quoted_forms.QuotedForm.{QuotedForm}
 use Rattle.rl_lenient.specs.declared.quoted_forms.QuotedForm.TheVariants.{Cooked as CookedForm, Raw as RawForm, Single as SingleForm}
 use Rattle.rl_flaws.specs.declared.walks.Opened.{Opened}
 
--- The opening delimiter of a literal of the form: its prefix, a raw string's hashes, and the quote.
+-- The opening delimiter of a literal with the given form: its prefix, a raw string's hashes, and the quote.
 abbrev pub front_of : QuotedForm → Kind → List ℕ → List ℕ
 front_of CookedForm kind hashes = opener kind
 front_of SingleForm kind hashes = opener kind

@@ -1,5 +1,5 @@
--- The pieces of a quoted literal, valid and invalid. A valid piece is a segment of the valid text before the next flaw, and an
--- invalid piece is that of a flaw.
+-- The pieces of a quoted literal, valid and invalid. A valid piece is a segment of the valid text before the next flaw. An
+-- invalid piece is the text to show for a flaw.
 use Rattle.std.specs.Prelude.{◌≡◌, ◌+◌, ℕ, List, [], ◌++◌, length, Option, None, Some, MatchOption}
 use Rattle.std.specs.Str.{chars}
 use Rattle.rl_syntax.specs.Texts.{byte_len}
@@ -21,8 +21,8 @@ pub record PiecesState : Type 0 where
   pub bad : Option InvalidPiece
   pub flaws : FlawsState
 
--- The segments are those of the valid text inside the open literal, with their byte offsets. The valid text ends at the next
--- flaw or at the closing delimiter.
+-- The cursor's segments are the segments of the valid text inside the open literal, with their byte offsets. The valid text
+-- ends at the next flaw or at the closing delimiter.
 pub record IsGoodInside (kind : Kind) (flaws : FlawsState) (s : SegmentsState) : Type 0 where
   pub form : QuotedForm
   pub hashes : List ℕ
@@ -36,7 +36,7 @@ pub record IsGoodInside (kind : Kind) (flaws : FlawsState) (s : SegmentsState) :
   pub plain_is : s.plain ≡ is_raw_form form
   pub units : HasUnitsLeft s
 
--- The valid text of the open literal. Outside of literals, no text is valid.
+-- The valid text of the open literal. Outside of literals, the valid text is empty.
 abbrev pub IsGoodPart : Option Kind → FlawsState → SegmentsState → Type 0
 IsGoodPart (Some kind) flaws s = IsGoodInside kind flaws s
 IsGoodPart None flaws s = s.rest ≡ []
@@ -46,8 +46,8 @@ pub record BeginsPart (flaws : FlawsState) (s : PiecesState) : Type 0 where
   pub good : IsGoodPart flaws.kind flaws s.segments
   pub gives : GivesFlaw flaws s.bad s.flaws
 
--- The cursor returns its next piece: the next segment of the valid text, or, after the last segment, the flaw. After the flaw
--- it continues with the next valid text.
+-- The cursor returns its next piece: the next segment of the valid text, or, after the last segment, the flaw. After the
+-- flaw, the cursor continues with the next valid text.
 abbrev pub TakesPiece : PiecesState → Piece → PiecesState → Type 0
 TakesPiece old (Good s) new = TakesSegment old.segments s new.segments × (new.bad ≡ old.bad) × (new.flaws ≡ old.flaws)
 TakesPiece old (Bad bad) new = (old.segments.rest ≡ []) × (old.bad ≡ Some bad) × BeginsPart old.flaws new

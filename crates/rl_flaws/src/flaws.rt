@@ -27,7 +27,7 @@ use std::marker::Model;
 pub enum Left<'t> {
     /// All of a text that doesn't begin as a quoted literal.
     Whole(&'t str),
-    /// The text after a quoted literal's opening delimiter, or after a faulty piece inside the literal.
+    /// The text after a quoted literal's opening delimiter, or after an invalid character or escape inside the literal.
     Inside(Opened<'t>, &'t str),
     /// The text that begins at the closing quote of a character or byte literal, after a flaw before that quote.
     Closed(Kind, &'t str),
@@ -46,9 +46,9 @@ fn whole(text: &str) -> Left<'_>
     }
 }
 
-/// Returns the part of the text to check after a flaw of the kind `flaw`. `inside` is the text that the flaw was found in, and
-/// `piece` the text that begins at the flaw's piece. After a flaw in a character or byte literal, this part begins at the
-/// quote that closes the literal. If no quote closes the literal, nothing is left to check.
+/// Returns the part of the text to check after a flaw of the kind `flaw`. The flaw was found in the text `inside`, and
+/// `piece` is the end of `inside` that begins with the flaw's piece. After a flaw in a character or byte literal, the
+/// returned part begins at the closing quote. If no quote closes the literal, nothing is left to check.
 fn left_after<'t>(
     ends: LineEnds,
     opened: Opened<'t>,
@@ -222,7 +222,7 @@ impl<'t> Flaws<'t> {
         }
     }
 
-    /// Returns the next flaw and its piece, or `None` if the rest of the text has no flaw.
+    /// Returns the next flaw and its piece, or `None` if the unchecked text has no flaw.
     pub fn next(&mut self) -> Option<InvalidPiece>
         ensures gives { GivesFlaw self.old result self.new }
         ensures less { IfSome result (λ bad. left_count self.new < left_count self.old) }

@@ -21,8 +21,8 @@ pub struct InvalidPiece {
     pub end: usize,
 }
 
-/// Returns the byte offset after a flaw's piece. `piece` is the text that begins at the piece, and `hi` is the byte offset
-/// after the flaw.
+/// Returns the byte offset after a flaw's piece. The text `piece` begins with this piece. `hi` is the byte offset after the
+/// flaw.
 fn end_of(ends: LineEnds, len: usize, quote: char, kind: FlawKind, piece: &str, hi: usize) -> usize
     requires { length piece.now ≤ len }
     ensures { EndsWhere (is_flaw_of_unit kind) (ReadsFrom ends len (chars piece.now)
@@ -35,8 +35,8 @@ fn end_of(ends: LineEnds, len: usize, quote: char, kind: FlawKind, piece: &str, 
     }
 }
 
-/// Converts a flaw that was found inside a literal to byte offsets. The flaw's texts are ends of the input text, which has
-/// `len` bytes.
+/// Converts a flaw that was found inside a literal to byte offsets. The input text has `len` bytes. `found` has ends of the
+/// input text in place of byte offsets.
 pub fn invalid_piece_with_offsets(
     ends: LineEnds,
     len: usize,

@@ -24,7 +24,7 @@ pub fn a_token_has_no_flaw()
     ensures { ATokenHasNoFlaw }
 {}
 
-/// The unchecked rest of a text has at most one next flaw, with one kind, one range and one piece.
+/// The unchecked part of a text has at most one next flaw, with one kind, one range and one piece of text to show.
 /// [`Flaws::next`](crate::Flaws::next) returns this flaw.
 pub fn the_rest_has_one_next_flaw()
     ensures { TheRestHasOneNextFlaw }

@@ -43,8 +43,8 @@ fn is_code_part(c: char) -> bool
     c.is_ascii_hexdigit() || c == '_'
 }
 
-/// Returns the text after an invalid `\u{..}` escape. `text` begins after the escape's first digit. Its digits and underscores
-/// are skipped, and then one character that isn't a backslash or the quote.
+/// Returns the text after an invalid `\u{..}` escape. `text` begins after the escape's first digit. The function skips digits
+/// and underscores, and then one character that isn't a backslash or the quote.
 #[tactic(auto, using(rl_syntax::proofs::TailLemmas::tail_self, rl_syntax::proofs::TailLemmas::tail_step, rl_strict::proofs::EndLemmas::self_in, rl_strict::proofs::EndLemmas::step_in))]
 fn after_code_digits(ends: LineEnds, quote: char, text: &str) -> &str
     ensures read { read_of ends (chars result.now) ≡ after_code_digits quote (read_of ends (chars text.now)) }
@@ -102,8 +102,8 @@ fn after_escape(ends: LineEnds, quote: char, text: &str) -> &str
     }
 }
 
-/// Returns the text after the invalid escape or character with which the given text begins. There the parsing of a string
-/// continues.
+/// Returns the text after the invalid escape or character with which the given text begins. The parsing of a string continues
+/// at the returned text.
 #[tactic(auto, using(rl_syntax::proofs::TailLemmas::tail_self, rl_syntax::proofs::TailLemmas::tail_step, rl_strict::proofs::EndLemmas::self_in, rl_strict::proofs::EndLemmas::step_in))]
 pub fn after_bad_piece(ends: LineEnds, quote: char, text: &str) -> &str
     ensures read { read_of ends (chars result.now) ≡ after_bad_piece quote (read_of ends (chars text.now)) }

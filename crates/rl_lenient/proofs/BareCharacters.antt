@@ -12,7 +12,7 @@ use Rattle.rl_lenient.specs.Founds.{IsFound, IsQuotedAt}
 use Rattle.rl_lenient.proofs.FoundLemmas.{OfUnit, quoted_found}
 use Rattle.rl_lenient.proofs.SingleBodies.{byte_unit}
 
--- The text after the first character of a UTF-8 text is UTF-8, if the first character is ASCII.
+-- If the first character of a UTF-8 text is ASCII, the text after this character is UTF-8.
 after : (c : ℕ) (x : List ℕ) → c < 128 → IsUtf8 (c ∷ x) → IsUtf8 x
 after c x small u = IsUtf8-drop (c ∷ x) 1 u (IsCharBoundary-after_ascii (c ∷ x) 0 u (omega arith) small)
 

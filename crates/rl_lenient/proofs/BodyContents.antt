@@ -27,7 +27,7 @@ body_reads : (kind : Kind) (t body : List ℕ) (plain : Bool) (has : HasBody kin
     → ReadsQuoted t kind (quoted_contents kind has.value) has.suffix
 body_reads kind t body plain has = parts_read has.form kind t has.value (chars body) has.suffix has.parts
 
--- If bytes are those of a string literal's value, they are UTF-8, and their characters are the value.
+-- If bytes are the value of a `str` literal, they are UTF-8, and their characters are the value.
 pub str_of_has : (t body bytes : List ℕ) (plain : Bool) → HasBody Str t body plain → IsUtf8 body → HoldsBytes t bytes
     → IsUtf8 bytes × HasContents Str t (Characters (chars bytes))
 str_of_has t body bytes plain has u held =

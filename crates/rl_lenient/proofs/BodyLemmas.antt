@@ -121,7 +121,7 @@ cooked_other SingleForm kind t w b x s other p = absurd (not_both kind s p.0.sin
 
 -- ---- plain bodies
 
--- A string literal of a kind, the bytes of whose value are `body`.
+-- The text is a string literal of the kind. The bytes of its value are `body`, if `body` is UTF-8.
 record HeldIn (kind : Kind) (t body x : List ℕ) : Type 0 where
   pub contents : Contents
   pub reads : ReadsQuoted (chars t) kind contents x
@@ -144,8 +144,7 @@ held_in ByteStr t s p = record { contents = Bytes p.body; reads = p.reads; held_
 held_in CStr t s p = record { contents = Bytes p.body; reads = p.reads; held_are = λ ub. sym (bytes_are p.body p.reads.value p.reads.contents_is) }
 held_in kind t s p = absurd (cc)
 
--- For the three kinds of strings, splitting a literal into body and suffix (`IsSplit`) is splitting a quoted literal
--- (`IsQuotedSplit`).
+-- For the three kinds of strings, the definition `IsSplit` (a literal is split into body and suffix) is `IsQuotedSplit`.
 string_cut : (kind : Kind) (t b x : List ℕ) → is_string kind ≡ true → IsSplit kind t b x → IsQuotedSplit kind t b x
 string_cut Str t b x s c = c
 string_cut ByteStr t b x s c = c
@@ -212,8 +211,8 @@ not_false : (z : Bool) → (z ≡ false → ⊥) → z ≡ true
 not_false true n = refl
 not_false false n = absurd (n refl)
 
--- If the body of a string literal is its value byte for byte (`IsPlain`), each split of the text into parts has the literal's
--- kind, and a body that passes the test `is_plain_body`.
+-- The text `t` is a string literal of the kind `k` whose body is its value byte for byte (`IsPlain`). If `t` is split into
+-- the parts of a literal of the kind `kind`, then `kind` is `k`, and the body passes the test `is_plain_body`.
 pub parts_plain : (form : QuotedForm) (kind k : Kind) (t w b x : List ℕ) → is_string k ≡ true → IsUtf8 t → IsUtf8 b
     → IsUtf8 x → PartsAre form kind (chars t) w (chars b) (chars x) → IsPlain k t → (kind ≡ k)
     × (is_plain_body form kind (chars b) ≡ true)

@@ -1,4 +1,4 @@
--- The leading bytes of a text that pass a test are the bytes of its leading characters that pass the test.
+-- The leading bytes of a text that pass a test encode the text's leading characters that pass the test.
 use Rattle.rl_syntax.proofs.Common.{◌≡◌, ◌+◌, ◌<◌, ◌≤◌, ◌⊎◌, inl, inr, ℕ, suc, ◌&&◌, Bool, true, false, cond, eqb, List, [], ◌∷◌, ◌++◌, length, nat_lt, refl, sym, ap, ◌∙◌, arith, and_parts, ltb-true, ne_eqb, nat_tests, encodes-chars, list_all, prefix_len, IsUtf8}
 use Rattle.rl_lenient.proofs.Names.{Kind, Str, ByteStr, CStr, Marks, is_plain, is_string, is_ascii_other, is_other}
 use Rattle.std.specs.Char.{is_ascii}
@@ -11,7 +11,7 @@ use Rattle.std.proofs.Math.Bool.{and-true}
 
 -- ---- sequences of bytes that pass a test, as characters
 
--- If a test passes all non-ASCII bytes, the leading bytes of a text that pass it are the leading characters that pass it.
+-- If all non-ASCII bytes pass a test, the leading bytes that pass the test encode the leading characters that pass it.
 high_cut : (q : ℕ → Bool) → PassesHigh q → (bs : List ℕ) → IsUtf8 bs → RunCut q bs
 high_cut q high bs u = record { boundary = run_boundary q high bs; cut = run_cut q high bs u; plain = run_plain q high bs u; stops = run_stop q high bs u; behind = run_tail q high bs u }
 
@@ -26,7 +26,7 @@ other_cut m bs u = low_cut (is_ascii_other m) (other_low m) bs u
 plain_low : PassesLow (is_plain ByteStr)
 plain_low c h = ltb-true c 128 (and_parts (nat_lt c 128) (is_plain Str c) h).0
 
--- The leading bytes of a text that a string may contain unescaped are the leading characters that the string may contain
+-- The leading bytes of a text that a string may contain unescaped encode the leading characters that the string may contain
 -- unescaped.
 pub plain_cut : (kind : Kind) (bs : List ℕ) → is_string kind ≡ true → IsUtf8 bs → RunCut (is_plain kind) bs
 plain_cut Str bs h u = high_cut (is_plain Str) (plain_high Str refl (λ e. absurd (cc))) bs u

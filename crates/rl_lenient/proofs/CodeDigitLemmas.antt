@@ -5,8 +5,8 @@ use Rattle.rl_lenient.specs.Mirrors.UnitAt.{◌>>=◌, brace_at, closed_at, code
 
 -- ---- the parse result of an escape `\u{..}`
 
--- Returns the number of an escape `\u{..}` and the text after its closing brace. The text follows n digits that represent the
--- number v.
+-- Returns the code point that an escape `\u{..}` represents, and the text after its closing brace. The text follows n digits
+-- of the escape, which represent the number v.
 unfoldable pub unicode_digits_at : ℕ → ℕ → List ℕ → Option (ℕ × List ℕ)
 unicode_digits_at v n [] = None
 unicode_digits_at v n (c ∷ cs) = cond (eqb c 125) (number_if (scalar v) v cs)
@@ -49,7 +49,8 @@ digits_closed (c ∷ cs) v n last few = elim (cases_Bool (is_hex_digit c)) [
     other true = refl
     other false = refl
 
--- Returns the number of an escape `\u{..}`, and the text after the escape. The text begins with the opening brace.
+-- Returns the code point that an escape `\u{..}` represents, and the text after the escape. The given text begins with the
+-- opening brace.
 abbrev pub unicode_by : Kind → List ℕ → Option (ℕ × List ℕ)
 unicode_by kind t = do
   inside ← brace_at t

@@ -88,7 +88,7 @@ decode_run kind a v b after bytes more run row so_far cut plain text grown = (
 
 -- ---- the bytes of a string's value
 
--- If bytes are those of the value of one parse result of a quoted literal, they are those of every parse result.
+-- If bytes are a quoted literal's value by one of its parse results, they are its value by each of its parse results.
 same_bytes : (t : List ℕ) (kind : Kind) (w y bytes : List ℕ) → Formed t kind w y → bytes ≡ in_bytes kind w
     → HoldsBytes t bytes
 same_bytes t kind w y bytes r e k v x s p =

@@ -14,7 +14,8 @@ use Rattle.std.proofs.lemmas.Str.Pattern.{drop_at_char}
 use denote.Ref.{Bor}
 use Rattle.rl_lenient.specs.Mirrors.PlainAt.{is_some_text}
 
--- If the characters of a text end with those of a second text, the text ends with the second text.
+-- If the characters of a text end with the characters of a second text, the bytes of the text end with the bytes of the
+-- second text.
 pub tail_chars : (bs ys front : List ℕ) → IsUtf8 bs → IsUtf8 ys → chars bs ≡ front ++ chars ys → IsTail bs ys
 tail_chars bs ys front u w e = record {
   front = encode_utf8_all front;
@@ -35,7 +36,7 @@ none_lacks c (d ∷ cs) h = and_from (not (eqb d c)) (lacks c cs) (not_from_fals
 chars_lack : (c : ℕ) (bs : List ℕ) → IsUtf8 bs → NoCharPasses (λ d. eqb d c) bs → lacks c (chars bs) ≡ true
 chars_lack c bs u p = subst (λ z. lacks c z ≡ true) (chars_from_encodes p.0 bs u p.1) (none_lacks c p.0 p.2)
 
--- A text is split at an ASCII character into the text before it and the text after it.
+-- A text is split into the part before an ASCII character, the character, and the part after it.
 pub record Around (c : ℕ) (bs : List ℕ) (i j : ℕ) : Type 0 where
   pub chars_are : chars bs ≡ chars (take i bs) ++ (c ∷ chars (drop j bs))
   pub following : IsUtf8 (drop j bs)
@@ -92,7 +93,7 @@ some_text t u = tested (length t == 0) t u refl
     tested false t u e = some (chars t) (λ n. both_ways (length t == 0) e
         (ap (λ z. length z == 0) (sym (encodes-chars t u) ∙ ap encode_utf8_all n)))
 
--- ---- an ASCII byte that a text lacks is a character that it lacks
+-- ---- a text without an ASCII byte doesn't contain the byte's character
 
 lacks_high : (c : ℕ) → c < 128 → (bs : List ℕ) → AllHigh bs → lacks c bs ≡ true
 lacks_high c low [] h = refl

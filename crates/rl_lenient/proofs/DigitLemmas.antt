@@ -12,12 +12,12 @@ use Rattle.rl_lenient.specs.NumberShapes.{HasMagnitude}
 use Rattle.rl_lenient.proofs.IntegerLemmas.{int_past, sign_of_some}
 use Rattle.rl_syntax.proofs.OneNumber.{int_once, float_once}
 
--- The digits of a float's text that consists of two parts are the digits of the first part, and then those of the second part.
+-- `float_digits` of two joined texts is `float_digits` of the first text, joined with `float_digits` of the second text.
 pub float_digits-append : (xs ys : List ℕ) → float_digits (xs ++ ys) ≡ float_digits xs ++ float_digits ys
 float_digits-append xs ys = simp (filter-append, map-append)
 
--- If the digits of one more character are appended to the digits of a float's text, they are the digits of the text with this
--- character.
+-- The bytes `a` are the digits of the float text `xs`. If the digits of the character `c` are appended to `a`, the result is
+-- the digits of `xs` with `c` appended.
 pub plain_more : (a b xs : List ℕ) (c : ℕ) → a ≡ encode_utf8_all (float_digits xs) → b ≡ a
     ++ encode_utf8_all (float_digits (c ∷ [])) → b ≡ encode_utf8_all (float_digits (xs ++ (c ∷ [])))
 plain_more a b xs c e h =
@@ -30,7 +30,7 @@ pub same_numeral : (t b y ds n x : List ℕ) → FloatReads t b y → ds ≡ flo
     ≡ float_digits n
 same_numeral t b y ds n x f e g = e ∙ ap float_digits (float_once t b n y x f g).0
 
--- An integer literal has the sign that its first character has.
+-- Each parse result of a text as an integer has the sign that `sign_at` returns for the text.
 pub int_sign : (t : List ℕ) (s : Sign) (m : ℕ) (x : List ℕ) → IntReads t s m x → sign_at t ≡ s
 unfolding int_at
 int_sign t s m x r =
@@ -51,7 +51,7 @@ ascii_signed Minus m h = chars-IsAscii (45 ∷ decimal m) (minus_ascii (decimal 
     minus_ascii ds a zero = omega arith
     minus_ascii ds a (suc i) = a i
 
--- A sign and the decimal digits of the magnitude are the value of every parse result of a text as an integer.
+-- If a text is an integer with the magnitude m, its value is its sign and the decimal digits of m, in each parse result.
 pub int_contents : (t y : List ℕ) (m : ℕ) (bs : List ℕ) → HasMagnitude t m y → bs ≡ sign_text (sign_at t) ++ decimal m
     → (c : Contents) (x : List ℕ) → ReadsInt t c x → c ≡ Digits (chars bs)
 int_contents t y m bs w e c x r =

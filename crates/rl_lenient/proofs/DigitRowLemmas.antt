@@ -21,8 +21,7 @@ mul_grows v r d h k = omega (arith, mul-le-mul_left v k)
 pub within_or_past : (n m : ℕ) → (n ≤ m) ⊎ (m < n)
 within_or_past n m = grind arith
 
--- The magnitude of a number to which a digit is appended is the same, whether it is limited to 128 bits before the digit is
--- appended or after that.
+-- Limiting a magnitude to 128 bits before a digit is appended gives the result of limiting it only afterwards.
 pub append_capped : (r v d : ℕ) → 1 ≤ r → append_digit r (capped v) d ≡ capped (v * r + d)
 append_capped r v d h = elim (within_or_past v limit) [
   | inl k ↦ ap (λ o. append_digit r o d) (capped_within v k)
@@ -33,13 +32,13 @@ append_capped r v d h = elim (within_or_past v limit) [
 place_with : (v r d q p : ℕ) → (v * r + d) * q + p ≡ v * (q * r) + (d * q + p)
 place_with v r d q p = omega arith
 
--- Arithmetic: if digits with the value v precede the digit d, and n digits with the value p follow it, the number is the same,
--- whether d is counted with the digits before it or with those after it.
+-- Arithmetic: digits with the value v precede the digit d, and n digits with the value p follow d. The value of all digits
+-- can be computed from v and d first, or from d and p first. Both results are equal.
 place_step : (v r d n p : ℕ) → (v * r + d) * r ^ n + p ≡ v * r ^ suc n + (d * r ^ n + p)
 place_step v r d n p = place_with v r d (r ^ n) p ∙ ap (λ q. v * q + (d * r ^ n + p)) (sym (pow-suc r n))
 
--- The parse result of the digits and underscores `ds` in a base: whether there is a digit, the magnitude within 128 bits, and the
--- text x that follows. Digits with the value v precede `ds`.
+-- The parse result of the digits and underscores `ds` in a base, if digits with the value v precede `ds`, and the text x
+-- follows. It consists of whether there is a digit, the magnitude of all digits within 128 bits, and x.
 abbrev At : ℕ → Bool → ℕ → List ℕ → List ℕ → Bool × Option ℕ × List ℕ
 At r some v ds x = (
   some || list_any (has_value r) ds,
@@ -62,11 +61,11 @@ or_true false b = refl
 times_one : (v r : ℕ) → v ≡ v * r ^ 0 + 0
 times_one v r = simp unary_clauses (omega arith)
 
--- If no further digits or underscores follow, the parse result of digits is that of the digits so far.
+-- If no digit or underscore follows the digits with the value v, the magnitude in their parse result is v.
 at_end : (r : ℕ) (some : Bool) (v : ℕ) (x : List ℕ) → (some, capped v, x) ≡ At r some v [] x
 at_end r some v x = ap (λ b. (b, capped v, x)) (or_false some) ∙ ap (λ n. (some || false, capped n, x)) (times_one v r)
 
--- An underscore doesn't change the parse result of the digits and underscores that it precedes.
+-- An underscore before the digits and underscores `ds` doesn't change the parse result.
 at_mark : (r : ℕ) (some : Bool) (v : ℕ) (ds x : List ℕ) → r ≤ 36 → At r some v (95 ∷ ds) x ≡ At r some v ds x
 at_mark r some v ds x h =
     let e : nat_lt 36 r ≡ false = grind (arith, nat_tests) in
@@ -94,8 +93,8 @@ at_digit r some v c ds x n d =
     )) (sym d)
     ∙ ap (λ u. (some || list_any (has_value r) (c ∷ ds), capped (v * r ^ length u + place_value r u), x)) (sym kept)
 
--- If the first character of a text passes a test, the leading characters that pass the test are it and those of the rest of the
--- text.
+-- If the character c passes a test, the leading passing characters of `c ∷ cs` are c and the leading passing characters of
+-- `cs`.
 pub run_yes : (test : ℕ → Bool) (c : ℕ) (cs : List ℕ) → test c ≡ true → (run test (c ∷ cs) ≡ c ∷ run test cs)
     × (after_run test (c ∷ cs) ≡ after_run test cs)
 unfolding run
@@ -107,8 +106,8 @@ pub run_no : (test : ℕ → Bool) (c : ℕ) (cs : List ℕ) → test c ≡ fals
 unfolding run
 run_no test c cs h = (ap (λ b. cond b (c ∷ run test cs) []) h, ap (λ b. cond b (after_run test cs) (c ∷ cs)) h)
 
--- The parse result `At` of digits and the text after them is unchanged if they are replaced by equal texts, those that
--- `digit_run_at` and `after_digits` return.
+-- In the parse result `At`, the digits `ds` and the text x are replaced by the equal texts that `digit_run_at` and
+-- `after_digits` return.
 at_parts : (r : ℕ) (some : Bool) (v : ℕ) (t ds x : List ℕ) → digit_run_at r t ≡ ds → after_digits r t ≡ x
     → At r some v ds x ≡ At r some v (digit_run_at r t) (after_digits r t)
 at_parts r some v t ds x d a = ap (λ u. At r some v u x) (sym d) ∙ ap (λ y. At r some v (digit_run_at r t) y) (sym a)
@@ -200,7 +199,8 @@ pub row_skipped : (r : ℕ) (t : List ℕ) → 1 ≤ r → r ≤ 36 → run_from
     ≡ (has_digit_at r t, None, after_digits r t)
 row_skipped r t h k = row_without r false (Some 0) t ∙ ap (λ p. (p.0, None, p.2)) (row_start r t h k)
 
--- If the code parses one digit and then the rest of the text, it gets the parse result of the text that begins with the digit.
+-- If the code parses the first digit of a text, and then the text after the digit, the result is the parse result of the
+-- whole text.
 pub row_digit : (r : ℕ) (some : Bool) (m n : Option ℕ) (t : List ℕ) (c : ℕ) (cs : List ℕ) (d : ℕ) → t ≡ c ∷ cs → c ≢ 95
     → digit_value c < r → d ≡ digit_value c → n ≡ append_digit r m d → run_from r true n cs ≡ run_from r some m t
 unfolding run_from

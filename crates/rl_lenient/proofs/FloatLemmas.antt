@@ -32,7 +32,8 @@ exponent_stops : (e : Exponent) (x : List ℕ) → is_suffix x ≡ true → IsEx
 exponent_stops NoExponent x h k = suffix_no_part x (suffix_sound x h)
 exponent_stops (Power letter us sg row) x h k = letter_no_part letter k.0
 
--- If a text doesn't begin with a digit or an underscore, neither does a fraction that is followed by the text.
+-- If the text after a fraction begins with neither a digit nor an underscore, the fraction and that text, joined, don't
+-- begin with one either. The fraction may be empty.
 pub fraction_stops : (f : Fraction) (z : List ℕ) → first_passes (is_run_part (has_value 10)) z ≡ false
     → first_passes (is_run_part (has_value 10)) (fraction_text f ++ z) ≡ false
 fraction_stops NoFraction z h = h
@@ -63,7 +64,7 @@ digit_part : (a b : Bool) → (a || b) ≡ true → b ≡ false → a ≡ true
 digit_part true b p q = refl
 digit_part false b p q = absurd (cc)
 
--- The digits and underscores `row` contain a digit. Without the leading underscores they begin with a digit.
+-- `more` is the sequence of digits and underscores `row` without its leading underscores. It begins with a digit.
 record Trimmed (row x : List ℕ) : Type 0 where
   more : List ℕ
   is : after_run is_underscore (row ++ x) ≡ more ++ x
@@ -71,7 +72,8 @@ record Trimmed (row x : List ℕ) : Type 0 where
   some : list_any (has_value 10) more ≡ true
   first : first_passes is_ascii_digit more ≡ true
 
--- After its leading underscores, a sequence of digits and underscores that has a digit begins with a digit.
+-- If a sequence of digits and underscores contains a digit, dropping its leading underscores leaves a sequence that begins
+-- with a digit.
 trimmed : (row x : List ℕ) → list_all (is_run_part (has_value 10)) row ≡ true → list_any (has_value 10) row ≡ true
     → Trimmed row x
 trimmed [] x h k = absurd (cc)
@@ -101,8 +103,8 @@ digit_no_sign (c ∷ cs) h =
     let e : (c == 43 || c == 45) ≡ false = grind (arith, nat_tests) in
     ap (λ b. cond b cs (c ∷ cs)) e
 
--- The digits of an exponent, which `power_at` returns with the text x after them. The exponent's underscores and sign are
--- skipped.
+-- For the text `t`, `power_at` returns the digits and underscores `more`, and the text x after them. `more` contains a
+-- digit.
 record Powered (t x : List ℕ) : Type 0 where
   more : List ℕ
   is : power_at t ≡ more ++ x
@@ -146,7 +148,7 @@ power_past letter cs x l stops p =
     ap (λ b. cond b (after_digits 10 (power_at cs)) (letter ∷ cs)) (and_from (is_exponent_letter letter) _ l some)
     ∙ ap (after_digits 10) p.is ∙ y.1
 
--- After leading underscores, the rest of an identifier consists of identifier characters.
+-- If a text consists of identifier characters, so does the text without its leading underscores.
 all_continue_run : (t : List ℕ) → list_all is_xid_continue t ≡ true
     → list_all is_xid_continue (after_run is_underscore t) ≡ true
 all_continue_run [] h = refl
@@ -166,8 +168,8 @@ no_sign (c ∷ cs) h =
     ∙ continue_not 45 c (omega arith) refl b.0 in
     ap (λ z. cond z cs (c ∷ cs)) e
 
--- If digits and underscores that contain a digit begin a text, and the text doesn't begin with an underscore, it begins with a
--- digit.
+-- The digits and underscores at the start of a text contain a digit. If the text doesn't begin with an underscore, the text
+-- begins with a digit.
 first_digit : (t : List ℕ) → first_passes is_underscore t ≡ false → has_digit_at 10 t ≡ true → (d : ℕ) × (rest : List ℕ)
     × (is_ascii_digit d ≡ true) × (t ≡ d ∷ rest)
 unfolding run
@@ -210,7 +212,7 @@ no_exponent (c ∷ cs) h k =
     (false_from_ne_true (is_exponent_letter c && has_digit_at 10 (power_at cs))
     (λ e. let b = and_parts (is_exponent_letter c) _ e in k (suffix_begins c cs h b.0 b.1)))
 
--- The text of an exponent that is followed by a text x is the exponent's letter, underscores, sign and digits, and then x.
+-- The text of an exponent, joined with a text x, is the exponent's letter, underscores, sign and digits, and then x.
 power_text : (letter : ℕ) (us sg row x : List ℕ) → exponent_text (Power letter us sg row) ++ x
     ≡ letter ∷ (us ++ (sg ++ (row ++ x)))
 power_text letter us sg row x = ap (λ z. letter ∷ z) (append_assoc us (sg ++ row) x
@@ -252,7 +254,7 @@ float_past t n x h =
     ∙ ap (λ k. cond (first_passes is_ascii_digit u && is_suffix k) (Some k) None) rest
     ∙ ap (λ b. cond b (Some x) None) (and_from (first_passes is_ascii_digit u) (is_suffix x) first ok)
 
--- The text `y` is a fraction, perhaps an empty one, and the text that `after_fraction` returns.
+-- The text `y` consists of a fraction, perhaps an empty one, and the text that `after_fraction` returns for `y`.
 record Fractioned (y : List ℕ) : Type 0 where
   fraction : Fraction
   is : IsFraction fraction
@@ -277,7 +279,7 @@ abbrev power_sign : List ℕ → List ℕ
 power_sign [] = []
 power_sign (c ∷ cs) = cond (c == 43 || c == 45) (c ∷ []) []
 
--- A text is the sign at its start, perhaps an empty one, and the text after the sign.
+-- A text consists of the sign at its start, perhaps an empty one, and the text after the sign.
 sign_splits : (v : List ℕ) → (v ≡ power_sign v ++ after_power_sign v) × (is_power_sign (power_sign v) ≡ true)
 sign_splits [] = (refl, refl)
 sign_splits (c ∷ cs) = go (c == 43 || c == 45) refl
@@ -305,7 +307,7 @@ begins_true c cs b =
     (ap (has_digit_at 10) p ∙ ap (list_any (has_value 10)) y.0
     ∙ ap (λ z. z || list_any (has_value 10) (run (is_run_part (has_value 10)) b.rest)) d)
 
--- The text `z` is an exponent, perhaps none, and the text that `after_exponent` returns.
+-- The text `z` consists of an exponent, perhaps none, and the text that `after_exponent` returns for `z`.
 record Powers (z : List ℕ) : Type 0 where
   exponent : Exponent
   is : IsExponent exponent (after_exponent z)
@@ -356,8 +358,8 @@ run_first (c ∷ cs) h =
     let d : has_value 10 c ≡ true = sym (digit_is_ten c) ∙ h in
     ap (first_passes is_ascii_digit) (run_yes (is_run_part (has_value 10)) c cs (ap (λ z. z || (c == 95)) d)).0 ∙ h
 
--- If a text without its sign begins with a digit, and the text after the digits, the fraction and the exponent is a suffix, the
--- text is a float with this suffix.
+-- A text begins with a digit after its sign, and the text x follows its digits, fraction and exponent. If x is a suffix, the
+-- text is a float with the suffix x.
 float_built : (t : List ℕ) (x : List ℕ) → first_passes is_ascii_digit (after_minus t) ≡ true → is_suffix x ≡ true
     → after_exponent (after_fraction (after_digits 10 (after_minus t))) ≡ x → (n : List ℕ) × FloatReads t n x
 float_built t x first ok is =

@@ -88,7 +88,8 @@ front_complete SingleForm kind r h = absurd (cc)
 
 -- ---- cooked strings
 
--- The characters and escapes of a string end at the closing quote, and no further one can follow before the quote.
+-- The text after a string's opening quote begins with the string's characters and escapes, and the closing quote follows
+-- them.
 pub cooked_row : (kind : Kind) (t v x : List ℕ) (c : Cooked kind t v x)
     → BeginsRun kind (texts c.units ++ (34 ∷ x)) v (34 ∷ x)
 cooked_row kind t v x c = record { units = c.units; each = c.each; ends = row_ends_on c.units (34 ∷ x) refl c.ends; text_is = refl; value_is = c.value_is }
@@ -151,8 +152,8 @@ single_once kind a v x w y s q =
     let same = some_pair (v, 39 ∷ x) (w, 39 ∷ y) (sym (single_at kind a v x s) ∙ single_at kind a w y q) in
     (same.0, let e : 39 ∷ x ≡ 39 ∷ y = same.1 in cc)
 
--- If a closing quote follows the character or escape of a character or byte literal, this is the literal's body, and the text
--- after the quote is its suffix.
+-- If a closing quote follows the character or escape of a character or byte literal, the character or escape is the
+-- literal's body, and the text after the quote is its suffix.
 pub single_found : (kind : Kind) (a : List ℕ) (q : List ℕ × List ℕ) (b x : List ℕ) → is_single kind ≡ true
     → unit_at kind a ≡ Some q → a ≡ b ++ q.1 → q.1 ≡ 39 ∷ x → PartsAre SingleForm kind (opener kind ++ a) q.0 b x
 single_found kind a q b x s h cut quote =
@@ -242,8 +243,8 @@ told_same f g k l a b e =
     let same : p ≡ q = cc in
     (ap (λ z. z.0) same, ap (λ z. z.1) same, ap (λ z. z.2) same)
 
--- If the start of a text decides the form and the kind of a quoted literal, its parse result has this kind, and parts of this
--- form.
+-- The kind and the form that the start of a quoted literal shows are those of its parse result: the kind k of the parse
+-- result is `kind`, and the literal has the parts of the form `form`.
 pub record AtFront (form : QuotedForm) (kind : Kind) (inside : List ℕ) (k : Kind) (v x : List ℕ) : Type 0 where
   pub kind_is : kind ≡ k
   pub body : List ℕ

@@ -19,7 +19,7 @@ quoted_at : (kind : Kind) (t : List ℕ) (found : Found) → found.kind ≡ kind
 quoted_at kind t found same q f = subst (λ (k : Kind). IsQuotedAt k t found.body) same
     (f.quoted (ap is_quoted same ∙ q))
 
--- The text at the offsets of the body, in the parse result of a string literal, is the literal's body.
+-- In the parse result of a string literal, the text at the body's byte offsets is the text between the literal's quotes.
 pub string_body : (kind : Kind) (t body : List ℕ) (found : Found) → body ≡ body_in t found.body → found.kind ≡ kind
     → is_string kind ≡ true → IsFound t found → HasBody kind (chars t) body found.body.plain
 string_body kind t body found is same s f =
@@ -27,7 +27,8 @@ string_body kind t body found is same s f =
     subst (λ z. HasBody kind (chars t) z found.body.plain) (sym is)
     (record { string = s; form = q.form; value = q.value; suffix = _; parts = q.parts; plain_is = q.plain_is })
 
--- The text at the offsets of the body, in the parse result of a byte string or C string literal, is the literal's body.
+-- In the parse result of a byte string or C string literal, the text at the body's byte offsets is the text between the
+-- literal's quotes.
 pub bytes_body : (t body : List ℕ) (found : Found) → body ≡ body_in t found.body
     → ((kind : Kind) → ReadsAs kind (chars t) → found.kind ≡ kind) → IsFound t found → ReadsAs ByteStr (chars t)
     ⊎ ReadsAs CStr (chars t) → HasBody found.kind (chars t) body found.body.plain

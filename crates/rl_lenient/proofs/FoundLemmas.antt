@@ -94,8 +94,8 @@ Of kind body magnitude = record { kind = kind; body = body; magnitude = magnitud
 abbrev pub OfUnit : Kind → Body → ℕ → Found
 OfUnit kind body n = record { kind = kind; body = body; magnitude = 0; truth = false; unit = n }
 
--- The facts about the whole text that the parts of a quoted literal give: its kind, its body and suffix, and whether the body is
--- the value byte for byte.
+-- Facts about a quoted literal that follow from its parts: its kind and suffix, its split into body and suffix, and whether
+-- its body is its value byte for byte.
 pub record Whole (t : List ℕ) (kind : Kind) (body : Body) : Type 0 where
   pub reads : HasSuffix kind (chars t) (chars (suffix_in t body))
   pub cut : IsSplit kind t (body_in t body) (suffix_in t body)

@@ -49,7 +49,8 @@ ten_whole (z ∷ c ∷ cs) h = go (z == 48 && not (radix_of c == 10)) refl h
         absurd (cc)
     go false e h = refl
 
--- Limiting the magnitude of a parsed integer to 128 bits doesn't change the condition on which the integer is parsed.
+-- Limiting the magnitude of an integer to 128 bits gives an equal result before and after the choice between the integer and
+-- `None`.
 capped_cond : (s : Sign) (b : Bool) (n : ℕ) (x : List ℕ) → capped_int (with_sign s (cond b (Some (n, x)) None))
     ≡ cond b (Some (capped n, x)) None
 capped_cond s true n x = refl
@@ -75,7 +76,8 @@ no_head_float t h =
     let x = after_exponent (after_fraction (after_digits 10 (after_minus t))) in
     sym (ap (λ b. cond (b && is_suffix x) (Some x) None) h)
 
--- From the parsed start of a number, `ended_at` returns the result of `int_at` for the text, limited to 128 bits.
+-- From the parsed start of a number, `ended_at` returns what `int_at` returns for the whole text, with the magnitude limited
+-- to 128 bits.
 pub head_int : (t : List ℕ) (r : ℕ) (some : Bool) (m : Option ℕ) (x : List ℕ) → IsHead (after_minus t) r some m x
     → ended_at r some m x ≡ capped_int (int_at t)
 unfolding int_at based_at
@@ -93,8 +95,7 @@ head_int t r some m x h =
     ∙ ap (λ b. cond (b && ends) (Some (capped n, y)) None) (begins (after_minus t) h.first)
     )
 
--- If the start of a number is in base ten, `float_tail_at` returns from the text after the first digits what `float_at` returns
--- for the whole text.
+-- For a number in base ten, `float_tail_at` of the text after the first digits is equal to `float_at` of the whole text.
 pub head_float : (t : List ℕ) (r : ℕ) (some : Bool) (m : Option ℕ) (x : List ℕ) → IsHead (after_minus t) r some m x → r
     ≡ 10 → float_tail_at x ≡ float_at t
 unfolding float_at
@@ -104,8 +105,8 @@ head_float t r some m x h e =
     let y = after_exponent (after_fraction (after_digits 10 u)) in
     ap float_tail_at is ∙ sym (ap (λ b. cond (b && is_suffix y) (Some y) None) h.first)
 
--- If the code's base, digits, magnitude and remaining text are those of the models, they are the parsed start of the number
--- (`IsHead`).
+-- If the code's base, digits, magnitude and remaining text are what `radix_at`, `has_digit_at`, `magnitude_at` and
+-- `after_digits` return, they are the parsed start of the number (`IsHead`).
 pub head_read : (u ds x : List ℕ) (r : ℕ) (some : Bool) (m : Option ℕ) → first_passes is_ascii_digit u ≡ true
     → ◌≡◌ {A = ℕ × List ℕ} (r, ds) (radix_at u) → some ≡ has_digit_at r ds → m ≡ capped (magnitude_at r ds) → x
     ≡ after_digits r ds → IsHead u r some m x

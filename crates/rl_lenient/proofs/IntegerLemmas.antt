@@ -11,7 +11,7 @@ use Rattle.rl_lenient.specs.Mirrors.NumberAt.{run, has_value, is_suffix, digit_r
 use Rattle.rl_lenient.proofs.DigitRowLemmas.{within_or_past, capped_within, capped_past}
 use Rattle.rl_lenient.proofs.RunLemmas.{run_all, run_ends, run_join, run_past, suffix_complete, suffix_sound}
 
--- After the digits of an exponent, a text that is empty or an identifier is a suffix.
+-- If the text after the digits of an exponent is empty or an identifier, the text is a suffix.
 rest_suffix : (x : List ℕ) → (x ≡ []) ⊎ IsTrue (xid_ok x) → first_passes (is_run_part (has_value 10)) x ≡ false
     → is_suffix x ≡ true
 rest_suffix [] h k = refl
@@ -86,7 +86,7 @@ radix_past Octal w h = (refl, refl)
 radix_past Hexadecimal w h = (refl, refl)
 radix_past Decimal w h = (not_based w h.1, h.0)
 
--- If the text after a base's prefix can be the rest of a number in the base, the test `may_begin_number` is true for the text.
+-- If a text may follow the prefix of a base (`IsAfterPrefix`), the text passes the test `may_begin_number`.
 base_begins : (base : Base) (w : List ℕ) → IsAfterPrefix base w → may_begin_number (radix base) w ≡ true
 base_begins Binary w h = refl
 base_begins Octal w h = refl
@@ -135,7 +135,8 @@ int_past t s m x h =
     ∙ ap (with_sign s) b
     ∙ ap (λ n. Some (s, n, x)) (sym h.magnitude_is)
 
--- The base of a number's text: the text is the base's prefix and the text that `radix_at` returns after it.
+-- The base of a number with the text `t`, and the text after the base's prefix, as `radix_at` returns them. `t` is the
+-- prefix and then that text.
 pub record Based (t : List ℕ) : Type 0 where
   pub base : Base
   pub rest : List ℕ
@@ -143,7 +144,8 @@ pub record Based (t : List ℕ) : Type 0 where
   pub text_is : t ≡ prefix base ++ rest
   pub front : may_begin_number (radix base) rest ≡ true → IsAfterPrefix base rest
 
--- If the test `begins` is true for characters and a text, the text is these characters and a rest.
+-- If the test `begins` finds the given characters at the start of a text, the text is these characters, followed by another
+-- text.
 pub begins_is : (p t : List ℕ) → begins p t ≡ true → (rest : List ℕ) × (t ≡ p ++ rest)
 begins_is [] t h = (t, refl)
 begins_is (k ∷ p) [] h = absurd (cc)
@@ -197,7 +199,8 @@ sign_join (c ∷ cs) = go (c == 45) refl
     go true h = ap (λ z. z ∷ cs) (eqb-true c 45 h)
     go false h = refl
 
--- A text that begins with neither a hexadecimal digit nor an underscore doesn't begin with a hexadecimal digit.
+-- If the first character of a text fails the test for hexadecimal digits and underscores, it fails the test for hexadecimal
+-- digits.
 pub hex_stops : (x : List ℕ) → first_passes (is_run_part (has_value 16)) x ≡ false → first_passes (has_value 16) x
     ≡ false
 hex_stops [] h = refl
@@ -221,8 +224,8 @@ suffix_of Decimal x h k = λ e. both_ways (is_exponent_suffix x)
 end_suffix : (r : ℕ) (x : List ℕ) → may_end r x ≡ true → is_suffix x ≡ true
 end_suffix r x h = (and_parts (is_suffix x) _ h).0
 
--- If the text after a sign and the prefix of a base may begin a number, has a digit, and has a suffix that may end a number, the
--- whole text is an integer with the sign, magnitude and suffix that the models return.
+-- A text is an integer if the text after its sign and its base's prefix may begin a number, contains a digit, and has a
+-- suffix that may end a number. The models return the sign, the magnitude and the suffix of the integer.
 int_built : (t : List ℕ) (b : Based (after_minus t)) → may_begin_number (radix b.base) b.rest ≡ true
     → has_digit_at (radix b.base) b.rest ≡ true → may_end (radix b.base) (after_digits (radix b.base) b.rest) ≡ true
     → IntReads t (sign_at t) (magnitude_at (radix b.base) b.rest) (after_digits (radix b.base) b.rest)
@@ -241,7 +244,7 @@ int_built t b front some ends =
       magnitude_is = refl;
     }
 
--- If a choice between a value and `None` returns the value, its condition is true.
+-- If a choice between a value and `None` returns the value, the condition of the choice is true.
 pub chosen_some : {A : Type 0} (b : Bool) (q p : A) → cond b (Some q) None ≡ Some p → (b ≡ true) × (q ≡ p)
 chosen_some true q p h = (refl, cc)
 chosen_some false q p h = absurd (cc)
@@ -264,7 +267,7 @@ based_sound r t p h =
     let b = and_parts (has_digit_at r t) _ a.1 in
     record { front = a.0; some = b.0; ends = b.1; is = k.1 }
 
--- If `with_sign` returns a parse result, its argument was this parse result without the sign.
+-- If `with_sign` returns a parse result with a sign, its argument is the parse result without the sign.
 pub sign_of_some : (s : Sign) (o : Option (ℕ × List ℕ)) (p : Sign × ℕ × List ℕ) → with_sign s o ≡ Some p
     → (q : ℕ × List ℕ) × (o ≡ Some q) × ((s, q.0, q.1) ≡ p)
 sign_of_some s None p h = absurd (cc)
@@ -301,7 +304,8 @@ none_int : (o : Option (Sign × ℕ × List ℕ)) → None ≡ capped_int o → 
 none_int None h = refl
 none_int (Some p) h = absurd (cc)
 
--- If `capped_int` returns a result, its argument is that result with the magnitude before the limit of 128 bits.
+-- If `capped_int` returns a magnitude and a suffix, its argument is an integer with this suffix, and with this magnitude
+-- before it was limited to 128 bits.
 some_int : (o : Option (Sign × ℕ × List ℕ)) (q : Option ℕ × List ℕ) → Some q ≡ capped_int o → (p : Sign × ℕ × List ℕ)
     × (o ≡ Some p) × (q ≡ (capped p.1, p.2))
 some_int None q h = absurd (cc)
@@ -338,7 +342,7 @@ pub is_within_at : (t x y : List ℕ) (m : ℕ) (k : Option ℕ) → Some (k, x)
     → HasMagnitude t m y
 is_within_at t x y m k h e q = is_within t y m (ap (λ z. Some (Some m, z)) q ∙ sym (ap (λ o. Some (o, x)) e) ∙ h)
 
--- A number within the limit of 128 bits is an integer literal.
+-- If a text is an integer within the limit of 128 bits (`HasMagnitude`), it has a parse result as an integer literal.
 pub within_reads : (t x : List ℕ) (m : ℕ) → HasMagnitude t m x → (v : Contents) × ReadsInt t v x
 within_reads t x m w =
     (Digits (sign_text w.sign ++ decimal m), record { sign = w.sign; magnitude = m; reads = w.reads; within = w.within; contents_is = refl })

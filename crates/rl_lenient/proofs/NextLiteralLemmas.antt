@@ -10,7 +10,7 @@ use Rattle.rl_lexer.specs.Lexemes.{LexemeForm, LiteralForm, MarkForm}
 use Rattle.rl_lexer.specs.Cuts.{BeginsLexeme, BeginsNoLexeme}
 use Rattle.rl_lenient.specs.NextLiterals.{BeginsNone, HasNoNumber, HasNoNextLiteral}
 
--- A property that always holds also holds on the condition that an option is `None`.
+-- If `P` holds, `P` holds on the condition that an option is `None`.
 pub if_none : {T P : Type 0} (o : Option T) → P → IfNone o P
 if_none None p = p
 if_none (Some x) p = tt
@@ -28,7 +28,8 @@ pub no_number : (old between : CursorState) (m : Lexeme) → TakesNext old m bet
 no_number old between m takes is none =
     inr (m, between, takes, subst (λ (f : LexemeForm). BeginsNone f m.text.now between) (sym is) (inr none))
 
--- If the rest of a list isn't empty, and no token begins it, the list neither ends there nor continues with a token.
+-- The cursor isn't at the end of a list, and no token begins there. So it is impossible that the cursor is at the end, or
+-- that a token begins there.
 pub nothing_else : (t ahead : CursorState) → t.rest ≢ [] → ahead ≡ t → BeginsNoLexeme (chars ahead.rest)
     → ((t.rest ≡ []) ⊎ BeginsLexeme (chars t.rest)) → ⊥
 nothing_else t ahead some is none (inl nothing) = some nothing

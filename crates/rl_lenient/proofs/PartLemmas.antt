@@ -29,7 +29,8 @@ found_float t x kind e h = let r = subst (λ (k : Kind). HasSuffix k t x) e h in
 
 -- ---- sequences of digits
 
--- If a text is split before the text that follows its leading digits, the first part is the leading digits.
+-- A text is split into `front` and `rest`. If `rest` is the text after the leading digits and underscores, `front` is those
+-- digits and underscores.
 pub row_front : (t front rest : List ℕ) → t ≡ front ++ rest → rest ≡ after_digits 10 t → front ≡ digit_run_at 10 t
 row_front t front rest is stops =
     append_cancel_right front (digit_run_at 10 t) rest (sym is ∙ run_join (is_run_part (has_value 10)) t

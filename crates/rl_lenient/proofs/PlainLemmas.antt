@@ -73,13 +73,13 @@ changed_some t mark rest n =
     sym (sym (all_same t) ∙ ap (list_all (is_other changed)) n.text_is
     ∙ all_breaks (is_other changed) n.front mark rest (marked_stops (is_one_of changed mark) n.is_mark))
 
--- If a body and a sequence of characters that pass a test are equal when the same text follows both, all characters of the body
--- pass the test.
+-- `run` consists of characters that pass a test. If the body and `run` are equal when `rest` follows each of them, all
+-- characters of the body pass the test.
 pub one_run : (q : ℕ → Bool) (body run rest : List ℕ) → body ++ rest ≡ run ++ rest → list_all q run ≡ true → true
     ≡ list_all q body
 one_run q body run rest cut plain = sym (ap (list_all q) (append_cancel_right body run rest cut) ∙ plain)
 
--- If the sequence of characters that pass a test ends before the body does, not all characters of the body pass the test.
+-- If the leading characters that pass a test end inside of a body, not all characters of the body pass the test.
 pub no_run : (q : ℕ → Bool) (body run following rest more : List ℕ) → body ++ rest ≡ run ++ following → following ≡ more
     ++ rest → first_passes q following ≡ false → (following ≡ rest → ⊥) → false ≡ list_all q body
 no_run q body run following rest [] cut after_is stops goes_on = absurd (goes_on after_is)

@@ -87,7 +87,7 @@ onto_first (suc k) n acc l h = go (n / 10 == 0) refl (λ above. onto_first k (n 
     go true e more = glyph_above n l e
     go false e more = more (quotient_above n e)
 
--- A test that every character passes. It shows that the digits of a number aren't empty.
+-- A test that every character passes. Lemmas use it to prove that a number has at least one digit.
 abbrev is_any : ℕ → Bool
 is_any c = true
 
@@ -268,7 +268,7 @@ plain_body t body x s m r h cut p =
     (ap after_minus is ∙ (minus_past s u (begins_at r.base r.digits x r.front r.some)).0)) ∙ p in
     is ∙ ap (λ z. sign_text s ++ z) (sym (plain_based r.base r.digits m plain r.magnitude_is h))
 
--- If the characters of a text are those of a body and then some more, its bytes are the body and then the encoding of the others.
+-- If the characters of a text are the characters of `b` and then x, the text's bytes are `b` and then the encoding of x.
 bytes_cut : (t b x : List ℕ) → IsUtf8 t → IsUtf8 b → chars t ≡ chars b ++ x → t ≡ b ++ encode_utf8_all x
 bytes_cut t b x ut ub e =
     sym (encodes-chars t ut) ∙ ap encode_utf8_all e ∙ encodes-append (chars b) x
@@ -367,7 +367,7 @@ pub plain_numeral : (t body x : List ℕ) → FloatReads t body x → is_plain_f
 plain_numeral t body x r p numeral y s =
     sym (same_digits body p) ∙ ap float_digits (float_once t body numeral x y r s).0
 
--- If bytes are the digits of a number, equal bytes are the digits too.
+-- Bytes that are equal to the digits of a number are the digits of the number.
 pub held : (k : Kind) (t bytes s : List ℕ) → AreDigits k t (chars bytes) → s ≡ bytes → AreDigits k t (chars s)
 held k t bytes s d e = subst (λ z. AreDigits k t (chars z)) (sym e) d
 

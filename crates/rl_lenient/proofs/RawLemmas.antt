@@ -49,7 +49,8 @@ hashes_no_quote (suc n) x = hashes_no_quote n x
 abbrev pub inner : ℕ → List ℕ → List ℕ → List ℕ
 inner n inside suffix = inside ++ (34 ∷ (replicate n 35 ++ suffix))
 
--- The hashes and the first quote of a raw string are the leading hashes of the text after its prefix, and the quote after them.
+-- In the text after a raw string's prefix, the leading hashes are the string's hashes, and the string's first quote follows
+-- them.
 pub raw_front : (kind : Kind) (t v x hashes : List ℕ) (r : Raw kind (raw_opener kind ++ t) v x) → t ≡ hashes
     ++ (after_run is_hash) t → (hashes ≡ replicate r.hashes 35)
     × ((after_run is_hash) t ≡ 34 ∷ inner r.hashes r.inside x)

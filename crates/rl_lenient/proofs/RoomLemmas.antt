@@ -13,8 +13,8 @@ use Rattle.rl_lenient.specs.Mirrors.UnitAt.{piece_value, IsHeldBy, unit_at}
 use Rattle.rl_lenient.proofs.BodyLemmas.{row_shrinks}
 use Rattle.rl_lenient.proofs.ContentLemmas.{decode_run, decode_step}
 
--- The decoded bytes of the characters and escapes that were passed, together with the rest of the text, are at most as long as
--- the text.
+-- `rest` is the part of a text that isn't decoded yet. The bytes that were decoded from the part before `rest`, and the
+-- bytes of `rest`, are together at most as long as the text.
 row_room : (kind : Kind) (text rest v bytes : List ℕ) → BeginsRun kind (chars text) v (chars rest) → bytes
     ≡ in_bytes kind v → IsUtf8 text → IsUtf8 rest → length bytes + length rest ≤ length text
 row_room kind text rest v bytes row are ut ur =
@@ -28,8 +28,8 @@ row_room kind text rest v bytes row are ut ur =
     (are ∙ ap (in_bytes kind) row.value_is) in
     omega (arith, longer, value, shrinks.no_longer)
 
--- The decoder's buffer begins with the value of the characters and escapes that were passed. It has room for the rest of the
--- text.
+-- The decoder's buffer begins with the value of the characters and escapes before `rest`, the part of the text that isn't
+-- decoded yet. The buffer has room for `rest`.
 pub record IsFilled (kind : Kind) (text rest out : List ℕ) (at : ℕ) : Type 0 where
   pub value : List ℕ
   pub run : BeginsRun kind (chars text) value (chars rest)

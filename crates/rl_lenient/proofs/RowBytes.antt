@@ -14,7 +14,8 @@ use Rattle.rl_lenient.proofs.DigitRowLemmas.{row_digit}
 abbrev Read : Type 0
 Read = Bool × Option ℕ × List ℕ
 
--- The result of parsing digits in a base at a character, from whether the character is an underscore or a digit.
+-- The result of parsing digits in a base from the character c on. `mark` tells whether c is an underscore, and `digit` tells
+-- whether c is a digit.
 abbrev At : ℕ → Bool → Option ℕ → ℕ → List ℕ → Bool → Bool → Read
 At r some m c cs mark digit = cond mark (run_from r some m cs)
     (cond digit (run_from r true (append_digit r m (digit_value c)) cs) (some, m, c ∷ cs))

@@ -37,8 +37,8 @@ run_join test (c ∷ cs) = go (run_join test cs) (test c)
     go ih true = ap (λ z. c ∷ z) ih
     go ih false = refl
 
--- If all characters of `row` pass a test, and `x` doesn't begin with a character that does, `row` is the leading sequence of
--- passing characters of `row ++ x`, and `x` follows it.
+-- All characters of `row` pass a test, and x doesn't begin with a character that passes the test. Then the leading passing
+-- characters of `row ++ x` are `row`, and x follows them.
 pub run_past : (test : ℕ → Bool) (row x : List ℕ) → list_all test row ≡ true → first_passes test x ≡ false
     → (run test (row ++ x) ≡ row) × (after_run test (row ++ x) ≡ x)
 unfolding run

@@ -117,9 +117,9 @@ all_make kind text start end ss whole p none =
 
 -- ---- offsets in order
 
--- A function that gives the offset of a byte of a value within the character or escape that the byte comes from. The offset is
--- within the text of the character or escape. Later bytes have later offsets. Characters and escapes with equal texts have equal
--- offsets, if both or neither represent themselves.
+-- A function that gives an offset in the text of a character or escape for each byte of its value. The offset is within the
+-- text. A later byte doesn't have a smaller offset. If two characters or escapes have equal texts, and both or neither
+-- represent themselves, their offsets are equal.
 pub record IsPlacing (inside : QuotedUnit → ℕ → ℕ) : Type 0 where
   pub within : (kind : Kind) (u : QuotedUnit) (at : ℕ) → at < length (unit_bytes kind u)
       → inside u at ≤ byte_len (unit_text u)
@@ -180,7 +180,7 @@ order_in inside p kind (u ∷ us) at next h =
     (λ small. absurd (omega (arith, h, large, small)))
     (λ large_too. omega (arith, order_in inside p kind us (at - n) (next - n) (omega (arith, h, large)))))
 
--- The range of the text that a byte of the value comes from begins no later than it ends.
+-- The range that encodes a byte of the value begins no later than it ends.
 ends_after : (kind : Kind) (us : List QuotedUnit) (at : ℕ) → unit_place begins_in kind us at ≤ unit_place ends_in kind
     us at
 ends_after kind [] at = omega arith
@@ -195,9 +195,9 @@ ends_after kind (u ∷ us) at =
     go true more = cond_order (is_itself u) at (at + 1) 0 (byte_len (unit_text u)) (omega arith) (omega arith)
     go false more = omega (arith, more)
 
--- ---- each byte of the value of a text between quotes comes from one offset
+-- ---- each byte of the value of a text between quotes has one offset
 
--- The first character of a character or escape shows whether it represents itself.
+-- The first character of the text of a character or escape decides whether the text represents itself.
 told : (kind : Kind) (u : QuotedUnit) → IsUnit kind u → is_itself u ≡ first_passes (is_plain kind) (unit_text u)
 told kind (Plain c) h = sym h
 told kind CrLf h = sym (quote_and_return kind h).1
@@ -348,7 +348,8 @@ units_long kind false body us are =
     let text = ap byte_len are.text_is in
     (sym text, omega (arith, text, ap length (values_bytes kind us), (row_shrinks kind us are.each).no_longer))
 
--- If a body is its own value, each byte of the value comes from the byte at its offset in the body.
+-- If a body is its own value, the offset of a byte of the value in the body's text is its offset in the value, plus `d`. For
+-- the offset where the byte begins, `d` is 0. For the offset where it ends, `d` is 1.
 itself_places : (inside : QuotedUnit → ℕ → ℕ) (d : ℕ) → ((c i : ℕ) → inside (Plain c) i ≡ i + d)
     → (kind : Kind) (plain : Bool) (body : List ℕ) (us : List QuotedUnit) (at : ℕ) → plain ≡ true
     → AreUnitsIn kind plain body us → at < byte_len body → unit_place inside kind us at ≡ at + d
@@ -420,7 +421,7 @@ stands_in kind t body u q =
       within_end = ends.within;
     }
 
--- The offset that a byte of the value comes from is within the literal's text.
+-- The offset in a literal's text that belongs to a byte of the value is within the text.
 in_text : (inside : QuotedUnit → ℕ → ℕ) → IsPlacing inside → (kind : Kind) (t : List ℕ) (at place : ℕ)
     → IsGivenAt inside kind t at place → place ≤ byte_len t
 in_text inside w kind t at place p = go p.units_are

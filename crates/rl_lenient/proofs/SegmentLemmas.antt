@@ -59,7 +59,8 @@ row_stands kind t (u ∷ us) row some h =
     let e : None ≡ found (unit_value kind u) (texts us) = sym h ∙ ap (unit_at kind) row.text_is
     ∙ unit_complete kind u (texts us) row.each.0 row.ends.0 in absurd (cc)
 
--- If plain characters begin a sequence of characters and escapes, the text after the plain characters is a sequence of them too.
+-- If plain characters and a text `b`, joined, are a sequence of characters and escapes, `b` is a sequence of characters and
+-- escapes.
 pub row_after_run : (kind : Kind) (run b : List ℕ) (us : List QuotedUnit) → list_all (is_plain kind) run ≡ true
     → IsUnitRun kind (run ++ b) us → (ws : List QuotedUnit) × IsUnitRun kind b ws
 row_after_run kind [] b us plain row = (us, row)
@@ -168,7 +169,7 @@ unit_front kind false t b piece v is stops unit fits named value none has =
     }
 unit_front kind true t b piece v is stops unit fits named value none has = absurd (cc)
 
--- If the characters of a text are those of two texts one after the other, the text is these two texts one after the other.
+-- If the characters of a text are the characters of `a` and then those of `b`, the text is `a` and then `b`.
 pub cut_bytes : (t a b : List ℕ) → IsUtf8 t → IsUtf8 a → IsUtf8 b → chars t ≡ chars a ++ chars b → t ≡ a ++ b
 cut_bytes t a b ut ua ub e = sym (encodes-chars t ut) ∙ ap encode_utf8_all e ∙ encodes-append (chars a) (chars b)
     ∙ ap (λ z. z ++ encode_utf8_all (chars b)) (encodes-chars a ua) ∙ ap (λ z. a ++ z) (encodes-chars b ub)
@@ -185,7 +186,7 @@ unit_there kind plain text is u some has none =
     let row = row_of kind plain (chars text) is has in
     row_stands kind (chars text) row.0 row.1 (λ e. some (sym (encodes-chars text u) ∙ ap encode_utf8_all e)) none
 
--- If a test says that a list isn't empty, its length is above 0.
+-- If the test of whether a list is empty returns `false`, the list's length is above 0.
 pub some_length : (empty : Bool) (xs : List ℕ) → empty ≡ (length xs == 0) → empty ≡ false → 0 < length xs
 some_length empty [] e some = absurd (both_ways empty some e)
 some_length empty (x ∷ xs) e some = omega arith
@@ -244,8 +245,8 @@ tested P a n x y f g = go (ltb a n) refl
     go true e = f (ltb-true a n e)
     go false e = g (ltb-false a n e)
 
--- If a byte of the value comes after the values of some characters and escapes, its offset is the length of their text and the
--- offset in the text after them.
+-- A value begins with the value of the characters and escapes `done`. The offset of a byte after that value is the length of
+-- their text, plus the byte's offset in the text after them.
 pub place_past : (inside : QuotedUnit → ℕ → ℕ) (kind : Kind) (done us : List QuotedUnit) (at left : ℕ) → at
     ≡ length (units_bytes kind done) + left → unit_place inside kind (done ++ us) at
     ≡ byte_len (texts done) + unit_place inside kind us left
@@ -263,8 +264,8 @@ place_past inside kind (u ∷ done) us at left e =
     (λ small. absurd (omega (arith, total, small)))
     (λ large. omega (arith, more, byte_len_append (unit_text u) (texts done)))
 
--- The offset of a byte in a sequence of plain characters is the byte's position in the sequence, plus `d`. For the offset where
--- the byte begins, `d` is 0, and for the offset where it ends, `d` is 1.
+-- In a text that begins with plain characters, the offset of the byte `at` of their value is `at + d`. For the offset where
+-- a byte begins, `d` is 0. For the offset where a byte ends, `d` is 1.
 pub place_in_run : (inside : QuotedUnit → ℕ → ℕ) (d : ℕ) (kind : Kind) (cs : List ℕ) (us : List QuotedUnit) (at : ℕ)
     → ((c i : ℕ) → inside (Plain c) i ≡ i + d) → at < length (encode_utf8_all cs)
     → unit_place inside kind (map Plain cs ++ us) at ≡ at + d
@@ -285,12 +286,13 @@ begins_plain c i = omega arith
 pub ends_plain : (c i : ℕ) → ends_in (Plain c) i ≡ i + 1
 ends_plain c i = refl
 
--- The offset of a byte of the first character or escape of a sequence is the offset within this character or escape.
+-- For a byte of the first character or escape of a sequence, the offset in the sequence is the offset within this character
+-- or escape.
 pub place_in_unit : (inside : QuotedUnit → ℕ → ℕ) (kind : Kind) (u : QuotedUnit) (us : List QuotedUnit) (at : ℕ)
     → at < length (unit_bytes kind u) → unit_place inside kind (u ∷ us) at ≡ inside u at
 place_in_unit inside kind u us at small = rw (lt-ltb at (length (unit_bytes kind u)) small) refl
 
--- The segment is one escape or one line end CR LF. The offset of a byte in it is that in the escape or line end.
+-- The segment is one escape or one line end CR LF. For the byte `at` of its value, `inside` gives the offset in the segment.
 pub record IsOneUnit (inside : QuotedUnit → ℕ → ℕ) (kind : Kind) (units us : List QuotedUnit) (at : ℕ) : Type 0 where
   pub unit : QuotedUnit
   pub are : units ≡ unit ∷ []
@@ -368,7 +370,7 @@ text_long kind v run units s e = go v e s
     go (Byte b) e s = absurd (cc)
     go Nothing e s = absurd (cc)
 
--- The offset that a byte of a segment's value comes from is before the end of the segment.
+-- The start of the range that encodes a byte of a segment's value is before the end of the segment.
 pub place_below : (kind : Kind) (s : Segment) (units : List QuotedUnit) (i : ℕ) → IsSegmentOf kind s.value units → s.hi
     ≡ s.lo + byte_len (texts units) → s.lo < s.hi → i < length (value_bytes s.value) → segment_place s i < s.hi
 place_below kind s units i is_segment long some small = go s.value refl
@@ -485,7 +487,8 @@ past_left inside s at place p e = record { units = p.units; are_left = p.are_lef
 
 -- ---- tables
 
--- The offset that a byte comes from is unchanged by the characters and escapes after it.
+-- The offset that belongs to a byte of the value of some characters and escapes doesn't change if further characters and
+-- escapes follow them.
 pub place_before : (inside : QuotedUnit → ℕ → ℕ) (kind : Kind) (done more : List QuotedUnit) (at : ℕ)
     → at < length (units_bytes kind done) → unit_place inside kind (done ++ more) at ≡ unit_place inside kind done at
 place_before inside kind [] more at h = absurd (omega (arith, h))
@@ -503,7 +506,7 @@ place_before inside kind (u ∷ done) more at h =
     go true e ih = refl
     go false e ih = ap (λ z. byte_len (unit_text u) + z) (ih (ltb-false at (length (unit_bytes kind u)) e))
 
--- Returns the span of the part of a literal that a byte of the literal's value comes from.
+-- Returns the span of the range of a literal's text that encodes a byte of the literal's value.
 abbrev pub unit_span : SegmentsState → Span → List QuotedUnit → ℕ → Span
 unit_span s base units at = span_from base (s.at + unit_place begins_in s.kind units at)
     (s.at + unit_place ends_in s.kind units at)

@@ -29,7 +29,8 @@ plain_row kind cs plain = subst (IsUnitRun kind cs) (append-nil (map Plain cs))
     (subst (λ z. IsUnitRun kind z (map Plain cs ++ [])) (append-nil cs)
     (run_joined kind cs [] [] plain (nothing_row kind)))
 
--- If the text of a sequence of characters and escapes is the body of a string literal, it is the literal's sequence.
+-- If a sequence of characters and escapes has the body of a string literal as its text, it is the sequence of the literal's
+-- characters and escapes.
 cooked_units : (kind : Kind) (t v body x : List ℕ) (units : List QuotedUnit) (lo : ℕ)
     → PartsAre CookedForm kind t v body x → IsUnitRun kind body units → lo ≡ length (opener kind)
     → AreUnitsOf kind t units lo
@@ -61,8 +62,8 @@ append_nothing : (a b : List ℕ) → a ++ b ≡ [] → a ≡ []
 append_nothing [] b e = refl
 append_nothing (c ∷ a) b e = absurd (cc)
 
--- If the text of a sequence of characters and escapes is the body of a character or byte literal, it is the literal's sequence,
--- which has only one element.
+-- If a sequence of characters and escapes has the body of a character or byte literal as its text, it has one element: the
+-- literal's character or escape.
 single_units : (kind : Kind) (t v body x : List ℕ) (units : List QuotedUnit) (lo : ℕ)
     → PartsAre SingleForm kind t v body x → IsUnitRun kind body units → lo ≡ length (opener kind)
     → AreUnitsOf kind t units lo

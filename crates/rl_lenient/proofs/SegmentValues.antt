@@ -57,7 +57,7 @@ character_named kind (Hex high low) b allowed other = refl
 character_named kind (Unicode first more) b allowed other = refl
 character_named kind (Continuation c run) b allowed other = no_line_end c allowed.1
 
--- If two characters have equal values in literals of a kind, they are equal.
+-- If two characters have equal values in literals of a kind, the characters are equal.
 one_content : (kind : Kind) (n c : ℕ) → IsScalar n → IsScalar c → content_of kind (n ∷ []) ≡ content_of kind (c ∷ [])
     → n ≡ c
 one_content kind n c s t e = go (decodes_to_chars kind) e
@@ -97,7 +97,8 @@ piece_as_unit kind p (Unicode first more) held allowed other e named = unicode_p
     held allowed.4 e named
 piece_as_unit kind p (Continuation c run) held allowed other e named = no_piece kind p e named
 
--- The segment value of the first character or escape of a text is that of its parsed value.
+-- The code's value of an escape or line end at the start of a text, as the value of a segment, is the segment value by the
+-- definitions.
 pub piece_in_front : (kind : Kind) (p : Piece) (u : QuotedUnit) (t b : List ℕ) → IsHeldBy kind p → IsUnit kind u
     → is_itself u ≡ false → t ≡ unit_text u ++ b → piece_value kind p ≡ unit_value kind u
     → is_character p ≡ is_character_at kind t → piece_segment kind p ≡ unit_segment kind u

@@ -1,4 +1,4 @@
--- The bytes of a quoted literal are split as its characters are.
+-- The split of a quoted literal's characters into parts is also a split of its bytes.
 use Rattle.rl_syntax.proofs.Common.{◌≡◌, ℕ, zero, suc, List, [], ◌∷◌, ◌++◌, replicate, refl, sym, ap, ◌∙◌, inl, inr, arith, encode_utf8_all, IsAscii, IsUtf8, encodes-chars, encodes-append}
 use Rattle.rl_lenient.proofs.Names.{Kind, Str, ByteStr, CStr, Byte, Char, Int, Float, BoolKind, opener, raw_opener}
 use Rattle.std.specs.Str.{chars}
@@ -47,8 +47,8 @@ quote_bytes cs = refl
 
 -- ---- the parts of a literal, joined as bytes
 
--- If an ASCII text precedes a second text, the bytes of both are the characters of the ASCII text, and then the bytes of the
--- second.
+-- The bytes of two joined texts, where the first is ASCII, are the characters of the first text and the bytes of the second
+-- text.
 front_bytes : (front cs bs : List ℕ) → encode_utf8_all front ≡ front → encode_utf8_all cs ≡ bs
     → encode_utf8_all (front ++ cs) ≡ front ++ bs
 front_bytes front cs bs f e = encodes-append front cs ∙ ap (λ z. z ++ encode_utf8_all cs) f ∙ ap (λ z. front ++ z) e

@@ -17,7 +17,7 @@ use Rattle.rl_lenient.proofs.UnitLemmas.{some_pair, unit_complete, unit_sound}
 
 -- ---- the value of one character or escape
 
--- A property of `Byte` and of `Char` holds for each kind of literals with a single character or escape.
+-- If a property holds for the kinds `Byte` and `Char`, it holds for each kind of literals with a single character or escape.
 by_single : (P : Kind → Type 0) (kind : Kind) → is_single kind ≡ true → P Byte → P Char → P kind
 by_single P Byte s b c = b
 by_single P Char s b c = c
@@ -30,7 +30,7 @@ unit_one kind a p s unit =
     let begun = unit_sound kind a p unit in
     let one = one_value kind begun.unit s begun.allowed in (one.0, begun.value_is ∙ one.1)
 
--- The value of a character in a character or byte literal is the number of the character, if the value is one number.
+-- If the value of a character in a character or byte literal is one number, it is the code point of the character.
 pub character_unit : (kind : Kind) (c n : ℕ) → is_single kind ≡ true → IsScalar c → piece_value kind (Character c)
     ≡ n ∷ [] → IsUnitValue kind (piece_value kind (Character c)) c
 character_unit kind c n s scalar one = by_single (λ k. piece_value k (Character c) ≡ n ∷ []
@@ -54,11 +54,11 @@ byte_unit kind b s small = by_single (λ k. IsUnitValue k (b ∷ []) b) kind s o
     of_character : IsUnitValue Char (b ∷ []) b
     of_character = record { one = λ h. refl; byte = λ h. absurd (cc); character = λ h. grind (arith, nat_tests); none = λ h k. absurd (k refl) }
 
--- In the parse result of a string literal, the number for a character or byte is 0.
+-- In the parse result of a string literal, the field for the value of a character or byte literal is 0.
 pub no_unit : (kind : Kind) (v : List ℕ) → is_string kind ≡ true → IsUnitValue kind v 0
 no_unit kind v s = record { one = λ h. absurd (not_both kind s h); byte = λ h. omega arith; character = λ h. refl; none = λ h k. refl }
 
--- If the value of a character or byte literal's parts is one number, the number is the literal's value.
+-- If the number n is the value of the one character or escape in a character or byte literal, n is the literal's value.
 pub unit_reads : (form : QuotedForm) (kind : Kind) (t v body x : List ℕ) (n : ℕ) → is_single kind ≡ true
     → PartsAre form kind t v body x → IsUnitValue kind v n → IsUnitOf kind t n
 unit_reads form kind t v body x n s parts is = by_single (λ k. PartsAre form k t v body x → IsUnitValue k v n
@@ -107,7 +107,8 @@ single_parts : (form : QuotedForm) (kind : Kind) (t value body suffix : List ℕ
 single_parts SingleForm kind t value body suffix s p = p
 single_parts k kind t value body suffix s p = absurd (not_both kind p.0.string s)
 
--- The text at the byte offsets of the body of a character or byte literal is its body.
+-- In the parse result of a character or byte literal, the text at the body's byte offsets is the text between the literal's
+-- quotes.
 pub single_at : (kind : Kind) (t : List ℕ) (body : Body) → is_single kind ≡ true → IsQuotedAt kind t body
     → HasSingleBody kind (chars t) (body_in t body)
 single_at kind t body s at =

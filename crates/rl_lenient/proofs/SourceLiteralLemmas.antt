@@ -1,9 +1,9 @@
--- The end of a source, where neither a token nor an error begins the rest of the source.
+-- The end of a source: the position where neither a token nor an error begins.
 use Rattle.rl_syntax.proofs.Common.{◌≡◌, ◌⊎◌, inl, inr, ℕ, List, []}
 use Rattle.std.specs.Str.{chars}
 use Rattle.rl_lexer.specs.Sources.{SourceKind, SourceBefore, BeginsNoSource}
 
--- If neither a token nor an error begins the rest of a source, the rest is empty.
+-- If neither a token nor an error begins at a position of a source, the position is the end of the source.
 pub at_end : (rest : List ℕ) → BeginsNoSource (chars rest) →
     ((rest ≡ []) ⊎ ((kind : SourceKind) × (after : List ℕ) × SourceBefore (chars rest) kind after)) → rest ≡ []
 at_end rest none (inl empty) = empty

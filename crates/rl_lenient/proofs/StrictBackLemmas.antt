@@ -8,8 +8,8 @@ use Rattle.rl_syntax.specs.Strict.{spaced_digit, is_octal, is_unicode_escape, Ha
 use Rattle.rl_syntax.proofs.Basics.{hex_is_sixteen}
 use Rattle.rl_syntax.proofs.StrictQuoted.{hex_first, bare_digits, digits_count}
 
--- A character or escape of Rust's grammar, other than an escaped line end, that has the text and the value of one of `syn`'s
--- grammar.
+-- A character or escape of Rust's grammar, other than an escaped line end. It has the text and the value of `u`, a character
+-- or escape of `syn`'s grammar.
 pub record Back (k : Kind) (u : QuotedUnit) : Type 0 where
   pub unit : StrictUnit
   pub is_unit : is_strict_unit k unit ≡ true
@@ -27,7 +27,7 @@ not_either : (a b : Bool) → not (a || b) ≡ (not a && not b)
 not_either true b = refl
 not_either false b = refl
 
--- For all kinds except `Char`, both grammars allow a character unescaped, or neither does.
+-- For each kind except `Char`, the two grammars agree on whether a literal may contain a character unescaped.
 pub plain_is_bare : (k : Kind) (c : ℕ) → (k ≡ Char → ⊥) → is_plain k c ≡ is_strict_unit k (Itself c)
 plain_is_bare Str c n = refl
 plain_is_bare ByteStr c n = refl
@@ -49,17 +49,18 @@ zero_letter : (k : Kind) → allows_code k 0 ≡ true → is_strict_unit k (Plai
 zero_letter CStr h = absurd (cc)
 zero_letter _ h = refl
 
--- An escape of a backslash and one character, as `\n`, has an equal one in Rust's grammar.
+-- If Rust's grammar allows the escape of a backslash and one character, as `\n`, with an equal value, the escape has an
+-- equal escape in Rust's grammar.
 plain_escape : (k : Kind) (l : Letter) → is_strict_unit k (PlainEscape (letter_text l)) ≡ true → letter_value l ∷ []
     ≡ strict_contents (strict_content_of k) (PlainEscape (letter_text l)) → Back k (Named l)
 plain_escape k l h v = record { unit = PlainEscape (letter_text l); is_unit = h; no_break = λ b e. absurd (cc); text_is = refl; value_is = v }
 
--- The escape of a quote has an equal one in Rust's grammar.
+-- If Rust's grammar allows the escape of a quote, the escape has an equal escape in Rust's grammar.
 quote_escape : (k : Kind) (l : Letter) → is_strict_unit k (QuoteEscape (letter_text l)) ≡ true → letter_value l
     ≡ letter_text l → Back k (Named l)
 quote_escape k l h v = record { unit = QuoteEscape (letter_text l); is_unit = h; no_break = λ b e. absurd (cc); text_is = refl; value_is = ap (λ n. n ∷ []) v }
 
--- Each escape of a backslash and one character has an equal one in Rust's grammar.
+-- Each escape of a backslash and one character has an equal escape in Rust's grammar.
 pub named_escape : (k : Kind) (l : Letter) → allows_code k (letter_value l) ≡ true → Back k (Named l)
 named_escape k LowerN h = plain_escape k LowerN (escape_letter k 110 refl refl) refl
 named_escape k LowerR h = plain_escape k LowerR (escape_letter k 114 refl refl) refl
@@ -79,17 +80,17 @@ small_high : (high low : ℕ) → nat_lt (hex_value high low) 128 ≡ true → i
 small_high high low h = let e : hex_value high low < 128 = ltb-true (hex_value high low) 128 h in lt-ltb
     (digit_value high) 8 (omega arith)
 
--- An escape `\x` of an ASCII character has an equal one in Rust's grammar.
+-- An escape `\x` of an ASCII character has an equal escape in Rust's grammar.
 ascii_escape : (k : Kind) (high low : ℕ) → is_hex_digit low ≡ true → nat_lt (hex_value high low) 128 ≡ true
     → ((is_octal high && is_ascii_hexdigit low) ≡ true → is_strict_unit k (AsciiEscape high low) ≡ true)
     → Back k (Hex high low)
 ascii_escape k high low l s allowed = record { unit = AsciiEscape high low; is_unit = allowed (and_from _ _ (small_high high low s) (hex_digit_back low l)); no_break = λ b e. absurd (cc); text_is = refl; value_is = refl }
 
--- An escape `\x` of a byte has an equal one in Rust's grammar.
+-- An escape `\x` of a byte has an equal escape in Rust's grammar.
 byte_escape : (k : Kind) (high low : ℕ) → is_strict_unit k (ByteEscape high low) ≡ true → Back k (Hex high low)
 byte_escape k high low h = record { unit = ByteEscape high low; is_unit = h; no_break = λ b e. absurd (cc); text_is = refl; value_is = refl }
 
--- Each escape `\x` has an equal one in Rust's grammar.
+-- Each escape `\x` has an equal escape in Rust's grammar.
 pub hex_escape : (k : Kind) (high low : ℕ) → HasStrictUnits k → IsUnit k (Hex high low) → Back k (Hex high low)
 hex_escape Str high low q u = ascii_escape Str high low u.1 u.2 (λ h. h)
 hex_escape Char high low q u = ascii_escape Char high low u.1 u.2 (λ h. h)
@@ -109,7 +110,7 @@ abbrev group : ℕ → ℕ → List ℕ → List (ℕ × ℕ)
 group first n [] = (first, n) ∷ []
 group first n (c ∷ cs) = cond (eqb c 95) (group first (suc n) cs) ((first, n) ∷ group c 0 cs)
 
--- One more underscore than n is n underscores with an underscore after them.
+-- A list of n + 1 underscores is n underscores and then one more.
 underscore_more : (n : ℕ) (cs : List ℕ) → replicate (suc n) 95 ++ cs ≡ replicate n 95 ++ (95 ∷ cs)
 underscore_more zero cs = refl
 underscore_more (suc n) cs = ap (λ z. 95 ∷ z) (underscore_more n cs)
@@ -172,7 +173,7 @@ unicode_allowed first more h each few s =
     (and_from (scalar (place_value 16 (map (λ d. d.0) (group first 0 more)))) true (subst IsScalar (sym same) s)
     refl)
 
--- An escape `\u{..}` has an equal one in Rust's grammar, if Rust's grammar allows the list of its digits.
+-- If Rust's grammar allows the list of digits of an escape `\u{..}`, the escape has an equal escape in Rust's grammar.
 spaced_escape : (k : Kind) (first : ℕ) (more : List ℕ) → is_strict_unit k (UnicodeEscape (group first 0 more)) ≡ true
     → content_of k (unicode_value first more ∷ []) ≡ strict_content_of k (unicode_value first more ∷ [])
     → place_value 16 (map (λ d. d.0) (group first 0 more)) ≡ unicode_value first more → Back k (Unicode first more)
@@ -184,7 +185,7 @@ spaced_escape k first more h same number = record {
   value_is = same ∙ ap (λ n. strict_content_of k (n ∷ [])) (sym number);
 }
 
--- Each escape `\u{..}` of one to six digits has an equal one in Rust's grammar.
+-- Each escape `\u{..}` of one to six digits has an equal escape in Rust's grammar.
 pub unicode_escape : (k : Kind) (first : ℕ) (more : List ℕ) → HasStrictUnits k → IsUnit k (Unicode first more)
     → Back k (Unicode first more)
 unicode_escape Str first more q u = spaced_escape Str first more (unicode_allowed first more u.1 u.2 u.3 u.4) refl

@@ -32,8 +32,8 @@ line_allowed ByteStr blanks s h = h
 line_allowed CStr blanks s h = h
 line_allowed kind blanks s h = absurd (cc)
 
--- If a character or escape is put before a sequence, and the start of the sequence may follow it, each escaped line end of the
--- longer sequence includes all white space after it.
+-- The character or escape `u` is put before the sequence `us`, whose text may follow `u`. If each escaped line end in `us`
+-- includes all white space after it, so does each escaped line end in the longer sequence.
 pub blanks_cons : (u : StrictUnit) (us : List StrictUnit) → MayEnd u (flat_map strict_text us) → BlanksEnd us
     → BlanksEnd (u ∷ us)
 blanks_cons (LineBreak blanks) us m b = (m, b)
@@ -55,8 +55,8 @@ IsByteKind _ = ⊥
 
 -- ---- a character or escape
 
--- The character or escape of Rust's grammar with the text and the value of one of `syn`'s grammar. If a text may follow that of
--- `syn`'s grammar, it may follow this one too.
+-- A character or escape of Rust's grammar that has the text and the value of `u`, a character or escape of `syn`'s grammar.
+-- Each text that may follow `u` may follow the equal character or escape of Rust's grammar too.
 record Same (k : Kind) (u : QuotedUnit) : Type 0 where
   unit : StrictUnit
   is_unit : is_strict_unit k unit ≡ true
@@ -64,8 +64,8 @@ record Same (k : Kind) (u : QuotedUnit) : Type 0 where
   value_is : unit_value k u ≡ strict_contents (strict_content_of k) unit
   may_end : (t : List ℕ) → EndsBefore u t → MayEnd unit t
 
--- If an escape of `syn`'s grammar has an equal one in Rust's grammar, each text that may follow the first one may follow the
--- second one.
+-- An escape of `syn`'s grammar has an equal escape in Rust's grammar, which isn't an escaped line end. So any text may
+-- follow the equal escape.
 escape_same : (k : Kind) (u : QuotedUnit) → Back k u → Same k u
 escape_same k u b = record { unit = b.unit; is_unit = b.is_unit; text_is = b.text_is; value_is = b.value_is; may_end = λ t e. no_break_ends b.unit t b.no_break }
 
@@ -100,7 +100,7 @@ not_dropped : (t : List ℕ) → first_passes is_blank t ≡ false → first_pas
 not_dropped [] h = refl
 not_dropped (c ∷ t) h = (or_parts (is_dropped_blank c) (c == 13) h).0
 
--- An escaped line end without CR has an equal one in Rust's grammar.
+-- An escaped line end without CR has an equal escape in Rust's grammar.
 line_same : (k : Kind) (c : ℕ) (run : List ℕ) → IsUnit k (Continuation c run) → list_all no_return (92 ∷ c ∷ run) ≡ true
     → Same k (Continuation c run)
 line_same k c run u n =
@@ -148,7 +148,7 @@ row_same k (u ∷ us) b e c n =
 
 -- ---- byte strings with escapes, and byte literals
 
--- If a text contains no CR, neither does the part between its first two characters and the text `after`.
+-- If a text without CR is two characters, `inner` and `after`, then `inner` contains no CR.
 inner_clean : (a b : ℕ) (text inner after : List ℕ) → text ≡ a ∷ b ∷ (inner ++ after) → list_all no_return text ≡ true
     → list_all no_return inner ≡ true
 inner_clean a b text inner after e n =

@@ -4,12 +4,12 @@ use Rattle.std.proofs.Math.Nat.{mul-le-mul_left}
 use Rattle.rl_lenient.specs.Mirrors.NumberAt.{append_digit, capped}
 use Rattle.rl_lenient.proofs.DigitRowLemmas.{append_capped, capped_within}
 
--- Arithmetic: if the digits of a number are its first digits w and its last digits v, a digit d that is appended to the last
--- digits is appended to the number.
+-- Arithmetic: the number of all digits is `w * s + v`, where v is the number of the last digits. If v and s are updated for
+-- one more digit d in the base r, the number of all digits is the old one with d appended.
 spread : (w s r v d : ℕ) → w * (s * r) + (v * r + d) ≡ (w * s + v) * r + d
 spread w s r v d = omega arith
 
--- If a digit is appended to the last digits of a number, it is appended to all of its digits.
+-- Appending a digit to the last digits of a number gives the number of all digits with the digit appended.
 pub append_last : (s r : ℕ) (m : Option ℕ) (v d : ℕ) → 1 ≤ r → append_digit (s * r) m (v * r + d)
     ≡ append_digit r (append_digit s m v) d
 append_last s r None v d h = refl

@@ -3,13 +3,13 @@ use Rattle.rl_syntax.proofs.Common.{◌≡◌, ◌∙◌, ℕ, Bool, true, false
 use Rattle.rl_lenient.proofs.Names.{first_passes}
 use Rattle.std.proofs.lemmas.Bool.{and_left, and_right}
 
--- If a text begins with a character that passes a test, it does so too if any other text is appended.
+-- If a text begins with a character that passes a test, so does the text with any other text appended.
 pub passes_more : (test : ℕ → Bool) (a b : List ℕ) → first_passes test a ≡ true → first_passes test (a ++ b) ≡ true
 passes_more test [] b h = absurd (cc)
 passes_more test (c ∷ cs) b h = h
 
--- If a text begins with `front` and the character c, and its first character doesn't pass a test, the first character of any
--- other text that begins with `front` and c doesn't either.
+-- A text begins with `front` and the character c, and its first character fails a test. Then the first character of each
+-- text that begins with `front` and c fails the test.
 pub goes_on : (test : ℕ → Bool) (front rest t : List ℕ) (c : ℕ) (cs e : List ℕ) → t ≡ front ++ rest → rest ≡ c ∷ cs
     → first_passes test t ≡ false → first_passes test (front ++ (c ∷ e)) ≡ false
 goes_on test [] rest t c cs e a b k = sym (ap (first_passes test) (a ∙ b)) ∙ k

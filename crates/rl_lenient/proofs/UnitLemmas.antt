@@ -10,7 +10,7 @@ chosen : {A : Type 0} (b : Bool) (x y z : A) → cond b x y ≡ z → ((b ≡ tr
 chosen true x y z h = inl (refl, h)
 chosen false x y z h = inr (refl, h)
 
--- If a choice between a value and `None` returns the value, its condition is true.
+-- If a choice between a value and `None` returns the value, the condition of the choice is true.
 allowed_some : {A : Type 0} (b : Bool) (x y : A) → cond b (Some x) None ≡ Some y → (b ≡ true) × (Some x ≡ Some y)
 allowed_some true x y h = (refl, h)
 allowed_some false x y h = absurd (cc)
@@ -21,7 +21,8 @@ bind_some : {A B : Type 0} (o : Option A) (f : A → Option B) (y : B) → optio
 bind_some None f y h = absurd (cc)
 bind_some (Some x) f y h = (x, refl, h)
 
--- Two options of pairs are equal only if both parts of the pairs are. The tactic `cc` doesn't split pairs.
+-- If `Some` of one pair equals `Some` of another pair, the pairs have equal first parts and equal second parts. The tactic
+-- `cc` doesn't split pairs.
 pub some_pair : {A B : Type 0} (p q : A × B) → Some p ≡ Some q → (p.0 ≡ q.0) × (p.1 ≡ q.1)
 some_pair p q h = let e : p ≡ q = cc in (ap (λ x. x.0) e, ap (λ x. x.1) e)
 
@@ -352,7 +353,7 @@ pub record Begins (kind : Kind) (t v r : List ℕ) : Type 0 where
   pub text_is : t ≡ unit_text unit ++ r
   pub value_is : v ≡ unit_value kind unit
 
--- A literal of any kind may contain each character or byte whose number isn't 0.
+-- The value of a literal of any kind may contain each code point or byte other than 0.
 pub holds_more : (kind : Kind) (n : ℕ) → eqb n 0 ≡ false → allows_code kind n ≡ true
 holds_more Str n h = refl
 holds_more ByteStr n h = refl
@@ -476,7 +477,7 @@ unit_sound kind (c ∷ cs) p h =
       ]
     ]
 
--- A backslash isn't a plain character, which is its own value, in literals of any kind.
+-- In literals of any kind, a backslash isn't a plain character, which is a character that is its own value.
 pub backslash_not_plain : (kind : Kind) → is_plain kind 92 ≡ false
 backslash_not_plain Str = refl
 backslash_not_plain ByteStr = refl
@@ -487,7 +488,7 @@ backslash_not_plain Int = refl
 backslash_not_plain Float = refl
 backslash_not_plain BoolKind = refl
 
--- A string may contain neither its quote nor a CR as a plain character, which is its own value.
+-- In strings of any kind, neither a double quote nor a CR is a plain character, which is a character that is its own value.
 pub quote_and_return : (kind : Kind) → is_string kind ≡ true → (is_plain kind 34 ≡ false) × (is_plain kind 13 ≡ false)
 quote_and_return Str h = (refl, refl)
 quote_and_return ByteStr h = (refl, refl)

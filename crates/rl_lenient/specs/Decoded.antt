@@ -1,4 +1,4 @@
--- The bytes that the functions which decode quoted literals write.
+-- The bytes that the decoders of quoted literals write.
 use Rattle.std.specs.Prelude.{◌≡◌, ℕ, List, [], ◌∷◌, encode_utf8, encode_utf8_all, if◌then◌else◌, IsTrue}
 use Rattle.rl_syntax.specs.declared.kind.Kind.{Kind}
 use Rattle.rl_syntax.specs.Quoted.{decodes_to_chars, is_string}
@@ -16,7 +16,7 @@ piece_bytes Nothing = []
 abbrev pub in_bytes : Kind → List ℕ → List ℕ
 in_bytes kind v = if decodes_to_chars kind then encode_utf8_all v else v
 
--- The bytes are those of the value of the text as a string literal, in whichever way the text is parsed.
+-- The bytes are the literal's value by each parse result of the text as a string literal.
 abbrev pub HoldsBytes : List ℕ → List ℕ → Type 0
 HoldsBytes text bytes =
     (kind : Kind) (v : Contents) (x : List ℕ) → IsTrue (is_string kind)

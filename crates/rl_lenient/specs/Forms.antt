@@ -6,7 +6,8 @@ use Rattle.rl_syntax.specs.Quoted.{Cooked, Raw, Single, is_string, is_single, is
 use Rattle.rl_lenient.specs.declared.quoted_forms.QuotedForm.{QuotedForm}
 use Rattle.rl_lenient.specs.declared.quoted_forms.QuotedForm.TheVariants.{Cooked as CookedForm, Raw as RawForm, Single as SingleForm}
 
--- Whether literals of the kind can have the form. Strings can be with escapes or raw, and characters and bytes are single.
+-- Whether literals of the kind can have the form. A string can have the form with escapes or the raw form. A character or
+-- byte literal has the single form.
 abbrev pub has_form : QuotedForm → Kind → Bool
 has_form CookedForm kind = is_string kind
 has_form RawForm kind = is_string kind
@@ -35,8 +36,9 @@ front_len RawForm kind text value body suffix parts =
     length (raw_opener kind) + parts.0.hashes + 1
 front_len SingleForm kind text value body suffix parts = length (opener kind)
 
--- Whether the body of a literal is its own value. The body of a raw string is, and so is that of another string with neither
--- escapes nor line ends CR LF.
+-- Whether the body of a literal is its own value. The body of a raw string is always its own value. The body of another
+-- string is its own value if it contains neither an escape nor a line end CR LF. For character and byte literals the result
+-- is `false`.
 abbrev pub is_plain_body : QuotedForm → Kind → List ℕ → Bool
 is_plain_body RawForm kind body = true
 is_plain_body CookedForm kind body = list_all (is_plain kind) body

@@ -16,8 +16,8 @@ use Rattle.std.specs.Str.{IsUtf8}
 use Rattle.rl_lenient.specs.declared.found.Body.{Body}
 use Rattle.rl_lenient.specs.Founds.{IsFound, IsQuotedAt, suffix_in}
 
--- By `syn`'s grammar, a text without CR is a byte literal, or a byte string literal that isn't raw, with an empty suffix or an
--- identifier as its suffix, exactly if it is one by Rust's grammar. The value is equal by both grammars.
+-- `syn`'s and Rust's grammar agree on whether a text without CR is a byte literal, or a byte string literal that isn't raw,
+-- and on its value and its suffix. Only literals with a suffix that Rust's grammar allows are compared.
 abbrev pub BytesWithoutReturnsAreStrict : Type 0
 BytesWithoutReturnsAreStrict =
     (text : List ℕ) → KeepsBytesStrict text
@@ -28,28 +28,28 @@ abbrev pub SegmentsMakeTheLiteral : Type 0
 SegmentsMakeTheLiteral =
     (kind : Kind) (text : List ℕ) → AllMakeTheLiteral kind text
 
--- A segment of a literal has one value. Plain characters are text. An escape, and a line end CR LF, is a character, a
--- byte or nothing, by the literal's kind.
+-- A segment of a literal has one value. Plain characters have a text as their value. An escape or a line end CR LF has a
+-- character, a byte or nothing as its value, which the literal's kind decides.
 abbrev pub ASegmentHasOneValue : Type 0
 ASegmentHasOneValue =
     (kind : Kind) (units : List QuotedUnit) → AreOneSegment kind units
 
--- Two bytes of a literal's value come from ranges of the literal's text in the same order: the later byte's range
--- neither begins nor ends before that of the earlier byte. So each byte has one range, which begins no later than it
--- ends.
+-- Each byte of a literal's value is encoded by one range of the literal's text, which begins no later than it ends. The
+-- ranges are in the order of the bytes: the range of a later byte neither begins nor ends before the range of an earlier
+-- byte.
 abbrev pub ThePlacesOfBytesAreInOrder : Type 0
 ThePlacesOfBytesAreInOrder =
     (kind : Kind) (text : List ℕ) → PlacesKeepTheOrder kind text
 
--- If the parts of a quoted literal are at the given byte offsets, the text that its value comes from is in its body.
--- The value's end, and every offset after it, is mapped to the closing quote. If the body is the value, a byte's offset
--- in the body is its offset in the value.
+-- Each byte of a quoted literal's value is encoded by a range of the literal's text that is within the body. An offset at or
+-- after the value's end is mapped to the closing quote. If the body is its own value, each byte of the body encodes the
+-- value's byte at the same offset.
 abbrev pub TheOffsetsOfBytesAreInTheBody : Type 0
 TheOffsetsOfBytesAreInTheBody =
     (kind : Kind) (text : List ℕ) (body : Body) → IsUtf8 text
     → IsQuotedAt kind text body → OffsetsAreIn kind text body
 
--- If a minus precedes bytes of UTF-8, their decoded characters are the minus and the characters of the bytes.
+-- Decoding a minus and the bytes after it gives the minus and the decoded characters of the bytes.
 abbrev pub DecodingKeepsALeadingMinus : Type 0
 DecodingKeepsALeadingMinus = (bytes : List ℕ) → chars (code "-" ∷ bytes) ≡ code "-" ∷ chars bytes
 

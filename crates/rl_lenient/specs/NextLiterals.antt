@@ -67,7 +67,7 @@ BeginsNone IdentifierForm text following = HasNoTruth (chars text)
 BeginsNone (DelimiterForm c) text following = ⊤
 BeginsNone (MarkForm c) text following = (c ≢ code "-") ⊎ HasNoNumber following
 
--- The cursor's next tokens aren't a literal: no token begins the rest, or the next one doesn't begin a literal.
+-- The cursor's next tokens aren't a literal: no token begins at the cursor, or the next token doesn't begin a literal.
 abbrev pub HasNoNextLiteral : CursorState → Type 0
 HasNoNextLiteral t =
     BeginsNoLexeme (chars t.rest)
@@ -79,8 +79,8 @@ abbrev pub token_rejection : LexemeForm → RejectionKind
 token_rejection (DelimiterForm c) = if is_opener c then Group else UnmatchedClose
 token_rejection _ = NotALiteral
 
--- The reason why the cursor's rest, which isn't empty, doesn't begin with a literal: the lexer's error, or the next
--- token.
+-- The reason why the text after the cursor, which isn't empty, doesn't begin with a literal. The reason is the lexer's
+-- error, or the form of the next token.
 abbrev pub IsRejected : CursorState → RejectionKind → Type 0
 IsRejected t why =
     ((kind : LexKind) × (why ≡ Lex kind)
@@ -88,14 +88,13 @@ IsRejected t why =
     ⊎ ((l : Lexeme) × (new : CursorState) × TakesNext t l new
     × (why ≡ token_rejection (form_view l.form)))
 
--- The error of a list: it is at the start of the cursor's rest, and its kind is the reason why the rest doesn't begin with a
--- literal.
+-- The error of a list. Its offset is the cursor's position, and its kind is the reason why a literal doesn't begin there.
 pub record RejectsNext (t : CursorState) (r : Rejection) : Type 0 where
   pub reason : IsRejected t r.kind
   pub place : r.at + length t.rest ≡ length t.text
 
--- The meaning of the result of one step over a list, by the cursors before and after it: the end, a literal, or an
--- error.
+-- The result of one step over a list of literals, and the cursors before and after the step. At the end of the list, and at
+-- an error, the cursor doesn't move.
 abbrev pub StepsList : CursorState → ListStep → CursorState → Type 0
 StepsList old End new = (old.rest ≡ []) × (new ≡ old)
 StepsList old (Literal l) new = TakesNextLiteral old l new

@@ -40,7 +40,7 @@ IsNumber Int text = ReadsAs Int text
 IsNumber Float text = (numeral : List ℕ) × (suffix : List ℕ) × FloatReads text numeral suffix
 IsNumber _ text = ⊥
 
--- The digits of the value of the number that the text is.
+-- The text's value, as an integer or float literal of the kind, is the given digits.
 abbrev pub AreDigits : Kind → List ℕ → List ℕ → Type 0
 AreDigits Int text digits =
     (contents : Contents) (suffix : List ℕ) → ReadsInt text contents suffix

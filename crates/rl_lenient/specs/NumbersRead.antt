@@ -1,4 +1,4 @@
--- The meaning of the result of parsing a number.
+-- The relation between a text and the number that the parser returns for the text.
 use Rattle.std.specs.Prelude.{ℕ, List}
 use Rattle.std.specs.Str.{chars}
 use Rattle.rl_syntax.specs.Texts.{IsTail}

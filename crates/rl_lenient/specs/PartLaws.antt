@@ -2,13 +2,13 @@
 use Rattle.std.specs.Prelude.{List, ℕ}
 use Rattle.rl_lenient.specs.NumberParts.{HasOneFloatOf, HasOneIntegerOf}
 
--- An integer literal has one base and one sequence of digits, in whichever way its text is parsed as an integer.
+-- All parse results of a text as an integer literal agree on its base and on its digits, as they are written.
 abbrev pub AnIntegerHasOneBase : Type 0
 AnIntegerHasOneBase =
     (text : List ℕ) → HasOneIntegerOf text
 
--- A float literal has at most one sequence of digits before its dot, one fraction and one exponent, in whichever way its text is
--- parsed as a float.
+-- All parse results of a text as a float literal agree on its parts: the digits before the dot, the fraction, and the
+-- exponent.
 abbrev pub AFloatHasOneOfEachPart : Type 0
 AFloatHasOneOfEachPart =
     (text : List ℕ) → HasOneFloatOf text

@@ -56,8 +56,9 @@ AllMakeTheLiteral kind text =
     (start end : SegmentsState) (ss : List Segment) → IsSegmentsOf kind text start
     → Passes start ss end → end.rest ≡ [] → MakeLiteral kind text ss
 
--- The bytes of a literal's value come from ranges within its body. An offset at the value's end or beyond it is mapped
--- to the closing quote. If the body is the value, a byte's offset in the body is its offset in the value.
+-- Each byte of a quoted literal's value is encoded by a range of the literal's text that is within the body. An offset at or
+-- after the value's end is mapped to the closing quote. If the body is its own value, each byte of the body encodes the
+-- value's byte at the same offset.
 pub record OffsetsAreIn (kind : Kind) (text : List ℕ) (body : Body) : Type 0 where
   pub end : (at place : ℕ) → IsBytePlace kind (chars text) at place
       → length (body_in text body) ≤ at → place ≡ body.hi
@@ -70,8 +71,8 @@ pub record OffsetsAreIn (kind : Kind) (text : List ℕ) (body : Body) : Type 0 w
   pub within_end : (at place : ℕ) → IsByteEnd kind (chars text) at place
       → (body.lo ≤ place) × (place ≤ body.hi)
 
--- Two bytes of a literal's value come from ranges of the literal's text in the same order: the later byte's range
--- neither begins nor ends before that of the earlier byte. Each byte's range begins no later than it ends.
+-- Each byte of a literal's value is encoded by a range of the literal's text, which begins no later than it ends. The ranges
+-- are in the order of the bytes: the range of a later byte neither begins nor ends before the range of an earlier byte.
 pub record PlacesKeepTheOrder (kind : Kind) (text : List ℕ) : Type 0 where
   pub places : (at later place other : ℕ) → IsBytePlace kind text at place
       → IsBytePlace kind text later other → at ≤ later → place ≤ other

@@ -26,18 +26,18 @@ abbrev pub is_itself : QuotedUnit → Bool
 is_itself (Plain c) = true
 is_itself _ = false
 
--- The offset in a character or escape where the part begins that the byte `at` of its value comes from. In a character
--- that represents itself it is the offset of the byte itself. In an escape it is 0. `ends_in` is the offset where that
--- part ends.
+-- The start of the range, in the text of a character or escape, that encodes the byte `at` of its value. In a character that
+-- represents itself, each byte encodes itself, so the start is `at`. An escape encodes its value as a whole, so the start is
+-- 0. `ends_in` is the end of the range.
 abbrev pub begins_in : QuotedUnit → ℕ → ℕ
 begins_in unit at = if is_itself unit then at else 0
 
 abbrev pub ends_in : QuotedUnit → ℕ → ℕ
 ends_in unit at = if is_itself unit then at + 1 else byte_len (unit_text unit)
 
--- The byte offset, from the start of a sequence of characters and escapes, of the part that the byte `at` of their
--- value comes from. `inside` gives the offset within one of them. Beyond the end of the value, the result is the end of
--- the sequence.
+-- A byte offset in the text of a sequence of characters and escapes, for the byte `at` of their value. One character or
+-- escape encodes the byte, and `inside` gives the offset within this character or escape. If the value has no byte `at`, the
+-- result is the length of the text.
 abbrev pub unit_place : (QuotedUnit → ℕ → ℕ) → Kind → List QuotedUnit → ℕ → ℕ
 unit_place inside kind [] at = 0
 unit_place inside kind (unit ∷ units) at =
@@ -45,8 +45,8 @@ unit_place inside kind (unit ∷ units) at =
     else byte_len (unit_text unit)
     + unit_place inside kind units (at - length (unit_bytes kind unit))
 
--- The characters and escapes of a quoted literal, and the byte offset of the first one. In a raw string each character
--- is one.
+-- The characters and escapes of a quoted literal, and the byte offset of the first one. In a raw string, each character
+-- represents itself.
 abbrev pub AreUnitsOf : Kind → List ℕ → List QuotedUnit → ℕ → Type 0
 AreUnitsOf kind text units lo =
     ((value : List ℕ) × (suffix : List ℕ) × (c : Cooked kind text value suffix)
@@ -56,20 +56,22 @@ AreUnitsOf kind text units lo =
     ⊎ ((value : List ℕ) × (suffix : List ℕ) × (s : Single kind text value suffix)
     × (units ≡ s.unit ∷ []) × (lo ≡ length (opener kind)))
 
--- The byte offset in the literal's text of the part that the byte `at` of its value comes from. `inside` gives the
--- offset within a character or escape.
+-- `place` is a byte offset in a literal's text, for the byte `at` of the literal's value. One character or escape encodes
+-- the byte, and `inside` gives the offset within this character or escape. If the value has no byte `at`, `place` is the
+-- offset of the closing quote.
 pub record IsGivenAt (inside : QuotedUnit → ℕ → ℕ) (kind : Kind) (text : List ℕ) (at place : ℕ) : Type 0 where
   pub units : List QuotedUnit
   pub lo : ℕ
   pub units_are : AreUnitsOf kind text units lo
   pub place_is : place ≡ lo + unit_place inside kind units at
 
--- The byte offset in a literal's text where the part begins that a byte of its value comes from. At the value's end,
--- and beyond it, it is the offset of the closing quote.
+-- The start of the range of a literal's text that encodes a byte of its value. In `"\x41b"` the start is 1 for byte 0 of the
+-- value, and 5 for byte 1. If the value has no such byte, the start is the offset of the closing quote.
 abbrev pub IsBytePlace : Kind → List ℕ → ℕ → ℕ → Type 0
 IsBytePlace = IsGivenAt begins_in
 
--- The byte offset in a literal's text where the part ends that a byte of its value comes from.
+-- The end of the range of a literal's text that encodes a byte of its value. In `"\x41b"` the end is 5 for byte 0 of the
+-- value, and 6 for byte 1. If the value has no such byte, the end is the offset of the closing quote.
 abbrev pub IsByteEnd : Kind → List ℕ → ℕ → ℕ → Type 0
 IsByteEnd = IsGivenAt ends_in
 
@@ -105,13 +107,15 @@ value_bytes (Char c) = encode_utf8 c
 value_bytes (Byte b) = b ∷ []
 value_bytes Nothing = []
 
--- The byte offset in a segment of the part that the byte `at` of its value comes from.
+-- The start of the range of a segment that encodes the byte `at` of its value, as an offset in the segment. In a segment of
+-- plain characters, each byte encodes itself, so the start is `at`. Any other segment encodes its value as a whole, so the
+-- start is 0.
 abbrev pub value_place : SegmentValue → ℕ → ℕ
 value_place (Text run) at = at
 value_place value at = 0
 
--- The byte offset in the literal's text where the part begins that the byte `at` of the segment's value comes from.
--- `segment_end` is the offset where that part ends.
+-- The start of the range of a literal's text that encodes the byte `at` of a segment's value. `segment_end` is the end of
+-- the range.
 abbrev pub segment_place : Segment → ℕ → ℕ
 segment_place s at = s.lo + value_place s.value at
 
@@ -122,7 +126,7 @@ value_end value lo hi at = hi
 abbrev pub segment_end : Segment → ℕ → ℕ
 segment_end s at = value_end s.value s.lo s.hi at
 
--- The value of an escape as that of a segment: a character in a literal of characters, and otherwise a byte.
+-- The segment value for the number that an escape represents: a character in a literal of characters, and otherwise a byte.
 abbrev pub number_segment : Kind → ℕ → SegmentValue
 number_segment kind n = if decodes_to_chars kind then Char n else Byte n
 
@@ -174,9 +178,9 @@ abbrev pub IsLongest : Kind → SegmentValue → List ℕ → Type 0
 IsLongest kind (Text run) rest = IsTrue (is_string kind) → IsFalse (first_passes (is_plain kind) rest)
 IsLongest kind _ rest = ⊤
 
--- The cursor consumes the segment and returns it. The segment is at the start of the cursor's old rest, and has its
--- byte offsets. If the body is its own value, the segment is the whole rest. The closing quote has the same offset by
--- both states.
+-- The cursor consumes the segment `s` and returns it, which changes the cursor's state from `old` to `new`. The segment
+-- begins at the cursor's old offset, and ends at its new offset. If the body is its own value, the segment ends at the
+-- closing quote. The offset of the closing quote doesn't change.
 pub record TakesSegment (old : SegmentsState) (s : Segment) (new : SegmentsState) : Type 0 where
   pub units : List QuotedUnit
   pub is_segment : IsSegmentOf old.kind s.value units
@@ -190,29 +194,29 @@ pub record TakesSegment (old : SegmentsState) (s : Segment) (new : SegmentsState
   pub same_kind : new.kind ≡ old.kind
   pub same_end : new.at + length new.rest ≡ old.at + length old.rest
 
--- The meaning of the result of a segment cursor's `next`: the next segment. At the closing quote it is `None`, and the
--- cursor doesn't move.
+-- The result of a step of a cursor over segments is the next segment. At the closing quote it is `None`, and the cursor
+-- doesn't move.
 abbrev pub GivesSegment : SegmentsState → Option Segment → SegmentsState → Type 0
 GivesSegment old segment new =
     MatchOption segment ((old.rest ≡ []) × (new ≡ old)) (λ s. TakesSegment old s new)
 
--- The byte offset in the literal's text of the part that the byte `at` of the value of a segment cursor's rest comes from.
--- `inside` gives the offset within a character or escape.
+-- `place` is a byte offset in a literal's text, for the byte `at` of the literal's value, where `at` counts from the
+-- cursor's position. One character or escape encodes the byte, and `inside` gives the offset within this character or
+-- escape.
 pub record IsLeftAt (inside : QuotedUnit → ℕ → ℕ) (s : SegmentsState) (at place : ℕ) : Type 0 where
   pub units : List QuotedUnit
   pub are_left : AreLeft s units
   pub place_is : place ≡ s.at + unit_place inside s.kind units at
 
--- The byte offset in the literal's text where the part begins that a byte of the value of a segment cursor's rest comes from.
--- `IsEndLeft` is for the offset where this part ends.
+-- The start of the range of a literal's text that encodes a byte of its value, where bytes count from the cursor's position.
+-- `IsEndLeft` is for the end of the range.
 abbrev pub IsPlaceLeft : SegmentsState → ℕ → ℕ → Type 0
 IsPlaceLeft = IsLeftAt begins_in
 
 abbrev pub IsEndLeft : SegmentsState → ℕ → ℕ → Type 0
 IsEndLeft = IsLeftAt ends_in
 
--- The byte `at` of the value of a segment cursor's rest comes from the segment `segment`. It is the byte `within` of the
--- segment's value.
+-- The byte `at` of the literal's value, counted from the cursor's position, is the byte `within` of the value of `segment`.
 pub record GivesByte (s : SegmentsState) (at : ℕ) (segment : Segment) (within : ℕ) : Type 0 where
   pub before : List QuotedUnit
   pub units : List QuotedUnit
@@ -225,14 +229,15 @@ pub record GivesByte (s : SegmentsState) (at : ℕ) (segment : Segment) (within 
   pub at_is : at ≡ length (units_bytes s.kind before) + within
   pub inside : within < length (value_bytes segment.value)
 
--- The value of the rest of a segment cursor has no byte `at`: it ends before this offset.
+-- The literal's value, counted from the cursor's position, has no byte `at`: it has at most `at` bytes.
 pub record IsPastLeft (s : SegmentsState) (at : ℕ) : Type 0 where
   pub units : List QuotedUnit
   pub are_left : AreLeft s units
   pub past : length (units_bytes s.kind units) ≤ at
   pub long : byte_len (texts units) ≡ length s.rest
 
--- The cursor is at the start of a literal's body: the rest consists of all the literal's characters and escapes.
+-- The cursor is at the start of a literal's body: all characters and escapes of the literal are between the cursor and the
+-- closing quote.
 pub record IsSegmentsOf (kind : Kind) (text : List ℕ) (s : SegmentsState) : Type 0 where
   pub kind_is : s.kind ≡ kind
   pub has : HasUnitsLeft s
@@ -242,8 +247,9 @@ pub record IsSegmentsOf (kind : Kind) (text : List ℕ) (s : SegmentsState) : Ty
 abbrev pub span_from : Span → ℕ → ℕ → Span
 span_from base lo hi = record { file = base.file; lo = base.lo + lo; hi = base.lo + hi }
 
--- The table has an entry for each byte of the value of a segment cursor's rest: the span of the part that the byte comes from.
--- Its last entry is at the closing quote. The literal's text begins at the start of the span `base`.
+-- The table has an entry for each byte of the literal's value, counted from the cursor's position: the span of the range
+-- that encodes the byte. Its last entry is the empty span at the closing quote. The literal's text begins at the start of
+-- the span `base`.
 pub record IsSpanTable (s : SegmentsState) (base : Span) (table : List Span) : Type 0 where
   pub units : List QuotedUnit
   pub are_left : AreLeft s units
@@ -252,8 +258,8 @@ pub record IsSpanTable (s : SegmentsState) (base : Span) (table : List Span) : T
       ≡ span_from base (s.at + unit_place begins_in s.kind units at)
       (s.at + unit_place ends_in s.kind units at)
 
--- The invariant of a cursor over a literal's segments: the rest consists of characters and escapes, and is no longer
--- than the text up to the closing quote.
+-- The invariant of a cursor over a literal's segments. `rest` is the text from the cursor up to the closing quote. It
+-- consists of characters and escapes, and isn't longer than `end`, the byte offset of the closing quote.
 pub record IsSegmentsState (kind : Kind) (plain : Bool) (end : ℕ) (rest : List ℕ) : Type 0 where
   pub room : length rest ≤ end
   pub is_text : IsUtf8 rest

@@ -7,8 +7,8 @@ use Rattle.rl_lenient.specs.declared.source_literals.SourceStep.{SourceStep}
 use Rattle.rl_lenient.specs.declared.source_literals.SourceStep.TheVariants.{End, Literal, Rejected}
 use Rattle.rl_lenient.specs.NextLiterals.{FindsReading}
 
--- The meaning of the result of one step over a source, by the cursors before and after it. It is the next literal with
--- its parse result, after tokens that aren't literals; or the end of the source; or the error that comes first.
+-- The result of one step over a source, and the cursors before and after the step. The result is the next literal with its
+-- parse result, after tokens that aren't literals; or the end of the source; or the error that comes first.
 abbrev pub StepsSource : CursorState → SourceStep → CursorState → Type 0
 StepsSource old End new = PassesTo old new × (new.rest ≡ [])
 StepsSource old (Literal token found) new =

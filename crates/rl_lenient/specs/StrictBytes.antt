@@ -10,8 +10,8 @@ use Rattle.rl_syntax.specs.Strict.{IsStrictSuffix, StrictCooked}
 abbrev pub HasNoCarriageReturn : List ℕ → Type 0
 HasNoCarriageReturn text = IsTrue (list_all (λ c. not (c == code "\r")) text)
 
--- By `syn`'s grammar, the text is a byte literal, or a byte string literal that isn't raw, with an empty suffix or an identifier
--- as its suffix, exactly if it is one by Rust's grammar. The value is equal by both grammars.
+-- `syn`'s and Rust's grammar agree on whether the text is a byte literal, or a byte string literal that isn't raw, and on
+-- its value and its suffix. Only literals with a suffix that Rust's grammar allows are compared.
 pub record BytesAreStrict (text : List ℕ) : Type 0 where
   pub byte : (contents : Contents) (suffix : List ℕ)
       → (Reads text Byte contents suffix

@@ -7,12 +7,14 @@ use Rattle.rl_syntax.specs.Strict.{LineBreak, StrictUnit, is_strict_unit, strict
 
 -- ---- units
 
--- If the unit is an escaped line end, no white space follows it: it includes all white space after it.
+-- The text `after` may follow the character or escape. An escaped line end includes all white space after it, so white space
+-- can't follow an escaped line end.
 abbrev pub BreakEnds : StrictUnit → List ℕ → Type 0
 BreakEnds (LineBreak blanks) after = IsFalse (first_passes is_dropped_blank after)
 BreakEnds _ after = ⊤
 
--- Each escaped line end in the sequence includes all white space after it. The text `rest` follows the sequence.
+-- Each escaped line end in a sequence of characters and escapes includes all white space after it. The text `rest` follows
+-- the sequence.
 abbrev pub BreaksEnd : List StrictUnit → List ℕ → Type 0
 BreaksEnd [] rest = ⊤
 BreaksEnd (u ∷ us) rest = BreakEnds u (flat_map strict_text us ++ rest) × BreaksEnd us rest

@@ -4,7 +4,8 @@ use Rattle.std.specs.List.{AllByRecursion}
 use Rattle.rl_syntax.specs.declared.kind.Kind.{Kind}
 use Rattle.rl_syntax.specs.Quoted.{QuotedUnit, IsUnit, EndsBefore, texts, values}
 
--- Each escaped line end in the sequence includes all white space after it. The text `rest` follows the sequence.
+-- Each escaped line end in a sequence of characters and escapes includes all white space after it. The text `rest` follows
+-- the sequence.
 abbrev pub RunEnds : List QuotedUnit → List ℕ → Type 0
 RunEnds [] rest = ⊤
 RunEnds (u ∷ us) rest = EndsBefore u (texts us ++ rest) × RunEnds us rest

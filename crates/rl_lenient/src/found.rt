@@ -181,7 +181,8 @@ fn float_found<'t>(text: &'t str, suffix: &'t str) -> Found
     }
 }
 
-/// Parses the text as an integer literal. Returns `None` if it isn't one, and `Some(None)` if it is one above 128 bits.
+/// Parses the text as an integer literal. Returns `None` if the text isn't an integer literal, and `Some(None)` for an
+/// integer above 128 bits.
 pub fn find_int(text: &str) -> Option<Option<Found>>
     ensures none { IfNone result (HasNoInteger (chars text.now)) }
     ensures past { IfSome result (λ o. IfNone o (IsPast (chars text.now))) }
@@ -358,9 +359,9 @@ pub fn begins_number(text: &str) -> bool
 /// The body of a quoted literal is the text between its quotes. The body of a number is the text before its suffix,
 /// with sign and prefix. The body of a `bool` is the whole text. Body and suffix are slices of the text.
 ///
-/// The postcondition `strict_bytes` compares `syn`'s grammar with Rust's, for texts without CR. By `syn`'s grammar, such a text
-/// is a byte literal, or a byte string literal that isn't raw, whose suffix is empty or an identifier, exactly if it is one by
-/// Rust's grammar.
+/// The postcondition `strict_bytes` is about texts without CR. `syn`'s and Rust's grammar agree on whether such a text
+/// is a byte literal, or a byte string literal that isn't raw, and on its value and its suffix. Only literals with a
+/// suffix that Rust's grammar allows are compared.
 ///
 /// See the example of [`Parts`].
 pub fn shape(text: &str) -> Option<Parts<'_>>

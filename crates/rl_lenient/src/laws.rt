@@ -3,9 +3,8 @@
 ghost use Rattle.rl_lenient.specs.Laws.{BytesWithoutReturnsAreStrict, SegmentsMakeTheLiteral, ASegmentHasOneValue, ThePlacesOfBytesAreInOrder, TheOffsetsOfBytesAreInTheBody, DecodingKeepsALeadingMinus, ATakenLiteralIsRead, AFoundLiteralReads};
 ghost use Rattle.rl_lenient.specs.PartLaws.{AnIntegerHasOneBase, AFloatHasOneOfEachPart};
 
-/// By `syn`'s grammar, a text without CR is a byte literal, or a byte string literal that isn't raw, with an empty
-/// suffix or an identifier as its suffix, exactly if it is one by Rust's grammar. The value is equal by both
-/// grammars.
+/// `syn`'s and Rust's grammar agree on whether a text without CR is a byte literal, or a byte string literal that
+/// isn't raw, and on its value and its suffix. Only literals with a suffix that Rust's grammar allows are compared.
 pub fn byte_literals_without_cr_are_strict()
     ensures { BytesWithoutReturnsAreStrict }
 {}
@@ -16,27 +15,27 @@ pub fn segments_join_to_the_literal()
     ensures { SegmentsMakeTheLiteral }
 {}
 
-/// A segment of a literal has one value. Plain characters are text. An escape, and a line end CR LF, is a character, a
-/// byte or nothing, by the literal's kind.
+/// A segment of a literal has one value. Plain characters have a text as their value. An escape or a line end CR LF
+/// has a character, a byte or nothing as its value, which the literal's kind decides.
 pub fn a_segment_has_one_value()
     ensures { ASegmentHasOneValue }
 {}
 
-/// Two bytes of a literal's value come from ranges of the literal's text in the same order: the later byte's range
-/// neither begins nor ends before that of the earlier byte. So each byte has one range, which begins no later than it
-/// ends.
+/// Each byte of a literal's value is encoded by one range of the literal's text, which begins no later than it ends.
+/// The ranges are in the order of the bytes: the range of a later byte neither begins nor ends before the range of an
+/// earlier byte.
 pub fn text_offsets_keep_the_order_of_bytes()
     ensures { ThePlacesOfBytesAreInOrder }
 {}
 
-/// If the parts of a quoted literal are at the given byte offsets, the text that its value comes from is in its body.
-/// The value's end, and every offset after it, is mapped to the closing quote. If the body is the value, a byte's
-/// offset in the body is its offset in the value.
+/// Each byte of a quoted literal's value is encoded by a range of the literal's text that is within the body. An
+/// offset at or after the value's end is mapped to the closing quote. If the body is its own value, each byte of the
+/// body encodes the value's byte at the same offset.
 pub fn text_offsets_are_in_the_body()
     ensures { TheOffsetsOfBytesAreInTheBody }
 {}
 
-/// If a minus precedes bytes of UTF-8, their decoded characters are the minus and the characters of the bytes.
+/// Decoding a minus and the bytes after it gives the minus and the decoded characters of the bytes.
 pub fn decoding_keeps_a_leading_minus()
     ensures { DecodingKeepsALeadingMinus }
 {}
@@ -51,13 +50,13 @@ pub fn a_parsed_literal_has_the_value_of_its_text()
     ensures { AFoundLiteralReads }
 {}
 
-/// An integer literal has one base and one sequence of digits, in whichever way its text is parsed as an integer.
+/// All parse results of a text as an integer literal agree on its base and on its digits, as they are written.
 pub fn an_integer_has_one_base()
     ensures { AnIntegerHasOneBase }
 {}
 
-/// A float literal has at most one of each part, in whichever way its text is parsed as a float: one sequence of digits
-/// before the dot, one after it, and one exponent.
+/// All parse results of a text as a float literal agree on its parts: the digits before the dot, the digits after it,
+/// and the exponent.
 pub fn a_float_has_one_of_each_part()
     ensures { AFloatHasOneOfEachPart }
 {}

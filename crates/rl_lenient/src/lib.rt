@@ -1,6 +1,6 @@
 //! Parsers of literals by the lenient grammar, which is that of `syn`: of a single literal, and of the literals of
 //! lists and of Rust sources. Other functions return the segments of a literal's body, and the range of a literal's
-//! text that a range of its decoded value comes from.
+//! text that encodes a range of its decoded value.
 //!
 //! The parsers follow the module `value` in `src/lit.rs` of the crate `syn` 3.0.9. Nothing is allocated.
 //!

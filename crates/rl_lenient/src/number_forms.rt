@@ -19,8 +19,8 @@ use crate::found::{Parts, find_float, find_int, find_unsigned};
 use rl_syntax::classes::{CharClass, skip_class};
 use rl_syntax::text::{split_ascii, split_char};
 
-/// Returns the base of an integer, and the text after its prefix. The prefix is `0b`, `0o` or `0x`. Without one, the
-/// base is 10, and the result contains the text itself.
+/// Returns the base of an integer, and the text after its prefix. The prefix is `0b`, `0o` or `0x`. Without a prefix,
+/// the base is 10, and the result contains the text itself.
 #[inline(always)]
 #[tactic(auto, using(rl_syntax::proofs::TailLemmas::tail_step, rl_syntax::proofs::TailLemmas::tail_self, crate::proofs::AsciiLemmas::no_zero, crate::proofs::AsciiLemmas::no_radix_letter), unfolding(crate::specs::Mirrors::NumberAt::radix_at))]
 pub fn split_radix(text: &str) -> (u32, &str)
@@ -125,7 +125,7 @@ pub fn read_integer(text: &str) -> Option<Integer<'_>>
 }
 
 /// Returns the kind, body and suffix of the integer literal `text`. Returns `None` if the text isn't an integer
-/// literal, and `Some(None)` if it is one above 128 bits.
+/// literal, and `Some(None)` for an integer above 128 bits.
 ///
 /// The body is the text before the suffix, with sign and prefix. Body and suffix are slices of the text.
 pub fn int_shape(text: &str) -> Option<Option<Parts<'_>>>
@@ -145,8 +145,8 @@ pub fn int_shape(text: &str) -> Option<Option<Parts<'_>>>
     }
 }
 
-/// Returns the text after the dot at its start and the digits after the dot, or the text itself if it doesn't begin
-/// with a dot.
+/// Returns the text after the fraction at its start, which is a dot and digits. Returns the text itself if it doesn't
+/// begin with a dot.
 #[inline(always)]
 #[tactic(auto, using(rl_syntax::proofs::TailLemmas::tail_step, rl_syntax::proofs::TailLemmas::tail_self))]
 fn after_fraction(text: &str) -> &str

@@ -36,8 +36,9 @@ fn first_of(kind: Kind) -> u8
     kind.opener().as_bytes()[0]
 }
 
-/// Returns the form of a string literal of the kind, and the text after its `"` or its `r`, which `text` begins with.
-/// Returns `None` if the text begins otherwise.
+/// Selects the form of a string literal of the kind by the first character of `text`: `"` for a string with escapes,
+/// `r` for a raw string. Returns the form, the kind, and the text after this character. Returns `None` if the text
+/// begins otherwise.
 #[inline(always)]
 #[tactic(auto, using(crate::proofs::AsciiLemmas::no_string_opener))]
 fn split_string_opener(kind: Kind, text: &str) -> Option<(QuotedForm, Kind, &str)>
@@ -54,8 +55,8 @@ fn split_string_opener(kind: Kind, text: &str) -> Option<(QuotedForm, Kind, &str
     }
 }
 
-/// Returns the form and the kind of a literal with the prefix `b`, and the text after its quote or its `br`. `text`
-/// follows the `b`. Returns `None` if the text begins otherwise.
+/// Returns the form and the kind of a literal with the prefix `b`, and the text after its quote, or after the `r` of
+/// `br`. `text` is the text after the `b`. Returns `None` if the text begins otherwise.
 #[tactic(auto, using(crate::proofs::AsciiLemmas::no_byte_opener))]
 fn split_byte_opener(text: &str) -> Option<(QuotedForm, Kind, &str)>
     ensures { option_map (λ p. (p.0, p.1, chars p.2.now)) result ≡ byte_opener_at (chars text.now) }
@@ -68,8 +69,9 @@ fn split_byte_opener(text: &str) -> Option<(QuotedForm, Kind, &str)>
     }
 }
 
-/// Returns the form and the kind of the quoted literal that may begin the text, and the text after its opening quote,
-/// or after the `r` of a raw literal. A text has at most one of each. Returns `None` if the text begins otherwise.
+/// Returns the form and the kind of the quoted literal that the text begins like, and the text after its opening
+/// quote. For a raw literal, the result has the text after its `r` instead. Returns `None` if the text begins like no
+/// quoted literal.
 #[inline(always)]
 #[tactic(auto, unfolding(crate::specs::Mirrors::OpenerAt::opener_at), using(crate::proofs::AsciiLemmas::no_opener))]
 pub fn split_opener(text: &str) -> Option<(QuotedForm, Kind, &str)>
@@ -150,8 +152,8 @@ pub fn strip_quote(kind: Kind, text: &str) -> Option<&str>
     }
 }
 
-/// Returns the byte offsets of the parts of the quoted literal `text`. `opened`, `closer` and `suffix` are ends of
-/// `text`: those that begin with the body, with the closing quote, and with the suffix.
+/// Returns the byte offsets of the parts of the quoted literal `text`. `opened` is the end of `text` from the body on,
+/// `closer` is the end of `text` from the closing quote on, and `suffix` is the suffix.
 #[inline(always)]
 pub fn part_offsets(text: &str, opened: &str, closer: &str, suffix: &str, plain: bool) -> Body
     requires opened { IsTail text.now opened.now }
@@ -240,7 +242,7 @@ pub(crate) fn find_raw(kind: Kind, text: &str, inside: &str) -> Option<Found>
     ensures none { IfNone result (HasNoReading (chars text.now)) }
     ensures found { IfSome result (IsFound text.now) }
 {
-    // `raw_places` returns only byte offsets. A parse result that it returned would be copied once more.
+    // `raw_places` returns only byte offsets, since a whole parse result would be copied once more.
     let body = raw_places(kind, text, inside)?;
     Some(quoted(kind, body, 0))
 }

@@ -1,4 +1,4 @@
-//! A function that maps a range of a quoted literal's decoded value to a range of the literal's text.
+//! A function that returns the range of a quoted literal's text that encodes a range of the literal's decoded value.
 
 ghost use Rattle.std.specs.Str.{chars};
 ghost use Rattle.rl_lenient.specs.Founds.{IsQuotedAt};
@@ -7,12 +7,13 @@ ghost use Rattle.rl_lenient.specs.Ranges.{IsRangeOf};
 use crate::Body;
 use rl_syntax::Kind;
 
-/// Returns the byte range of a quoted literal's text that the bytes from `lo` up to `hi` of its decoded value come
-/// from.
+/// Returns the byte range of a quoted literal's text that encodes the bytes from `lo` up to `hi` of its decoded value.
+/// In `"\x41b"`, the range from 1 up to 6 encodes the value's bytes from 0 up to 2.
 ///
-/// The range begins where the character or escape of the first byte begins, and ends where that of the last byte ends.
-/// For an empty range the result is empty, and begins where the character or escape of the byte `lo` begins. An escaped
-/// line end after the last byte isn't included.
+/// A byte of a plain character encodes itself, and an escape as a whole encodes its value. The range begins where the
+/// range of the byte `lo` begins, and ends where the range of the last byte, `hi - 1`, ends. An escaped line end after
+/// the last byte isn't included. If `lo` isn't below `hi`, the result is empty, and begins where the range of the byte
+/// `lo` begins.
 ///
 /// `body` contains the byte offsets of the literal's parts, as [`parse_literal`](crate::parse_literal) returns them.
 pub fn text_range(kind: Kind, text: &str, body: &Body, lo: usize, hi: usize) -> (usize, usize)

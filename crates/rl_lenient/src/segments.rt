@@ -27,7 +27,7 @@ pub enum SegmentValue<'t> {
     Char(char),
     /// In a literal of bytes, the byte of any escape except `\u{..}`, or the LF of a line end CR LF.
     Byte(u8),
-    /// An empty value, of a backslash, a line end and the white space after it.
+    /// The empty value of an escaped line end: of a backslash, a line end and the white space after it.
     Nothing,
 }
 
@@ -160,8 +160,8 @@ fn value_of<'t>(kind: Kind, piece: Piece) -> SegmentValue<'t>
     }
 }
 
-/// Returns the value of the first segment of `text`, which is the rest of a literal's body, and the text after that
-/// segment. If `plain` is `true`, the body is its own value, and is one segment.
+/// Returns the value of the first segment of `text`, and the text after that segment. `text` is the end of a literal's
+/// body, from the start of a segment on. If `plain` is `true`, the body is its own value, and `text` is one segment.
 #[inline(always)]
 pub fn split_segment(kind: Kind, plain: bool, text: &str) -> (SegmentValue<'_>, &str)
     requires has { (units : List QuotedUnit) × AreUnitsIn kind plain (chars text.now) units }
@@ -188,8 +188,8 @@ pub fn split_segment(kind: Kind, plain: bool, text: &str) -> (SegmentValue<'_>, 
 impl<'t> Segment<'t> {
     ghost use Rattle.rl_lenient.specs.Segments.{segment_end, segment_place};
 
-    /// Returns the byte offset in the literal's text that the byte `at` of the segment's value comes from. In a segment
-    /// of plain characters it is the offset of the byte itself. Otherwise it is the start of the segment.
+    /// Returns the start of the range of the literal's text that encodes the byte `at` of the segment's value. In a
+    /// segment of plain characters, each byte encodes itself. Any other segment encodes its value as a whole.
     #[inline(always)]
     pub fn text_offset(self, at: usize) -> usize
         requires { segment_place self at < self.hi }
@@ -201,8 +201,8 @@ impl<'t> Segment<'t> {
         }
     }
 
-    /// Returns the byte offset in the literal's text after the part that the byte `at` of the segment's value comes
-    /// from. In a segment of plain characters that part is the byte itself. Otherwise it is the whole segment.
+    /// Returns the end of the range of the literal's text that encodes the byte `at` of the segment's value. In a
+    /// segment of plain characters, each byte encodes itself. Any other segment encodes its value as a whole.
     #[inline(always)]
     pub fn text_end_offset(self, at: usize) -> usize
         requires { segment_place self at < self.hi }
@@ -258,9 +258,9 @@ impl<'t> Segments<'t> {
         self.end - self.rest.len()
     }
 
-    /// Returns the segment that the byte `at` of the literal's value comes from, and that byte's offset in the
-    /// segment's value. `at` counts from the start of the next segment's value. Returns `None` if the value ends before
-    /// that byte.
+    /// Returns the segment whose value contains the byte `at` of the literal's value, and the byte's offset in the
+    /// segment's value. `at` counts from the start of the next segment's value. Returns `None` if the literal's value
+    /// has no byte `at`.
     #[inline(always)]
     fn giving(mut self, at: usize) -> Option<(Segment<'t>, usize)>
         ensures some { IfSome result (λ p. GivesByte self.entry at p.0 p.1) }
@@ -277,8 +277,8 @@ impl<'t> Segments<'t> {
         None
     }
 
-    /// Returns the byte offset in the literal's text that the byte `at` of the literal's value comes from: that of the
-    /// byte itself for a plain character, and otherwise that of the escape.
+    /// Returns the start of the range of the literal's text that encodes the byte `at` of the literal's value. A byte
+    /// of a plain character encodes itself, and an escape as a whole encodes its value.
     ///
     /// `at` counts from the start of the next segment's value. At the end of the value, and beyond it, the result is
     /// the offset of the closing quote.
@@ -292,9 +292,9 @@ impl<'t> Segments<'t> {
         }
     }
 
-    /// Returns the byte offset in the literal's text after the part that the byte `at` of the literal's value comes
-    /// from. That part is the byte itself for a plain character, and otherwise the escape. An escaped line end that
-    /// follows isn't included.
+    /// Returns the end of the range of the literal's text that encodes the byte `at` of the literal's value. A byte of
+    /// a plain character encodes itself, and an escape as a whole encodes its value. An escaped line end after the
+    /// range isn't included.
     ///
     /// `at` counts from the start of the next segment's value. At the end of the value, and beyond it, the result is
     /// the offset of the closing quote.
@@ -333,8 +333,8 @@ fn is_quoted(kind: Kind) -> bool
     !matches!(kind, Kind::Int | Kind::Float | Kind::Bool)
 }
 
-/// Returns the byte offset in the quoted literal `text` that the byte `at` of its decoded value comes from, or `None`
-/// if the text isn't a quoted literal. [`Segments::text_offset`] describes the offset.
+/// Returns the start of the range of the quoted literal `text` that encodes the byte `at` of its decoded value.
+/// Returns `None` if the text isn't a quoted literal. [`Segments::text_offset`] describes the result.
 ///
 /// # Example
 ///

@@ -17,9 +17,9 @@ pub enum SourceStep<'t> {
     Rejected(LexError),
 }
 
-/// Consumes tokens of a source up to and including the next literal, and returns that literal. If the end of the source
-/// or an error comes first, the function returns that, and the cursor is at the end or before the error. Nothing is
-/// allocated.
+/// Consumes the tokens of a source up to and including the next literal, and returns that literal. If the source ends
+/// before a literal, returns the end. If an error comes before a literal, returns the error, and the cursor is before
+/// the error. Nothing is allocated.
 #[inline(always)]
 pub fn next_source_literal<'t>(tokens: &mut Sources<'t>) -> SourceStep<'t>
     ensures { StepsSource tokens.old result tokens.new }

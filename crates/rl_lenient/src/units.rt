@@ -17,7 +17,8 @@ use rl_syntax::classes::{CharClass, skip_class};
 use rl_syntax::scan::{Marks, ascii_len_before_mark, len_before_mark};
 use rl_syntax::text::{ascii_at, split_char};
 
-/// The delimiters of a search that stops at non-ASCII bytes alone. Each is the byte 255, which is non-ASCII itself.
+/// The delimiters of a search that stops only at non-ASCII bytes. Each of the four is the byte 255, which is non-ASCII
+/// itself.
 const NO_MARK: Marks = Marks {
     first: 255,
     second: 255,
@@ -34,7 +35,8 @@ pub enum Piece {
     Nothing,
 }
 
-/// Returns the number of the character or byte `piece`, the only one of a character or byte literal.
+/// Returns the value of a character or byte literal as a number. `piece` is the one character or byte that its body
+/// represents.
 #[inline(always)]
 pub fn piece_code(kind: Kind, piece: Piece) -> u32
     requires single { IsTrue (is_single kind) }
@@ -71,16 +73,16 @@ pub fn is_plain_char(kind: Kind, c: char) -> bool
     }
 }
 
-/// Returns `true` if the value of a literal of the kind may contain the character or byte with the number `code`. Only
-/// a C string excludes one, which is 0.
+/// Returns `true` if the value of a literal of the kind may contain `code`, which is a code point or a byte. Only a C
+/// string excludes one, which is 0.
 pub fn allows_code(kind: Kind, code: u32) -> bool
     ensures { result ≡ allows_code kind code }
 {
     !matches!(kind, Kind::CStr) || code != 0
 }
 
-/// Whether a literal of the kind may contain the escape `\xHH` of the number `code`. In a literal of characters the
-/// number is below 128, and in a C string it isn't 0.
+/// Whether a literal of the kind may contain the escape `\xHH` whose two digits represent the number `code`. In a
+/// literal of characters the number is below 128, and in a C string it isn't 0.
 fn may_be_hex(kind: Kind, code: u32) -> bool
     ensures { result ≡ may_be_hex kind code }
 {
@@ -94,7 +96,7 @@ pub fn allows_unicode_escapes(kind: Kind) -> bool
     !matches!(kind, Kind::ByteStr | Kind::Byte)
 }
 
-/// The entry of the table `NAMED` for a character that is no escape after a backslash.
+/// The entry of the table `NAMED` for a character that doesn't form an escape with the backslash before it.
 const NO_LETTER: u8 = 255;
 
 /// The values of the escapes of a backslash and one ASCII character, by that character. Escapes by number and escaped
@@ -111,8 +113,8 @@ const NAMED: [u8; 128] = [
     255, 255, b'\r', 255, b'\t', 255, 255, 255, 255, 255, 255, 255, 255, 255, 255, 255,
 ];
 
-/// Returns the value of the escape of a backslash and the character `letter` in a literal of the kind, as LF for `\n`.
-/// Returns `None` if it isn't an escape of that kind.
+/// Returns the value of the escape of a backslash and the character `letter`, as LF for `\n`. Returns `None` if a
+/// literal of the kind can't contain this escape.
 #[inline(always)]
 fn named_value(kind: Kind, letter: u8) -> Option<u8>
     requires { letter < 128 }
@@ -229,8 +231,8 @@ pub fn parse_code_digits(text: &str, from: usize) -> Option<CodeDigits>
     Some(more_digits(first, text, from, after))
 }
 
-/// Returns the character whose number the digits of an escape `\u{..}` represent, and the byte offset after its closing
-/// brace. Returns `None` if no brace follows the digits, or if no character has the number.
+/// Returns the character whose code point the digits of an escape `\u{..}` represent, and the byte offset after its
+/// closing brace. Returns `None` if no brace follows the digits, or if no character has the code point.
 #[tactic(auto, using(crate::proofs::AsciiLemmas::no_close))]
 #[inline(always)]
 fn closed_code(text: &str, digits: CodeDigits) -> Option<(char, usize)>

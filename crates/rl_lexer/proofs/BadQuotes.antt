@@ -180,7 +180,8 @@ next_found (c ∷ e ∷ t) r h =
       ]
     ]
 
--- The text `t` contains an apostrophe. The record has the text before the first apostrophe, and the suffix after it.
+-- The text `t` contains an apostrophe. The record contains the text before the first apostrophe, and the suffix after
+-- the apostrophe.
 record OtherFound (t r : List ℕ) : Type 0 where
   pub parts : List BodyPart
   pub suffix : List ℕ

@@ -1,4 +1,5 @@
--- The ends of comments, which the code finds in the bytes of a text.
+-- Lemmas about the end of a comment: the code finds it in the bytes of a text, and the model finds the same end in the
+-- characters of the text.
 use Rattle.rl_syntax.proofs.Common.{◌≡◌, ℕ, suc, zero, ◌<◌, ◌≤◌, ◌⊎◌, inl, inr, Bool, true, false, ◌&&◌, ◌==◌, cond, List, [], ◌∷◌, ◌++◌, Option, Some, None, refl, sym, ◌∙◌, ap, arith, ltb-false, is_ascii, chars, encode_utf8_all, IsUtf8, option_map, encodes-chars, chars_from_encodes}
 use Rattle.std.specs.Char.{encode_utf8}
 use Rattle.rl_syntax.specs.Texts.{first_passes}
@@ -72,8 +73,7 @@ after_block-encodes d (c ∷ []) = block_one d c (cases128 c)
 after_block-encodes d (c ∷ e ∷ cs) = block_two d c e cs (λ n. after_block-encodes n cs) (after_block-encodes d (e ∷ cs))
     (cases128 c) (cases128 e)
 
--- If the rest that the code finds in the bytes of a text is the encoding of the rest that the model finds in its characters, the
--- model's rest is the characters of the code's rest.
+-- If the code returns the encoding of the model's result, the characters of the code's result are the model's result.
 same_chars : (m : Option (List ℕ)) (rest : List ℕ) → IsUtf8 rest → Some rest ≡ option_map encode_utf8_all m
     → Some (chars rest) ≡ m
 same_chars None rest is e = absurd (cc)

@@ -13,8 +13,8 @@ use Rattle.rl_syntax.proofs.Basics.{false_unless}
 use Rattle.rl_lexer.proofs.LexemeSteps.{only}
 use Rattle.rl_syntax.proofs.ScanLemmas.{drop_next, not_first, not_second}
 
--- The result of the search for a block comment's end at two characters, by cases: they are a closing delimiter, an opening
--- delimiter, or neither.
+-- A choice by the characters `c` and `e` inside a block comment: `x` if they are a closing delimiter, `y` if they are
+-- an opening delimiter, and `z` otherwise.
 abbrev Turns : ℕ → ℕ → ℕ → Option (List ℕ) → Option (List ℕ) → Option (List ℕ) → Option (List ℕ)
 Turns d c e x y z = cond (c == 42 && e == 47) x (cond (c == 47 && e == 42) y z)
 
@@ -88,11 +88,12 @@ next_inside [] i n e l = absurd (omega arith)
 next_inside (x ∷ s) zero n e l = omega arith
 next_inside (x ∷ s) (suc i) n e l = omega (arith, next_inside s i n e l)
 
--- A slice of a text from an index up to the end of the text is the rest of the text from this index on.
+-- The slice of a text from an index up to the end of the text is the text without the bytes before the index.
 rest_whole : (s : List ℕ) (i : ℕ) → take (length s - i) (drop i s) ≡ drop i s
 rest_whole s i = ap (λ n. take n (drop i s)) (sym (length-drop i s)) ∙ take-length (drop i s)
 
--- A character that can't be in a delimiter of a block comment doesn't change the result of the search for the comment's end.
+-- A character inside a block comment that is neither `*` nor `/` doesn't change the result of the search for the
+-- comment's end.
 goes_over : (m : Marks) (d c : ℕ) (t : List ℕ) → m.first ≡ 42 → m.second ≡ 47 → is_other m c ≡ true
     → after_block d (c ∷ t) ≡ after_block d t
 goes_over m d c [] star slash h = refl

@@ -1,10 +1,11 @@
--- The ends of block and line comments: the models of the code agree with the definitions.
+-- Lemmas about the ends of block and line comments: the models of the code agree with the definitions.
 use Rattle.rl_syntax.proofs.Common.{◌≡◌, ℕ, suc, zero, ◌⊎◌, inl, inr, Bool, true, false, not, ◌&&◌, ◌==◌, cond, List, [], ◌∷◌, ◌++◌, Option, Some, refl, sym, ◌∙◌, ap, arith, append_assoc, nat_tests, list_all, IsTrue}
 use Rattle.rl_syntax.specs.Trivia.{is_comment_line, is_comment_block, Inside, End, Other, Nested, inside_text, IsInside, BeginsNoMark}
 use Rattle.rl_lexer.specs.Mirrors.SkippedAt.{after_block, after_line}
 use Rattle.rl_syntax.proofs.Basics.{false_unless}
 
--- Returns the text after the closing delimiter of a comment that is nested in `depth` other block comments.
+-- The text after the outermost of nested block comments, where the given text follows a closing delimiter, and `depth`
+-- comments are still open. If `depth` is 0, the result is the given text.
 abbrev pub closed : ℕ → List ℕ → Option (List ℕ)
 closed zero t = Some t
 closed (suc d) t = after_block d t
@@ -30,7 +31,8 @@ both c k e l h = (grind (arith, nat_tests), grind (arith, nat_tests))
 pub not_both : (c k e l : ℕ) → (c == k && e == l) ≡ false → c ≡ k → e ≡ l → ⊥
 not_both c k e l h p q = grind (arith, nat_tests)
 
--- The text consists of the remaining text of n nested block comments, each up to its closing delimiter, and then the text r.
+-- The text `t` consists of the remaining text of n nested block comments, each up to its closing delimiter, and of the
+-- text `r`.
 abbrev pub Closes : ℕ → List ℕ → List ℕ → Type 0
 Closes zero t r = t ≡ r
 Closes (suc n) t r = (i : Inside) × (m : List ℕ) × IsInside i × (t ≡ inside_text i ++ m) × Closes n m r

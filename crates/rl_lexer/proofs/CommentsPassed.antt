@@ -14,8 +14,8 @@ use Rattle.rl_lexer.proofs.SourceFronts.{doc_block_found, doc_line_found}
 none-some : {A : Type 0} (x : A) → None ≡ Some x → ⊥
 none-some x e = cc
 
--- If only tokens other than literals precede the text `r` from the start of a line on, this is also so from the end of the line
--- before on.
+-- Suppose that only white space, comments and tokens other than literals precede the text `r` from the start of a line
+-- on. This is still so from the LF before that line on.
 reach_line_end : (t r : List ℕ) → Reaches (after_line t) r → Reaches (after_run is_in_line t) r
 reach_line_end [] r h = h
 reach_line_end (c ∷ t) r h = go (c == 10) refl h (reach_line_end t r)

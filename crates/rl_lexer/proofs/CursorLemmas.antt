@@ -1,4 +1,4 @@
--- The token that a cursor over a text consumes next, and the texts that the cursor borrows.
+-- Lemmas about the token that a cursor over a text consumes next: its bytes, and its byte range in the text.
 use Rattle.rl_syntax.proofs.Common.{◌≡◌, ℕ, ◌+◌, ◌-◌, List, ◌++◌, length, length-append, take, slice_range, refl, sym, ◌∙◌, ap, arith, append_cancel_right, encodes-append, encodes-chars, chars_from_encodes, chars, encode_utf8_all, IsUtf8}
 use Rattle.rl_syntax.specs.Texts.{IsTail, byte_len}
 use Rattle.rl_lexer.specs.Skipping.{Skipped}
@@ -11,7 +11,8 @@ use Rattle.rl_syntax.proofs.TailLemmas.{tail_step, cut_join}
 use Rattle.rl_syntax.proofs.Rests.{tail_length}
 use Rattle.rl_lexer.proofs.CutLemmas.{cuts_more}
 
--- The lexeme at the start of a cursor's rest, with its bytes, and its range in the text.
+-- The text `rest`, which is the end of `text`, begins with a lexeme of the form `form`, and the text `following`
+-- follows the lexeme. The lexeme has the bytes `token` and the byte range from `lo` to `hi` in `text`.
 record TokenAt (text rest following token : List ℕ) (form : LexemeForm) (lo hi : ℕ) : Type 0 where
   pub front : FormBefore (chars rest) form (chars following)
   pub rest_text : IsUtf8 rest
@@ -21,7 +22,7 @@ record TokenAt (text rest following token : List ℕ) (form : LexemeForm) (lo hi
   pub lo_place : lo + length rest ≡ length text
   pub hi_place : hi + length following ≡ length text
 
--- The bytes of a token are the encoded text of its lexeme.
+-- The bytes of a token are the UTF-8 encoding of the text of its lexeme.
 token_is : {text rest following token : List ℕ} {form : LexemeForm} {lo hi : ℕ}
     (at : TokenAt text rest following token form lo hi) → encode_utf8_all (lexeme_text at.front.lexeme) ≡ token
 token_is {rest = rest} {following = following} {token = token} at =
@@ -44,7 +45,8 @@ token_len : {text rest following token : List ℕ} {form : LexemeForm} {lo hi : 
 token_len {rest = rest} {following = following} {token = token} at = omega
     (arith, at.lo_place, at.hi_place, ap length at.rest_is, length-append token following)
 
--- The bytes of a cursor's next token are the part of the rest before the text that follows the token.
+-- If `rest` begins with a lexeme and the text `following` follows the lexeme, `TokenAt` holds for the slice of `rest`
+-- before `following`.
 token_at : (text rest following token : List ℕ) (form : LexemeForm) → IsTail text rest → IsTail rest following
     → FormBefore (chars rest) form (chars following) → IsUtf8 token → token
     ≡ slice_range rest 0 (length rest - length following) → TokenAt text rest following token form
@@ -63,7 +65,8 @@ token_at text rest following token form in_text in_rest front is token_is =
       hi_place = omega (arith, tail_length text rest in_text, tail_length rest following in_rest);
     }
 
--- After a cursor has consumed a token and the separator after it, its rest is an end of the text.
+-- After a cursor has consumed a token and the white space and comments after the token, the text that remains is still
+-- the end of the whole text.
 pub still_cutting : (text rest following next : List ℕ) → IsCursorState text rest → IsTail rest following
     → IsTail following next → IsCursorState text next
 still_cutting text rest following next is in_rest in_tail = record {

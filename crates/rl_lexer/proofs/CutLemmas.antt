@@ -1,4 +1,5 @@
--- The tokens of a text that gets one more token.
+-- Lemmas: if a text is lexed into some tokens, and one more token follows, the text is lexed into these tokens and that
+-- one.
 use Rattle.rl_syntax.proofs.Common.{◌≡◌, ℕ, ◌+◌, List, [], ◌∷◌, ◌++◌, length, length-append, Option, Some, None, refl, sym, ◌∙◌, ap, subst, arith, encodes-append, encode_utf8_all, option_and_then}
 use Rattle.rl_lexer.specs.Skipping.{Skipped}
 use Rattle.rl_lexer.specs.Lexemes.{lexeme_text, IsLexeme}

@@ -1,4 +1,5 @@
--- If no lexeme begins a text's rest, the error there is the text's first error.
+-- Proof that, if no lexeme begins the text after a cursor, the error at the cursor is the first error of the whole
+-- text.
 use Rattle.rl_syntax.proofs.Common.{◌≡◌, ◌≢◌, ℕ, ◌+◌, ◌-◌, ◌<◌, Bool, true, false, ◌||◌, ◌==◌, List, [], length, Option, Some, None, refl, sym, ◌∙◌, ap, subst, arith, or_from, encodes-chars, nat_tests, IfNone, codes, if◌then◌else◌, chars, IsUtf8, encode_utf8_all}
 use Rattle.std.specs.Option.{is_some}
 use Rattle.rl_lexer.specs.declared.lex_error.LexKind.{LexKind}
@@ -13,16 +14,16 @@ use Rattle.rl_syntax.proofs.Rests.{tail_length}
 use Rattle.rl_lexer.specs.Mirrors.LexemeAt.{begins_quote}
 use Rattle.rl_lexer.specs.Lexemes.{begins_raw_identifier}
 
--- The characters of a text, encoded, have as many bytes as the text.
+-- The number of bytes to which the characters of a text are encoded is the length of the text in bytes.
 pub char_len : (t : List ℕ) → IsUtf8 t → byte_len (chars t) ≡ length t
 char_len t is = ap length (encodes-chars t is)
 
--- The byte offset of a rest in a text is the same, whether it is computed from the bytes or from the characters of the text.
+-- The byte offset at which the end of a text begins is the same, whether it is computed from bytes or from characters.
 pub rest_place : (text rest : List ℕ) (at : ℕ) → IsUtf8 text → IsUtf8 rest → at + length rest ≡ length text
     → at + byte_len (chars rest) ≡ byte_len (chars text)
 rest_place text rest at is is_rest place = omega (arith, char_len text is, char_len rest is_rest, place)
 
--- If no lexeme begins a nonempty rest, the error of the rest is the one that `error_kind` returns.
+-- If a text isn't empty and begins with no lexeme, `error_kind` returns the kind of the error at the start of the text.
 kind_here : (groups : List OpenGroup) (r : List ℕ) → r ≢ [] → BeginsNoLexeme r → ErrorAt (error_kind r) groups r
 kind_here groups r some none =
     go (begins_doc_comment r) (begins (codes "/*") r) (begins_quote r) (begins_lifetime r) (begins_raw_identifier r)
@@ -57,7 +58,8 @@ error_rejects t UnclosedGroup at h = h
 error_rejects t TooDeep at h = h
 error_rejects t Memory at h = absurd h.error
 
--- The offset of the error in a nonempty rest is the start of the rest.
+-- An error of a kind that `error_kind` returns is at the byte offset `at`, where lexing ends, and not at an opening
+-- delimiter before.
 here_place : (r : List ℕ) (groups : List OpenGroup) (at : ℕ) → at ≡ error_place (error_kind r) groups at
 here_place r groups at = go (begins_doc_comment r) (begins (codes "/*") r) (begins_quote r) (begins_lifetime r)
     (begins_raw_identifier r)
@@ -78,7 +80,8 @@ chars_some rest is some nil =
     let n : 0 < length rest = grind (arith, nat_tests) in
     absurd (omega (arith, ap length e))
 
--- The error that a cursor returns if no lexeme begins its rest. It is the first error of the text.
+-- The error `e`, which the cursor `t` returns if no lexeme begins the remaining text, is an error at the start of that
+-- text, and the first error of the whole text.
 pub record Stops (t : CursorState) (e : LexError) : Type 0 where
   pub error : (groups : List OpenGroup) → ErrorAt e.kind groups (chars t.rest)
   pub first : IsFirstError t e.kind e.at

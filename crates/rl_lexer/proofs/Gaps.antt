@@ -14,7 +14,8 @@ abbrev pub BeginsGap : List ℕ → Type 0
 BeginsGap [] = ⊤
 BeginsGap (c ∷ t) = IsTrue (is_white c || c == 47)
 
--- Every lexeme except a punctuation character. Its own characters determine where such a lexeme ends.
+-- A condition on a lexeme: it isn't a punctuation character. Such a lexeme stays a lexeme before white space, a slash
+-- or the end of a text.
 abbrev pub KeepsItsEnd : Lexeme → Type 0
 KeepsItsEnd (MarkLexeme c) = ⊥
 KeepsItsEnd _ = ⊤

@@ -46,7 +46,7 @@ pub hashes_first : (t : List ℕ) → t ≡ replicate (hashes t) 35 ++ after_run
 hashes_first [] = refl
 hashes_first (c ∷ t) = hashes_step c t (c == 35) refl (hashes_first t)
 
--- If a text is split before the rest that follows its leading hashes, the first part is these hashes.
+-- If a text `t` is split into `h` and the text after the leading hashes of `t`, `h` consists of these hashes.
 pub hashes_before : (h t r : List ℕ) → r ≡ after_run is_hash t → t ≡ h ++ r → h ≡ replicate (hashes t) 35
 hashes_before h t r past e = append_cancel_right h (replicate (hashes t) 35) (after_run is_hash t)
     (ap (λ z. h ++ z) (sym past) ∙ sym e ∙ hashes_first t)

@@ -10,7 +10,8 @@ use Rattle.rl_lexer.proofs.LexemeFound.{lexeme_at-found}
 abbrev Answer : Type 0
 Answer = Option (FoundForm × Bor (List ℕ))
 
--- From a result of the code, returns the token's form as the definitions have it, and the characters of the text after the token.
+-- Converts a result of the code to a result of a model: the form of a token, and the characters of the text after the
+-- token.
 abbrev seen : FoundForm × Bor (List ℕ) → LexemeForm × List ℕ
 seen p = (form_view p.0, chars p.1.now)
 

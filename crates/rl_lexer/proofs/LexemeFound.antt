@@ -11,7 +11,8 @@ use Rattle.rl_lexer.proofs.LexemeRows.{power_text}
 use Rattle.rl_lexer.proofs.LexemeOpeners.{prefixed, opens_found, sign_found, underscores_found, passes_split, no_exponent_begins, none_otherwise}
 use Rattle.rl_lexer.proofs.LexemeFronts.{decimal_text, raw_text}
 
--- The text begins with a sequence of characters that pass the test, and `r` is the text after it.
+-- The text `t` consists of characters that pass the test, and of the text `r`, which doesn't begin with such a
+-- character.
 abbrev Row : (ℕ → Bool) → List ℕ → List ℕ → Type 0
 Row test t r = (run : List ℕ) × IsRun test run r × (t ≡ run ++ r)
 
@@ -41,7 +42,7 @@ mapped : {A B : Type 0} (f : A → B) (o : Option A) (r : B) → option_map f o 
 mapped f None r h = absurd (cc)
 mapped f (Some m) r h = (m, refl, cc)
 
--- The text begins with the body of a string literal and its closing quote, and `r` is the text after them.
+-- The text `t` consists of the body of a string literal, the closing quote, and the text `r`.
 abbrev Body : List ℕ → List ℕ → Type 0
 Body t r = (parts : List BodyPart) × IsBody parts × (t ≡ body_text parts ++ 34 ∷ r)
 
@@ -73,7 +74,7 @@ quote_found (c ∷ e ∷ t) r h =
       | inr (inr (a, b, x)) ↦ body_plain c (e ∷ t) r a b (quote_found (e ∷ t) r x)
     ]
 
--- The text begins with the body of a raw literal and its closing delimiter, and `r` is the text after them.
+-- The text `t` consists of the body of a raw literal, the closing quote with n hashes, and the text `r`.
 abbrev RawBody : ℕ → List ℕ → List ℕ → Type 0
 RawBody n t r = (body : List ℕ) × IsRawBody n body × (t ≡ body ++ 34 ∷ (replicate n 35 ++ r))
 
@@ -103,7 +104,8 @@ raw_found n (c ∷ t) r h =
       | inr (a, x) ↦ raw_more n c t r a (raw_found n t r x)
     ]
 
--- The text begins with the rest of an escaped character and the closing quote, as in `'\n'`, and `r` is the text after them.
+-- The text `t` consists of the end of an escape, the closing apostrophe, and the text `r`. In `'\u{41}'` the end of the
+-- escape is `{41}`. The end of the escape contains neither an apostrophe nor an LF.
 abbrev More : List ℕ → List ℕ → Type 0
 More t r = (more : List ℕ) × (list_all (λ d. not (d == 39 || d == 10)) more ≡ true) × (t ≡ more ++ 39 ∷ r)
 
@@ -147,7 +149,7 @@ single_found (c ∷ e ∷ t) r h =
       | inr (inr (a, b, x)) ↦ absurd (none-some r x)
     ]
 
--- The text begins with the fraction of a decimal number, perhaps an empty one, and `r` is the text after it.
+-- The text `t` consists of the fraction of a decimal number, which may be empty, and the text `r`.
 abbrev Fractioned : List ℕ → List ℕ → Type 0
 Fractioned t r = (f : LexedFraction) × IsLexedFraction f r × (t ≡ lexed_fraction_text f ++ r)
 
@@ -208,11 +210,11 @@ exponent_step (c ∷ t) true h =
 pub exponent_found : (t : List ℕ) → Powered t (after_lexed_exponent t)
 exponent_found t = exponent_step t (begins_exponent t) refl
 
--- A lexeme of the given form begins the text, and the second part of the pair is the text after the lexeme.
+-- The text `t` begins with a lexeme. The pair `p` contains the form of the lexeme, and the text after the lexeme.
 abbrev pub Found : List ℕ → LexemeForm × List ℕ → Type 0
 Found t p = (l : Lexeme) × IsLexeme l p.1 × (t ≡ lexeme_text l ++ p.1) × (form_of l ≡ p.0)
 
--- A literal begins the text, and `r` is the text after it.
+-- The text `t` begins with a literal token, and the text `r` follows this token.
 abbrev FoundLiteral : List ℕ → List ℕ → Type 0
 FoundLiteral t r = Found t (LiteralForm, r)
 
@@ -250,7 +252,7 @@ decimal_found d t is other =
       refl,
     )
 
--- The facts about a character that follow from its class.
+-- The facts about the first character of a text that follow from the character's class, for example that it is a quote.
 abbrev Fact : HeadClass → ℕ → Type 0
 Fact LetterBHead c = (is_start c ≡ true) × (c ≡ 98)
 Fact LetterCHead c = (is_start c ≡ true) × (c ≡ 99)
@@ -296,7 +298,7 @@ head_fact c true h = start_fact c h (c == 98) (c == 99) (c == 114) refl refl ref
 head_fact c false h = other_fact c (is_among delimiters c) (c == 47) (is_punct c) (is_ascii_digit c) (c == 34) (c == 39)
     refl refl refl refl refl refl
 
--- If the characters `c` and `k` are equal, a lexeme that begins the text of `k` and `t` also begins the text of `c` and `t`.
+-- If the characters `c` and `k` are equal, each lexeme at the start of `k ∷ t` is also at the start of `c ∷ t`.
 at_head : (c k : ℕ) (t : List ℕ) (p : LexemeForm × List ℕ) → c ≡ k → Found (k ∷ t) p → Found (c ∷ t) p
 at_head c k t p h (l, is, same, form) = (l, is, ap (λ x. x ∷ t) h ∙ same, form)
 
@@ -379,8 +381,8 @@ word_found c t p is other h =
 none3 : (p q r : Bool) → p ≡ false → q ≡ false → r ≡ false → (p || (q || r)) ≡ false
 none3 p q r a b d = ap (λ x. x || (q || r)) a ∙ ap (λ x. x || r) b ∙ d
 
--- If the text `t` begins with the character k, the text of c, k and the rest of `t` is the text of c and `t`, so a lexeme that
--- begins the first of these texts begins the second.
+-- If the text `t` begins with the character `k`, the texts `c ∷ k ∷ drop 1 t` and `c ∷ t` are equal. So a lexeme at the
+-- start of the first text is at the start of the second text.
 after_prefix : (c k : ℕ) (t : List ℕ) (p : LexemeForm × List ℕ) → begins_char k t ≡ true
     → Found (c ∷ k ∷ drop 1 t) p → Found (c ∷ t) p
 after_prefix c k t p e found = subst (λ (s : List ℕ). Found (c ∷ s) p) (sym (prefixed k t e)) found

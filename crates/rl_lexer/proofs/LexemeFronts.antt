@@ -12,7 +12,7 @@ use Rattle.rl_lexer.proofs.LexemeRows.{not_true, run_past, suffix_past, quote_pa
 use Rattle.rl_lexer.proofs.HashLemmas.{hashes_count, hashes_past}
 use Rattle.rl_lexer.proofs.LexemeOpeners.{raw_opens_here, exponent_past, no_otherwise}
 
--- If a character doesn't begin an identifier, `other_class` returns its class.
+-- For a character that doesn't begin an identifier, `head_class` returns the class that `other_class` returns.
 pub class_other : (c : ℕ) → is_start c ≡ false → head_class c ≡ other_class c
 class_other c h = ap (λ b. cond b (start_class c) (other_class c)) h
 
@@ -51,7 +51,7 @@ not_start_among codes c low all is = start_ascii c (low_among codes c low is)
 pub at_class : (c : ℕ) (t : List ℕ) (k : HeadClass) → head_class c ≡ k → lexeme_at (c ∷ t) ≡ by_class k c t
 at_class c t k h = ap (λ x. by_class x c t) h
 
--- Returns the class of a character that is neither a delimiter nor a punctuation character.
+-- The class of a character that is neither the start of an identifier, nor a delimiter, nor a punctuation character.
 abbrev pub tail_punct : ℕ → HeadClass
 tail_punct c = cond (is_ascii_digit c) DigitHead (cond (c == 34) QuoteHead (cond (c == 39) ApostropheHead StrayHead))
 
@@ -61,7 +61,7 @@ tail_slash c = cond (is_punct c) MarkHead (tail_punct c)
 abbrev pub after_delimiter : ℕ → HeadClass
 after_delimiter c = cond (c == 47) SlashHead (tail_slash c)
 
--- A character that is in no other class is a stray character.
+-- For a character that is in no other class, `head_class` returns the class `StrayHead`.
 pub stray_class : (c : ℕ) → is_start c ≡ false → is_among delimiters c ≡ false → (c == 47) ≡ false → is_among marks c
     ≡ false → is_ascii_digit c ≡ false → (c == 34) ≡ false → (c == 39) ≡ false → head_class c ≡ StrayHead
 stray_class c start delimiter slash mark digit quote apostrophe =
@@ -91,7 +91,8 @@ class99 = class_start 99 (start_ascii 99 (lit< tt))
 pub class114 : head_class 114 ≡ LetterRHead
 class114 = class_start 114 (start_ascii 114 (lit< tt))
 
--- After a string literal with escapes, `quoted_at` returns the text after the literal and its suffix.
+-- For the text after the opening quote of a string literal with escapes, `quoted_at` returns the text after the literal
+-- and its suffix.
 quoted_past : (parts : List BodyPart) (x t : List ℕ) → IsBody parts → IsLexedSuffix x t
     → quoted_at (body_text parts ++ 34 ∷ x ++ t) ≡ Some t
 quoted_past parts x t is suffix =
@@ -107,7 +108,8 @@ front_quoted BytePrefix parts x t is suffix = at_class 98 (34 ∷ (body_text par
 front_quoted CPrefix parts x t is suffix = at_class 99 (34 ∷ (body_text parts ++ 34 ∷ x ++ t)) LetterCHead class99
     ∙ ap literal_at (quoted_past parts x t is suffix)
 
--- After a character or byte literal's body, closing quote and suffix, `single_at` returns the text after them.
+-- For the text after the opening apostrophe of a character or byte literal, `single_at` returns the text after the
+-- literal and its suffix.
 single_front : (inside : CharacterBody) (x t : List ℕ) → IsCharacterBody inside → IsLexedSuffix x t
     → single_at (character_body_text inside ++ 39 ∷ x ++ t) ≡ Some t
 single_front inside x t is suffix =
@@ -121,7 +123,7 @@ front_character false inside x t is suffix = at_class 39 (character_body_text in
 front_character true inside x t is suffix = at_class 98 (39 ∷ (character_body_text inside ++ 39 ∷ x ++ t)) LetterBHead
     class98 ∙ ap literal_at (single_front inside x t is suffix)
 
--- If a list contains no delimiter, a character of the list isn't a delimiter.
+-- If no element of a list is a delimiter, a character in the list isn't a delimiter.
 not_delimiter : (codes : List ℕ) (c : ℕ) → list_all (λ k. not (is_among delimiters k)) codes ≡ true → is_among codes c
     ≡ true → is_among delimiters c ≡ false
 not_delimiter codes c all is = not_true (is_among delimiters c)
@@ -145,7 +147,8 @@ front_mark c t (inl is) =
     ∙ ap (λ b. cond (b || c == 47) MarkHead (tail_punct c)) is)
 front_mark c t (inr (e, h)) = ap (λ x. lexeme_at (x ∷ t)) e ∙ front_slash t h ∙ ap (λ x. Some (MarkForm x, t)) (sym e)
 
--- The text of a raw literal is the same, whether its parts and the text after it are joined from the left or from the right.
+-- The parts of a raw literal and the text after the literal can be joined from the left or from the right: the joined
+-- text is the same.
 pub raw_text : (n : ℕ) (body x t : List ℕ) → (((replicate n 35 ++ (34 ∷ body)) ++ (34 ∷ replicate n 35)) ++ x) ++ t
     ≡ replicate n 35 ++ (34 ∷ (body ++ (34 ∷ (replicate n 35 ++ (x ++ t)))))
 raw_text n body x t = simp append_assoc
@@ -182,7 +185,7 @@ front_raw CPrefix n body x t is suffix =
     ∙ raw_chosen u (word_at (114 ∷ u)) t (raw_opens_here n (body ++ 34 ∷ (replicate n 35 ++ (x ++ t))))
     (raw_front n body x t is suffix)
 
--- After a number with a prefix, `lexeme_at` returns the text after the number.
+-- `lexeme_at` returns the text after a number with a prefix, such as `0x1F`.
 front_based : (letter : ℕ) (digits t : List ℕ) → IsTrue (is_base_letter letter) → IsRun is_continue digits t
     → lexeme_at (48 ∷ letter ∷ digits ++ t) ≡ Some (LiteralForm, t)
 front_based letter digits t is run =
@@ -272,7 +275,8 @@ front_identifier c more t is run other =
     at_class c (more ++ t) (start_class c) (class_start c is) ∙ word_class c (more ++ t)
     (no_otherwise (c ∷ more ++ t) other) ∙ ap (λ s. Some (IdentifierForm, s)) (run_past is_continue more t run)
 
--- For a lexeme of each of the eight forms, `lexeme_at` returns its form and the text after it.
+-- For a lexeme and a text after it, `lexeme_at` returns the form of the lexeme and that text. A lexeme has one of eight
+-- forms.
 pub lexeme_at-past : (l : Lexeme) (t : List ℕ) → IsLexeme l t → lexeme_at (lexeme_text l ++ t) ≡ Some (form_of l, t)
 lexeme_at-past (QuotedLexeme p parts x) t (is, suffix) = front_quoted p parts x t is suffix
 lexeme_at-past (RawLexeme p n body x) t (is, suffix) = front_raw p n body x t is suffix

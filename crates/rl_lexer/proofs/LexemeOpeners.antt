@@ -1,4 +1,4 @@
--- The tests of a text's start, which decide what lexeme may begin the text.
+-- Lemmas about tests of the first characters of a text. The tests decide what lexeme may begin the text.
 use Rattle.rl_syntax.proofs.Common.{◌≡◌, ℕ, suc, zero, ◌⊎◌, inl, inr, Bool, true, false, not, ◌&&◌, ◌||◌, ◌==◌, cond, List, [], ◌∷◌, ◌++◌, drop, replicate, refl, sym, ◌∙◌, ap, and_parts, codes, is_ascii_digit, and_from, or_left, or_right}
 use Rattle.rl_syntax.specs.Texts.{is_underscore, first_passes, begins, is_run_part, is_start, begins_char}
 use Rattle.rl_lexer.specs.Lexemes.{BeginsHashedQuote, LiteralPrefix, NoPrefix, BytePrefix, CPrefix, prefix_text, BeginsRaw, begins_prefixed_quote, begins_raw_identifier, BeginsOtherwise, LexedSign, NoLexedSign, LexedPlus, LexedMinus, lexed_sign_text, LexedExponent, NoLexedExponent, LexedPower, lexed_exponent_text, IsLexedExponent, BeginsLexedExponent}
@@ -14,12 +14,12 @@ or_cases : (a b : Bool) → (a || b) ≡ true → (a ≡ true) ⊎ (b ≡ true)
 or_cases true b h = inl refl
 or_cases false b h = inr h
 
--- If a text begins with the character k, the text is k and the rest.
+-- If a text begins with the character `k`, the text is `k`, followed by the text without its first character.
 pub prefixed : (k : ℕ) (t : List ℕ) → begins_char k t ≡ true → t ≡ k ∷ drop 1 t
 prefixed k [] h = absurd (cc)
 prefixed k (c ∷ t) h = ap (λ x. x ∷ t) (is_equal c k h)
 
--- If a text begins with the characters k and l, the text is k, l and a rest.
+-- If a text begins with the characters `k` and `l`, the text is `k` and `l`, followed by some text.
 two : (k l : ℕ) (t : List ℕ) → begins (k ∷ l ∷ []) t ≡ true → (u : List ℕ) × (t ≡ k ∷ l ∷ u)
 two k l [] h = absurd (cc)
 two k l (c ∷ []) h = let q : false ≡ true = (and_parts (c == k) false h).1 in absurd (cc)

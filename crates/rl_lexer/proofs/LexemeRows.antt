@@ -1,4 +1,5 @@
--- For each part of a lexeme, a function returns the text after the part.
+-- Lemmas about functions that skip one part of a lexeme, such as the body of a string: each returns the text after the
+-- part.
 use Rattle.rl_syntax.proofs.Common.{◌≡◌, ℕ, suc, zero, Bool, true, false, not, ◌&&◌, ◌||◌, ◌==◌, cond, List, [], ◌∷◌, ◌++◌, Some, None, drop, replicate, refl, sym, ◌∙◌, ap, subst, append_assoc, and_parts, list_all, is_ascii_digit}
 use Rattle.rl_syntax.specs.Texts.{is_underscore, first_passes, is_run_part, is_continue}
 use Rattle.rl_lexer.specs.Lexemes.{BodyPart, PlainPart, EscapedPart, body_text, IsBody, CharacterBody, OneCharacter, EscapedCharacter, character_body_text, IsCharacterBody, LexedFraction, NoLexedFraction, LexedDot, lexed_fraction_text, LexedSign, NoLexedSign, LexedPlus, LexedMinus, lexed_sign_text, LexedPower, lexed_exponent_text, IsRun, IsLexedSuffix, IsRawBody, IsLexedFraction}
@@ -34,7 +35,7 @@ suffix_past [] (c ∷ t) is = ap (λ b. cond b (after_run is_continue t) (c ∷ 
 suffix_past (c ∷ x) t (is, run) = ap (λ b. cond b (after_run is_continue (x ++ t)) (c ∷ x ++ t)) is
     ∙ run_past is_continue x t run
 
--- A closing quote at the start of a text ends a string literal, so `after_quote` returns the text after the quote.
+-- At a closing quote, a string literal ends, so `after_quote` returns the text after the quote.
 pub quote_now : (t : List ℕ) → after_quote (34 ∷ t) ≡ Some t
 quote_now [] = refl
 quote_now (e ∷ t) = refl
@@ -59,7 +60,7 @@ quote_past (PlainPart c ∷ parts) t (plain, is) =
     plain_past c (body_text parts ++ 34 ∷ t) t (body_cons parts t) k.0 k.1 ∙ quote_past parts t is
 quote_past (EscapedPart c ∷ parts) t is = quote_past parts t is
 
--- After the body and the closing delimiter of a raw literal, `after_raw` returns the text after them.
+-- If a text consists of the body of a raw literal, the closing delimiter and the text `t`, `after_raw` returns `t`.
 pub raw_past : (n : ℕ) (body t : List ℕ) → IsRawBody n body → after_raw n (body ++ 34 ∷ (replicate n 35 ++ t)) ≡ Some t
 raw_past n [] t is =
     ap (λ b. cond b (Some (drop n (replicate n 35 ++ t))) (after_raw n (replicate n 35 ++ t))) (hashes_here n t)
@@ -70,7 +71,8 @@ raw_past n (c ∷ body) t (here, is) =
     (hashes_inside n body (replicate n 35 ++ t)) ∙ here)
     ∙ raw_past n body t is
 
--- After the rest of an escaped character and the closing quote, `after_apostrophe` returns the text after them.
+-- If a text consists of the end of an escape, the closing apostrophe and the text `t`, `after_apostrophe` returns `t`.
+-- In `'\u{41}'` the end of the escape is `{41}`.
 apostrophe_past : (more t : List ℕ) → list_all (λ d. not (d == 39 || d == 10)) more ≡ true
     → after_apostrophe (more ++ 39 ∷ t) ≡ Some t
 apostrophe_past [] t is = refl
@@ -87,7 +89,7 @@ pub single_past : (inside : CharacterBody) (t : List ℕ) → IsCharacterBody in
 single_past (OneCharacter c) t is = ap (λ b. cond b (after_apostrophe t) (Some t)) (not_true (c == 92) is)
 single_past (EscapedCharacter c more) t is = apostrophe_past more t is
 
--- After the fraction of a decimal number, `after_lexed_fraction` returns the text after it.
+-- If a text consists of the fraction of a decimal number and the text `t`, `after_lexed_fraction` returns `t`.
 pub fraction_past : (f : LexedFraction) (t : List ℕ) → IsLexedFraction f t
     → after_lexed_fraction (lexed_fraction_text f ++ t) ≡ t
 fraction_past NoLexedFraction t is = ap (λ b. cond b (after_run (is_run_part is_ascii_digit) (drop 1 t)) t) is

@@ -1,4 +1,4 @@
--- The tokens between one literal of a source and the next.
+-- Lemmas about the tokens between one literal of a source and the next.
 use Rattle.rl_syntax.proofs.Common.{◌≡◌, ◌⊎◌, inl, inr, ℕ, None, Some, true, false, ◌==◌, ◌+◌, ◌-◌, ◌≤◌, List, [], ◌∷◌, ◌++◌, refl, sym, ap, subst, ◌∙◌, append_assoc, append-nil, arith, AllByRecursion, chars}
 use Rattle.rl_syntax.specs.Texts.{byte_len, is_white, IsTail}
 use Rattle.rl_syntax.specs.Trivia.{White}
@@ -41,8 +41,8 @@ holds_join t u r p q = record {
       (q.goes_on whole (done ++ p.cuts whole) (omega (arith, p.within, long)) (p.goes_on whole done long cut));
 }
 
--- If a text begins with a token that isn't a literal, and only a separator follows the token up to the text r, there is only this
--- token before r.
+-- If a text consists of a token that isn't a literal, white space and comments, and the text `r`, only tokens that
+-- aren't literals precede `r`.
 pub holds_one : (t after r : List ℕ) (kind : SourceKind) (token : SourceBefore t kind after)
     → (IsLiteralText kind (source_text token.token) → ⊥) → Skipped after r → byte_len r ≤ byte_len after
     → HasOnlyOtherTokens t r
@@ -83,16 +83,16 @@ reach_end t r skipped = record { start = r; skipped = skipped; holds = holds_sta
 pub reach_white : (c : ℕ) (t r : List ℕ) → is_white c ≡ true → Reaches t r → Reaches (c ∷ t) r
 reach_white c t r white h = record { start = h.start; skipped = skipped_after (c ∷ t) t h.start (after_piece-past (White c) t white) h.skipped; holds = h.holds }
 
--- If white space or a plain comment begins a text, and only tokens other than literals follow it up to the text `r`, there are
--- only such tokens before `r` in the whole text.
+-- Suppose that only white space, comments and tokens other than literals precede the text `r`. This is still so if
+-- white space or a plain comment is added at the start of the whole text.
 pub reach_piece : (t u r : List ℕ) → after_piece t ≡ Some u → Reaches u r → Reaches t r
 reach_piece t u r piece h = record { start = h.start; skipped = skipped_after t u h.start piece h.skipped; holds = h.holds }
 
 pub reach_run : (t u r : List ℕ) → u ≡ after_run is_white t → Reaches u r → Reaches t r
 reach_run t u r run h = record { start = h.start; skipped = skipped_run t u h.start run h.skipped; holds = h.holds }
 
--- If a token other than a literal begins a text, and only tokens other than literals follow it up to the text `r`, there are only
--- such tokens before `r` in the whole text. The text begins with neither white space nor a comment.
+-- Suppose that only white space, comments and tokens other than literals precede the text `r`. This is still so if a
+-- token other than a literal is added at the start of the whole text.
 pub reach_first : (t after r : List ℕ) (kind : SourceKind) → after_piece t ≡ None
     → (token : SourceBefore t kind after) → (IsLiteralText kind (source_text token.token) → ⊥) → Reaches after r
     → Reaches t r
@@ -145,7 +145,8 @@ pub passed_join : (a b d : CursorState) → Passed a b → PassesTo b d → Pass
 passed_join a b d (inl same) q = subst (λ z. PassesTo z d) same q
 passed_join a b d (inr p) q = passes_join a b d p q
 
--- If the code's form and text of a consumed token aren't those of a literal, the token isn't a literal by the definitions.
+-- If the form and the text of a token that the code consumed aren't those of a literal, the token isn't a literal by
+-- the definitions.
 is_no_literal : (old new : CursorState) (l : SourceToken) → (t : TakesSource old l new)
     → (IsLiteralText (source_view l.form) (chars l.text.now) → ⊥) → IsOtherToken t.cut
 is_no_literal old new l t other = λ is. other (subst (λ z. IsLiteralText z (chars l.text.now)) t.is_cut.kind_is

@@ -1,4 +1,4 @@
--- A number token that is recognized by its first digit, and number tokens that end right after their digits.
+-- Lemmas about number tokens. The first digit shows that a token is a number. The token may end right after its digits.
 use Rattle.rl_syntax.proofs.Common.{◌≡◌, ℕ, ◌⊎◌, inl, inr, Bool, true, false, not, ◌&&◌, ◌||◌, ◌==◌, cond, List, [], ◌∷◌, Some, refl, sym, ◌∙◌, ap, lit<, arith, drop, nat_tests, is_ascii, is_ascii_digit}
 use Rattle.rl_syntax.proofs.Basics.{false_unless}
 use Rattle.rl_syntax.specs.Texts.{is_underscore, first_passes, is_run_part, is_start, is_continue}
@@ -57,7 +57,8 @@ no_start c = not (is_start c)
 starts : (k : ℕ) → is_start k ≡ true → no_start k ≡ false
 starts k h = ap not h
 
--- If a number token ends right after its leading digits, no underscore follows the digits.
+-- If the character after the leading digits of a text is neither a dot nor the start of an identifier, no underscore
+-- follows the digits.
 same_row : (t : List ℕ) → first_passes goes_on_none (after_run is_ascii_digit t) ≡ true
     → after_run (is_run_part is_ascii_digit) t ≡ after_run is_ascii_digit t
 same_row [] h = refl
@@ -75,7 +76,8 @@ same_row (d ∷ u) h = go (is_ascii_digit d) refl h (same_row u)
         (not_among d 95 no_start (ap not (neither_true (d == 46) (is_start d) h).1)
         (starts 95 (start_ascii 95 (lit< tt))))
 
--- The text after all leading digits and underscores is the same, whether or not the leading digits were skipped before.
+-- Skipping the leading digits of a text, and then the digits and underscores that follow, skips all leading digits and
+-- underscores.
 row_on : (t : List ℕ) → after_run (is_run_part is_ascii_digit) (after_run is_ascii_digit t)
     ≡ after_run (is_run_part is_ascii_digit) t
 row_on [] = refl
@@ -88,8 +90,8 @@ row_on (d ∷ u) = go (is_ascii_digit d) refl (row_on u)
     go true is more = more ∙ sym (ap (λ a. cond (a || d == 95) (after_run (is_run_part is_ascii_digit) u) (d ∷ u)) is)
     go false is more = refl
 
--- If a letter of a base such as `x` follows the digit 0, it is lexed as the start of a suffix, so the number is lexed as a
--- decimal one.
+-- After the digit 0, the letter of a base (`x`, `o` or `b`) can be lexed as the start of a suffix. So a number such as
+-- `0x1F` ends where the decimal number `0` with the suffix `x1F` ends.
 base_is_suffix : (t : List ℕ) → first_passes is_base_letter t ≡ true → after_run is_continue (drop 1 t)
     ≡ after_decimal t
 base_is_suffix [] h = absurd (cc)

@@ -1,5 +1,5 @@
--- `after_piece` consumes exactly one piece: white space, a plain comment, or a line comment at the end of the text. So
--- the text after all pieces is unique.
+-- `after_piece` skips exactly one of these at the start of a text: a white space character, a plain comment, or a line
+-- comment at the end of the text. So the text after all white space and comments is unique.
 use Rattle.rl_syntax.proofs.Common.{◌≡◌, ℕ, suc, zero, ◌+◌, ◌⊎◌, inl, inr, Bool, true, false, ◌==◌, cond, List, [], ◌∷◌, ◌++◌, length, Option, Some, None, refl, sym, ◌∙◌, ap, subst, arith, append_assoc, nat_tests, AllByRecursion}
 use Rattle.rl_syntax.specs.Texts.{is_white, first_passes}
 use Rattle.rl_syntax.specs.Trivia.{is_comment_line, is_comment_block, inside_text, TriviaPiece, White, Line, Block, trivia_piece_text, IsTriviaPiece, trivia_text, IsTrivia}
@@ -26,7 +26,8 @@ after_line-sound : (t : List ℕ) → LineEnds t (after_line t)
 after_line-sound [] = inr (refl, refl)
 after_line-sound (c ∷ t) = line_ends_step c t (c == 10) refl (after_line-sound t)
 
--- The text `r` follows one piece of a text: white space, a plain comment, or a line comment at the end of the text.
+-- The text `t` begins with a white space character, with a plain comment, or with a line comment that ends the text.
+-- The text `r` follows this character or comment.
 abbrev pub TakesOff : List ℕ → List ℕ → Type 0
 TakesOff t r = ((p : TriviaPiece) × IsTriviaPiece p × (t ≡ trivia_piece_text p ++ r)) ⊎ (IsOpenLine t × (r ≡ []))
 
@@ -104,7 +105,7 @@ after_piece-open t l =
     ∙ ap (λ x. cond x (Some (after_line l.body)) None) l.is_body.plain
     ∙ ap Some (after_line-open l.body l.is_body.one_line)
 
--- If `after_piece` returns `None` for a text, neither white space nor a plain comment begins the text.
+-- If `after_piece` returns `None` for a text, the text begins with neither white space nor a plain comment.
 pub stops-from_none : (t : List ℕ) → after_piece t ≡ None → BeginsTrivia t → ⊥
 stops-from_none t h (inl (p, rest, is, same)) = none-some rest
     (sym h ∙ ap after_piece same ∙ after_piece-past p rest is)
@@ -118,7 +119,8 @@ none_unless : (t : List ℕ) (o : Option (List ℕ)) → after_piece t ≡ o →
 none_unless t None h stops = refl
 none_unless t (Some r) h stops = absurd (stops (begins-from_some t r (after_piece-sound t r h)))
 
--- One iteration of a function that skips white space and comments, with a limit on the number of iterations.
+-- The result of one iteration of a function that skips white space and comments: the text `t` if nothing was skipped,
+-- and otherwise the result of `f` for the text after the skipped white space or comment.
 abbrev goes_on : (List ℕ → List ℕ) → List ℕ → Option (List ℕ) → List ℕ
 goes_on f t None = t
 goes_on f t (Some r) = f r
@@ -148,7 +150,8 @@ skip_in-stops : (n : ℕ) (t : List ℕ) → after_piece t ≡ None → skip_in 
 skip_in-stops zero t h = refl
 skip_in-stops (suc n) t h = ap (λ x. goes_on (skip_in n) t x) h
 
--- If its limit is large enough, the skipping function reaches the text after all white space and comments.
+-- A function that skips white space and comments, with a limit on its iterations, returns `r` for the text `t` if the
+-- limit is large enough.
 abbrev Reaches : List ℕ → List ℕ → Type 0
 Reaches t r = (ps : List TriviaPiece) × ((n : ℕ) → skip_in (adds ps (suc n)) t ≡ r)
 
@@ -184,7 +187,7 @@ one_rest t r s a b =
     ) in
     sym (f m) ∙ ap (λ k. skip_in k t) e ∙ g n
 
--- If an empty text is joined from two texts, the second is empty.
+-- If two texts joined are the empty text, the second one is empty.
 nil-append : (a r : List ℕ) → [] ≡ a ++ r → r ≡ []
 nil-append [] r h = sym h
 nil-append (x ∷ a) r h = absurd (cc)

@@ -22,7 +22,8 @@ pub free_from : (test : ℕ → Bool) (a b : ℕ) → test a ≡ false → test 
 free_from test a b at_a at_b c h = not_from_false (c == a || c == b)
     (or_from (c == a) (c == b) (apart test c a h at_a) (apart test c b h at_b))
 
--- Neither of two given characters can be part of an escape after the escape's first two characters.
+-- The conditions on two characters under which neither of them occurs in an escape after the escape's first two
+-- characters. The quote and the backslash meet the conditions.
 record Outside (a b : ℕ) : Type 0 where
   pub hex_a : is_ascii_hexdigit a ≡ false
   pub hex_b : is_ascii_hexdigit b ≡ false
@@ -36,7 +37,8 @@ quote_outside = record { hex_a = refl; hex_b = refl; underscore = refl; open_bra
 apostrophe_outside : Outside 39 10
 apostrophe_outside = record { hex_a = refl; hex_b = refl; underscore = refl; open_brace = refl; close_brace = refl }
 
--- The unit is an escape: a backslash, a character, and more characters, none of which is one of two given characters.
+-- The part `s` of a literal's body is an escape: a backslash, a character, and more characters, none of which is `a` or
+-- `b`.
 record Escape (a b : ℕ) (s : StrictUnit) : Type 0 where
   pub first : ℕ
   pub more : List ℕ
@@ -117,7 +119,7 @@ unicode_of a b Char ds o h = spaced_escape a b ds o h
 unicode_of a b CStr ds o h = spaced_escape a b ds o (and_parts (is_unicode_escape ds) (not (spaced_value ds == 0)) h).0
 unicode_of a b kind ds o h = absurd (cc)
 
--- The unit is a character that a literal of the kind may contain unescaped, or an escape.
+-- The part `s` of a literal's body is a character that a literal of the kind may contain unescaped, or an escape.
 abbrev OneOrEscape : ℕ → ℕ → Kind → StrictUnit → Type 0
 OneOrEscape a b k s = ((c : ℕ) × (s ≡ Itself c) × (is_strict_unit k (Itself c) ≡ true)) ⊎ Escape a b s
 
@@ -133,7 +135,8 @@ one_or_escape a b k (UnicodeEscape ds) o line h = inr (unicode_of a b k ds o h)
 one_or_escape a b k (LineBreak blanks) o line h = inr (record
     { first = 10; more = blanks; text = refl; each = line blanks h })
 
--- The properties of a kind of strings that make the text between its quotes the body of a lexeme.
+-- The properties of a kind of string literals from which it follows that the text between the quotes is the body of a
+-- lexeme.
 pub record StringKind (k : Kind) : Type 0 where
   pub bare : (c : ℕ) → is_strict_unit k (Itself c) ≡ true → free 34 92 c ≡ true
   pub line : (blanks : List ℕ) → is_strict_unit k (LineBreak blanks) ≡ true → list_all (free 34 92) blanks ≡ true
@@ -168,7 +171,7 @@ plain_body (c ∷ cs) more all is =
     let p = and_parts (free 34 92 c) (list_all (free 34 92) cs) all in
     (p.0, plain_body cs more p.1 is)
 
--- The characters and escapes of a string are the text of a lexeme's body.
+-- The text of the characters and escapes `us` of a string literal is the body of a lexeme.
 record Spelled (us : List StrictUnit) : Type 0 where
   pub parts : List BodyPart
   pub text : body_text parts ≡ flat_map strict_text us
@@ -220,7 +223,8 @@ string_parts k t x v f s =
           ∙ sym (quoted_text f.before (body_text r.parts) x);
     }
 
--- The properties of `Char` and `Byte` that make the text between their quotes the body of a lexeme.
+-- The properties of the kinds `Char` and `Byte` from which it follows that the text between the apostrophes is the body
+-- of a lexeme.
 pub record SingleKind (k : Kind) : Type 0 where
   pub bare : (c : ℕ) → is_strict_unit k (Itself c) ≡ true → not (c == 92) ≡ true
   pub line : (blanks : List ℕ) → is_strict_unit k (LineBreak blanks) ≡ true → list_all (free 39 10) blanks ≡ true
@@ -235,7 +239,7 @@ character_kind = record { bare = bare_not_backslash; line = λ blanks h. absurd 
 pub byte_kind : SingleKind Byte
 byte_kind = record { bare = λ c h. bare_not_backslash c (and_parts (nat_lt c 128) (is_allowed_in_single_quotes c) h).1; line = λ blanks h. absurd (cc); is_byte = true; opens_is = refl; ends_is = refl; one = λ us h. h }
 
--- The text of the character or escape in a character or byte literal is the body of a lexeme.
+-- The text of `s`, the character or escape in a character or byte literal, is the body of a lexeme.
 record Between (s : StrictUnit) : Type 0 where
   pub inside : CharacterBody
   pub text : strict_text s ≡ character_body_text inside
@@ -277,7 +281,7 @@ single_parts k t x v f s =
           ∙ sym (single_text f.is_byte (character_body_text w.inside) x);
     }
 
--- If no quote in a raw string's body is followed by as many hashes as begin the string, the body is that of a lexeme.
+-- If no quote in the body of a raw string with n hashes is followed by n hashes, the body is the body of a lexeme.
 pub raw_body : (n : ℕ) (body : List ℕ) → ((front rest : List ℕ) → body ≢ (front ++ (34 ∷ replicate n 35)) ++ rest)
     → IsRawBody n body
 raw_body n [] none = tt

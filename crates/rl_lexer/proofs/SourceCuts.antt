@@ -1,4 +1,4 @@
--- The token that a cursor over a source consumes next, and the texts that the cursor borrows.
+-- Lemmas about the token that a cursor over a source consumes next: its bytes, and its byte range in the source.
 use Rattle.rl_syntax.proofs.Common.{◌≡◌, ◌≢◌, ℕ, ◌+◌, ◌-◌, ◌⊎◌, inl, inr, Bool, true, false, ◌||◌, ◌==◌, List, [], ◌∷◌, ◌++◌, length, length-append, take, slice_range, refl, sym, ◌∙◌, ap, subst, arith, codes, if◌then◌else◌, append_cancel_right, encodes-append, encodes-chars, chars_from_encodes, chars, encode_utf8_all, IsUtf8}
 use Rattle.rl_syntax.specs.Texts.{IsTail, byte_len, first_passes, begins}
 use Rattle.rl_lexer.specs.Skipping.{Skipped}
@@ -18,7 +18,8 @@ use Rattle.rl_lexer.proofs.LexemeOpeners.{quote_begins}
 use Rattle.rl_lexer.proofs.SourceFronts.{proper_source, closed_here}
 use Rattle.rl_syntax.proofs.Rests.{tail_length}
 
--- Before any token of a source is consumed, the invariant of the cursor over the source holds.
+-- Before any token of a source is lexed, the source is lexed up to the text after its byte order mark, its
+-- interpreter's line, and the white space and comments that follow.
 pub begun : (text front rest : List ℕ) → IsUtf8 text → IsTail text front → IsWithoutPreamble (chars text) (chars front)
     → Skipped (chars front) (chars rest) → IsCutUpTo (chars text) [] (chars rest)
 begun text front rest is following is_front skipped = record {
@@ -59,7 +60,8 @@ cut_more t done u w after r cut same is place skipped = record {
   are_cuts = sources_more cut.at cut.body done u w after r cut.are_cuts same is (place ∙ sym cut.place) skipped;
 }
 
--- The token at the start of a source's rest, with its bytes, and its range in the source.
+-- The text `rest`, which is the end of `text`, begins with a source's token of the kind `kind`, and the text
+-- `following` follows the token. The token has the bytes `token` and the byte range from `lo` to `hi` in `text`.
 record SourceAt (text rest following token : List ℕ) (kind : SourceKind) (lo hi : ℕ) : Type 0 where
   pub front : SourceBefore (chars rest) kind (chars following)
   pub rest_text : IsUtf8 rest
@@ -186,7 +188,8 @@ error_here (c ∷ t) some none = go (opens (c ∷ t)) refl
     go true h = opens_one (c ∷ t) some none (open_bits (c ∷ t) h)
     go false h = absurd (none StrayKind t (record { token = StrayToken c; is_source = (no_proper (c ∷ t) none, closed_here (c ∷ t) h); text_is = refl; kind_is = refl }))
 
--- The error that a cursor over a source returns if no token begins its rest. It is the first error of the source.
+-- The error `e`, which the cursor `t` over a source returns if no token begins the remaining source, is an error at the
+-- start of that text, and the first error of the whole source.
 pub record StopsSource (t : CursorState) (e : LexError) : Type 0 where
   pub error : SourceErrorAt e.kind (chars t.rest)
   pub place : e.at + length t.rest ≡ length t.text

@@ -232,7 +232,7 @@ other_at-found (c ∷ t) p h =
 
 -- ---- invalid quoted literals and stray characters
 
--- Every token that is neither an invalid quoted literal nor a stray character is a token of a source.
+-- If a token is well formed, and is neither an invalid quoted literal nor a stray character, it is a token of a source.
 pub proper_source : (w : SourceLexeme) (t : List ℕ) → IsProper w t → IsSource w t
 proper_source (PlainToken l) t is = is
 proper_source (RawIdentifierToken c more) t is = is
@@ -247,7 +247,7 @@ true_false : (b : Bool) → b ≡ true → b ≡ false → ⊥
 true_false true h k = absurd (cc)
 true_false false h k = absurd (cc)
 
--- If the model `opens` returns `false` for a text, the text begins neither like a quoted literal nor like a block comment.
+-- If `opens` returns `false` for a text, the text begins neither like a quoted literal nor like a block comment.
 pub closed_here : (r : List ℕ) → opens r ≡ false → Opens r → ⊥
 closed_here r h o =
     let e = or_parts (begins (codes "/*") r) (begins_quote r || begins_char 39 r) h in
@@ -402,7 +402,8 @@ pub other_found : (t : List ℕ) (r : Answer) (p : SourceForm × Bor (List ℕ))
     ≡ other_at t → SourceBefore t (source_view p.0) (chars p.1.now)
 other_found t r p is rest = other_at-found t (seen p) (sym rest ∙ ap (option_map seen) is)
 
--- If neither a lexeme nor a token that `other_at` finds begins a text, a stray character or an invalid quoted literal begins it.
+-- If no doc comment, lifetime or raw identifier begins a text, the result of `stray_at` for the text is the result of
+-- `any_at`.
 pub no_other : (t : List ℕ) (o r : Answer) → o ≡ None → option_map seen o ≡ other_at t → option_map seen r ≡ stray_at t
     → option_map seen r ≡ any_at t
 no_other t o r none other stray = stray ∙ ap (λ x. or_stray x t) (sym (ap (option_map seen) none) ∙ other)

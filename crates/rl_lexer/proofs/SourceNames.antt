@@ -1,4 +1,4 @@
--- Identifiers at the start of a text.
+-- Lemmas about identifiers at the start of a text.
 use Rattle.rl_syntax.proofs.Common.{◌≡◌, ℕ, inl, inr, true, cond, List, [], ◌∷◌, ◌++◌, Some, None, drop, sym, ◌∙◌, ap, subst, none-some}
 use Rattle.rl_syntax.specs.Texts.{is_start, is_continue}
 use Rattle.rl_lexer.specs.Lexemes.{IsRun, begins_raw_identifier}

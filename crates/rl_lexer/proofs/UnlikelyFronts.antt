@@ -1,4 +1,5 @@
--- Neither a literal nor a comment begins before the first byte at which the code says that one may begin.
+-- Proofs about the search for the first byte at which a literal or a comment may begin: neither begins at an earlier
+-- byte.
 use Rattle.rl_syntax.proofs.Common.{◌≡◌, ℕ, zero, suc, ◌+◌, ◌<◌, ◌≤◌, Bool, true, false, not, ◌&&◌, ◌||◌, ◌==◌, nat_le, cond, List, [], ◌∷◌, ◌++◌, Some, None, length, take, drop, get_or, lit<, nat_lt, refl, sym, ap, subst, ◌∙◌, arith, agree_below_at, and_from, and_parts, nat_tests, take-append-drop, IsCharBoundary-start, IsCharBoundary-after_ascii, IsUtf8-take, chars-append, chars-IsAscii, is_ascii_alphabetic, is_ascii_digit, chars, IsAscii, IsCharBoundary, IsUtf8}
 use Rattle.rl_syntax.proofs.BeginsLemmas.{begins_bytes}
 use Rattle.rl_syntax.proofs.UnlikelyPlaces.{is_past}
@@ -92,7 +93,7 @@ reach_word c u r low here more =
 
 -- ---- letters that don't continue a literal
 
--- The byte `next` is the next character of the text, if that is ASCII.
+-- For each ASCII character `k` except NUL, the text `u` begins with `k` exactly if the byte `next` is `k`.
 abbrev Agrees : ℕ → List ℕ → Type 0
 Agrees next u = (k : ℕ) → 0 < k → k < 128 → begins_char k u ≡ (next == k)
 
@@ -201,8 +202,8 @@ slash_of false true s b h = absurd (cc)
 slash_of false false true b h = absurd (cc)
 slash_of false false false b h = refl
 
--- If a text begins with a character that begins neither an identifier nor a literal nor a comment, and only tokens other than
--- literals follow the character up to the text `r`, there are only such tokens before `r` in the whole text.
+-- Suppose that only white space, comments and tokens other than literals precede the text `r`. This is still so if one
+-- character that begins neither an identifier, nor a literal, nor a comment is added at the start of the whole text.
 reach_other : (c : ℕ) (u r : List ℕ) → c < 128 → is_ascii_id_continue c ≡ false → not (is_likely_mark c) ≡ true → Reaches u r
     → Reaches (c ∷ u) r
 reach_other c u r low plain unlikely more = go (is_white c) (is_always_token c) refl refl
@@ -215,14 +216,16 @@ reach_other c u r low plain unlikely more = go (is_white c) (is_always_token c) 
     go false true e f = reach_mark c u r slash e f more
     go false false e f = reach_stray c u r low (rw (plain, unlikely, e, f) refl) e more
 
--- The facts about a byte at which neither a literal nor a comment begins: it is ASCII, and the token there isn't a
+-- The facts about a byte `c` at which neither a literal nor a comment begins, where `p` is the byte before `c`: the
+-- byte `c` is ASCII, is neither a quote, an apostrophe nor a slash, and an identifier that begins at `c` isn't a
 -- literal.
 abbrev Passes : ℕ → ℕ → List ℕ → List ℕ → Type 0
 Passes p c u r =
     (c < 128) × (not (is_likely_mark c) ≡ true)
     × (is_ascii_id_continue p ≡ false → is_ascii_id_continue c ≡ true → Reaches (after_run is_continue u) r → Reaches (c ∷ u) r)
 
--- If the byte before a byte shows that neither a literal nor a comment begins at the second byte, the facts `Passes` hold for it.
+-- If the byte `p` before the byte `c` shows that neither a literal nor a comment begins at `c`, the facts `Passes` hold
+-- for `c`.
 passes_before : (p c : ℕ) (u r : List ℕ) → is_past (p, c) ≡ true → Passes p c u r
 passes_before p c u r past =
     let parts = parts_of (is_likely_mark c) (is_ascii_id_continue p) (is_likely_head c) past in (
@@ -247,7 +250,8 @@ three false true d h = absurd (cc)
 three false false true h = absurd (cc)
 three false false false h = (refl, refl, refl)
 
--- If the byte after a byte shows that neither a literal nor a comment begins at the first byte, the facts `Passes` hold for it.
+-- If the byte `next` after the byte `c` shows that neither a literal nor a comment begins at `c`, the facts `Passes`
+-- hold for `c`.
 passes_letter : (p c next : ℕ) (u r : List ℕ) → Agrees next u → goes_on_likely c next ≡ false → Passes p c u r
 passes_letter p c next u r agrees stops = go (c == 98) (c == 99) (c == 114) (c == 116) (c == 102) refl refl refl refl refl
     stops
@@ -306,7 +310,7 @@ both : (m : Bool) → not (m && true) ≡ true → not m ≡ true
 both true h = absurd (cc)
 both false h = refl
 
--- If neither a literal nor a comment begins at a byte, the facts `Passes` hold for it.
+-- If neither a literal nor a comment begins at the byte `c`, the facts `Passes` hold for `c`.
 passes : (p c next : ℕ) (u r : List ℕ) → Agrees next u → begins_none p c next ≡ true → Passes p c u r
 passes p c next u r agrees none = go (goes_on_likely c next) refl none
   where
@@ -316,8 +320,8 @@ passes p c next u r agrees none = go (goes_on_likely c next) refl none
 
 -- ---- sequences of bytes at which neither a literal nor a comment begins
 
--- Whether neither a literal nor a comment begins at any byte of a list. The byte before the list and the byte after it, `next`,
--- are given.
+-- Whether neither a literal nor a comment begins at any byte of a list, where `p` is the byte before the list and
+-- `next` is the byte after the list.
 abbrev none_in : ℕ → List ℕ → ℕ → Bool
 none_in p [] next = true
 none_in p (c ∷ cs) next = begins_none p c (first_or next cs) && none_in c cs next
@@ -363,7 +367,8 @@ reach_front p next (c ∷ cs) t r agrees all h = go (reach_front c next cs t r a
 
 -- ---- the bytes before the first one at which a literal or a comment may begin
 
--- The first byte of a list is the first one of its first n bytes. If n is 0, it is the first one of the other bytes.
+-- If a list of bytes is split after n bytes, the first byte of the list is the first byte of the first part. If n is 0,
+-- it is the first byte of the second part.
 first_same : (n : ℕ) (bs : List ℕ) → first_or (first_or 0 (drop n bs)) (take n bs) ≡ first_or 0 bs
 first_same zero bs = refl
 first_same (suc n) [] = refl
@@ -394,7 +399,8 @@ front_ascii p next (c ∷ cs) h zero = none_low p c (first_or next cs) (and_part
 front_ascii p next (c ∷ cs) h (suc i) = front_ascii c next cs (and_parts (begins_none p c (first_or next cs))
     (none_in c cs next) h).1 i
 
--- The next byte of a text is the text's next character, if this character is ASCII.
+-- For each ASCII character `k` except NUL, the first character of a text is `k` exactly if the first byte of the text
+-- is `k`.
 agrees_bytes : (rest : List ℕ) → IsUtf8 rest → Agrees (first_or 0 rest) (chars rest)
 agrees_bytes rest u = λ k some low. first_char k (chars rest)
     ∙ sym (begins_bytes (k ∷ []) rest u (and_from (nat_lt k 128) true (below k low) refl)) ∙ first_byte k rest some
@@ -441,8 +447,9 @@ unlikely-boundary bs (suc m) u e =
     let next : m + 1 ≡ suc m = omega arith in
     subst (IsCharBoundary bs) next (IsCharBoundary-after_ascii bs m u (omega arith) (omega (arith, low, same)))
 
--- The code skips bytes of a text, and the rest of an identifier in which they end. The skipped text contains only tokens that
--- aren't literals.
+-- The code skips bytes at which neither a literal nor a comment begins. If the last skipped byte is an identifier
+-- character, the code also skips the identifier characters after it. The skipped text contains only tokens that aren't
+-- literals.
 pub unlikely-reaches : (bs rest : List ℕ) (n : ℕ) (r : List ℕ) → IsUtf8 bs → IsUtf8 rest → n ≤ literal_free_prefix_len bs
     → rest ≡ drop n bs → Reaches (past_word (byte_before bs n) (chars rest)) r → Reaches (chars bs) r
 unlikely-reaches bs rest n r u v e cut reaches =
@@ -458,8 +465,8 @@ unlikely-reaches bs rest n r u v e cut reaches =
     (agrees_bytes rest v) in
     subst (λ (z : List ℕ). Reaches z r) (sym whole) (reach_front 0 next front (chars rest) r agrees all reaches)
 
--- The lemma `unlikely-reaches` as the contract states it: the bytes that the code skips contain only tokens that aren't literals.
--- `before` is the last byte that was skipped.
+-- The bytes that the code skips contain only tokens that aren't literals, as the contract of `skip_unlikely` states.
+-- `before` is the last skipped byte.
 pub unlikely-holds : (bs rest past next : List ℕ) (n before : ℕ) → IsUtf8 bs → IsUtf8 rest → n ≤ literal_free_prefix_len bs
     → rest ≡ drop n bs → before ≡ byte_before bs n → past ≡ past_word before (chars rest) → Reaches past next
     → HasOnlyOtherTokens (chars bs) next

@@ -16,7 +16,8 @@ use Rattle.rl_lexer.proofs.Pieces.{is_equal}
 pub low_marks : (c : ℕ) → c < 64 → has_bit 18158653859520577536 c ≡ is_always_token c
 low_marks c low = agree_below_at (has_bit 18158653859520577536) is_always_token 64 c refl low
 
--- A mask of 64 bits agrees with a test of the characters from 64 up to 127.
+-- If the bits of a mask agree with a test for the characters 64 to 127, the bit of one of these characters is the
+-- result of the test.
 high_set : (bits : ℕ) (test : ℕ → Bool) → agree_below (has_bit bits) (λ k. test (64 + k)) 64 ≡ true → (c : ℕ) → 64 ≤ c
     → c < 128 → has_bit bits (c - 64) ≡ test c
 high_set bits test all c h low =
@@ -65,7 +66,7 @@ word_found s t r c e is run =
 
 -- ---- a first letter `b`, `c` or `r` that doesn't begin a literal
 
--- A character from `@` on is neither a quote nor a hash.
+-- A character whose code is at least 64 differs from each character whose code is below 64, for example from the quote.
 other_than : (d k : ℕ) → k < 64 → nat_le 64 d ≡ true → (d == k) ≡ false
 other_than d k small h = grind (arith, nat_tests)
 

@@ -1,5 +1,6 @@
--- Invalid quoted literals of a source, as `''` and `'ab'`. Each begins like neither a valid literal nor a lifetime, and has an
--- end in the source. rustc also lexes it as a literal token, and continues after it.
+-- Invalid quoted literals of a source, such as `''` and `'ab'`. At the start of an invalid quoted literal, neither a
+-- valid literal nor a lifetime begins. The source contains the end of the invalid literal. rustc also lexes the invalid
+-- literal as one token, and continues after that token.
 use Rattle.std.specs.Prelude.{◌≡◌, ℕ, Bool, false, not, ◌||◌, ◌==◌, List, [], codes, ◌∷◌, ◌++◌, IsTrue, ⊤}
 use Rattle.std.specs.Char.{is_ascii_digit}
 use Rattle.std.specs.List.{list_all}
@@ -26,8 +27,8 @@ bad_quote_text (DigitQuote c more) = code "'" ∷ c ∷ more
 bad_quote_text (OtherQuote parts suffix) = code "'" ∷ body_text parts ++ code "'" ∷ suffix
 bad_quote_text (ByteQuote parts suffix) = code "b" ∷ code "'" ∷ body_text parts ++ code "'" ∷ suffix
 
--- The text between the apostrophes of an invalid quoted literal contains neither another apostrophe nor a slash, except
--- after a backslash. An LF can only be its last character. At another LF the literal has no end.
+-- A condition on the text between the apostrophes of an invalid quoted literal. An apostrophe or a slash occurs in the
+-- text only after a backslash. An LF that doesn't follow a backslash is the last character of the text.
 abbrev pub IsQuoteBody : List BodyPart → Type 0
 IsQuoteBody [] = ⊤
 IsQuoteBody (PlainPart c ∷ parts) =
@@ -41,8 +42,9 @@ begins_escape c = c == code "\\"
 abbrev pub begins_word_or_escape : ℕ → Bool
 begins_word_or_escape c = begins_escape c || (is_ascii_digit c || is_start c)
 
--- The invalid quoted literal is well formed, and as long as the text `after` it allows. Its text doesn't begin with a
--- backslash.
+-- The parts of the invalid quoted literal are valid, and the text `after`, which follows the literal, doesn't continue
+-- it. For example, `'1a` isn't an invalid quoted literal before `b`, since `'1ab` is one. The text between two
+-- apostrophes doesn't begin with a backslash.
 abbrev pub IsBadQuote : BadQuote → List ℕ → Type 0
 IsBadQuote (WordQuote c more) after =
     IsTrue (is_ascii_digit c || is_start c) × IsTrue (list_all is_continue more)

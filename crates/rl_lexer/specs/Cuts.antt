@@ -49,8 +49,8 @@ abbrev pub popped : List OpenGroup → List OpenGroup
 popped [] = []
 popped (o ∷ os) = os
 
--- The groups that are open after a delimiter, the innermost first. `None` if it is a closing delimiter that doesn't
--- match the innermost group, or an opening one inside 128 groups.
+-- The groups that are open after a delimiter, the innermost first. The result is `None` if the delimiter is a closing
+-- one that doesn't match the innermost group, or an opening one inside 128 groups.
 abbrev pub after_delimiter : List OpenGroup → ℕ → ℕ → Option (List OpenGroup)
 after_delimiter groups c at =
     if is_opener c
@@ -65,7 +65,8 @@ after_form groups _ at = Some groups
 abbrev pub after_lexeme : List OpenGroup → Lexeme → ℕ → Option (List OpenGroup)
 after_lexeme groups l at = after_form groups (form_of l) at
 
--- The groups that are open after the given tokens, where `groups` are open before them. `None` if a delimiter is an error.
+-- The groups that are open after the given tokens, where `groups` are open before the tokens. The result is `None` if a
+-- delimiter is an error.
 abbrev pub open_groups : List OpenGroup → List LexedToken → Option (List OpenGroup)
 open_groups groups [] = Some groups
 open_groups groups (w ∷ ws) =
@@ -97,8 +98,8 @@ BeginsLexeme r = (after : List ℕ) × LexemeBefore r after
 abbrev pub BeginsNoLexeme : List ℕ → Type 0
 BeginsNoLexeme r = (after : List ℕ) → LexemeBefore r after → ⊥
 
--- The lexer's error of the given kind is at the start of the rest `r`, where `groups` are open. A failed allocation isn't an
--- error of the text.
+-- An error of the given kind is at the start of `r`, the text that isn't lexed yet. The groups `groups` are open before
+-- `r`. No error of a text has the kind `Memory`, which is a failed allocation.
 abbrev pub ErrorAt : LexKind → List OpenGroup → List ℕ → Type 0
 ErrorAt DocComment groups r = IsTrue (begins_doc_comment r)
 ErrorAt UnclosedComment groups r = IsTrue (begins (codes "/*") r) × IsFalse (begins_doc_comment r)
@@ -119,13 +120,14 @@ abbrev pub innermost : List OpenGroup → ℕ → ℕ
 innermost [] at = at
 innermost (o ∷ os) at = o.at
 
--- The byte offset of an error. A group that isn't closed is an error at its opening delimiter, the innermost open one. Any other
--- error is at the start of the rest.
+-- The byte offset of a lexing error. The error for a group that isn't closed is at the opening delimiter of the
+-- innermost open group. Any other error is at the byte offset `at`, where the text that isn't lexed begins.
 abbrev pub error_place : LexKind → List OpenGroup → ℕ → ℕ
 error_place UnclosedGroup groups at = innermost groups at
 error_place _ groups at = at
 
--- The text's first error: the text is lexed as far as possible, and the error is at the start of the rest.
+-- The first error of the text `t` has the kind `kind` and the byte offset `at`. The text before `rest` is lexed into
+-- the tokens `cuts`, and lexing can't continue with `rest`.
 pub record HasFirstError (t : List ℕ) (kind : LexKind) (at : ℕ) : Type 0 where
   pub cuts : List LexedToken
   pub rest : List ℕ
@@ -145,8 +147,9 @@ pub record LeavesRestAt (t : List ℕ) (at : ℕ) : Type 0 where
   pub begins : BeginsLexeme rest
   pub rest_place : at + byte_len rest ≡ byte_len t
 
--- The meaning of an error that the lexer returns: it is the text's first error. If an allocation failed, a token begins
--- at its byte offset, perhaps a group's closing delimiter.
+-- The meaning of an error that the lexer returns. An error of the kind `Memory` is a failed allocation, and a token
+-- begins at its byte offset. This token may be the closing delimiter of a group. An error of any other kind is the
+-- text's first error.
 abbrev pub Rejects : List ℕ → LexKind → ℕ → Type 0
 Rejects t Memory at = LeavesRestAt t at
 Rejects t kind at = HasFirstError t kind at

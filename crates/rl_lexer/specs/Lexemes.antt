@@ -1,5 +1,6 @@
--- The lexemes of a text, which are its literals, identifiers, delimiters and punctuation characters. Each is a value of `Lexeme`,
--- which has the parts of its text, and is as long as the text after it allows. A character is represented by its code.
+-- The lexemes of a text: its literals, identifiers, delimiters and punctuation characters. A value of the type `Lexeme`
+-- consists of the parts of a lexeme's text. A character is represented by its code. A lexeme is as long as possible:
+-- `12` isn't a lexeme before `3`.
 --
 -- Lexemes are the tokens of the Rust Reference, chapters Tokens (sections Literals, Punctuation, Delimiters) and
 -- Identifiers. The text in a literal isn't checked, and doc comments, lifetimes and raw identifiers aren't lexemes.
@@ -29,7 +30,7 @@ begins_hashes zero t = true
 begins_hashes (suc n) [] = false
 begins_hashes (suc n) (c ∷ t) = c == code "#" && begins_hashes n t
 
--- Whether a text begins with the dot of a number, which is followed by neither another dot nor an identifier.
+-- Whether a text begins with the dot of a number: neither another dot nor an identifier follows the dot.
 abbrev pub begins_dot : List ℕ → Bool
 begins_dot [] = false
 begins_dot (c ∷ t) = c == code "." && not (first_passes (λ d. d == code "." || is_start d) t)
@@ -104,7 +105,7 @@ IsCharacterBody (OneCharacter c) = IsTrue (not (c == code "\\"))
 IsCharacterBody (EscapedCharacter c more) =
     IsTrue (list_all (λ d. not (d == code "'" || d == code "\n")) more)
 
--- The fraction of a decimal number, a dot and the digits after it, if it has one.
+-- The fraction of a decimal number: nothing, or a dot and the digits after the dot.
 pub data LexedFraction : Type 0 where
   NoLexedFraction : LexedFraction
   LexedDot : (digits : List ℕ) → LexedFraction
@@ -123,8 +124,8 @@ lexed_sign_text NoLexedSign = []
 lexed_sign_text LexedPlus = codes "+"
 lexed_sign_text LexedMinus = codes "-"
 
--- The exponent of a decimal number, if it has one: a letter, a sign or no sign, underscores, a digit, and the
--- characters after that digit.
+-- The exponent of a decimal number: nothing, or a letter, a sign or no sign, underscores, a digit, and the characters
+-- after that digit.
 pub data LexedExponent : Type 0 where
   NoLexedExponent : LexedExponent
   LexedPower : (letter : ℕ) (sign : LexedSign) (underscores digit : ℕ) (more : List ℕ)
@@ -205,7 +206,8 @@ IsLexedExponent (LexedPower letter sign n d more) after =
     IsTrue (is_exponent_letter letter) × IsTrue (is_ascii_digit d)
     × IsRun (is_run_part is_ascii_digit) more after
 
--- The lexeme is well formed, and as long as the text `after` it allows.
+-- The parts of the lexeme are valid, and the text `after`, which follows the lexeme, doesn't continue it. For example,
+-- the number `12` isn't a lexeme before `3`.
 abbrev pub IsLexeme : Lexeme → List ℕ → Type 0
 IsLexeme (QuotedLexeme p parts suffix) after = IsBody parts × IsLexedSuffix suffix after
 IsLexeme (RawLexeme p n body suffix) after = IsRawBody n body × IsLexedSuffix suffix after
@@ -229,7 +231,7 @@ IsLexeme (MarkLexeme c) after =
     IsTrue (is_among marks c)
     ⊎ ((c ≡ code "/") × (first_passes (λ d. d == code "/" || d == code "*") after ≡ false))
 
--- The text `w` is a lexeme, where the text `after` follows it.
+-- The text `w` is a lexeme if the text `after` follows `w`.
 abbrev pub LexemeWith : List ℕ → List ℕ → Type 0
 LexemeWith w after = (l : Lexeme) × IsLexeme l after × (w ≡ lexeme_text l)
 

@@ -1,4 +1,4 @@
--- The text after the white space and plain comments at its start.
+-- The relation of a text and the text after its leading white space and plain comments.
 use Rattle.std.specs.Prelude.{◌≡◌, ℕ, ◌⊎◌, List, [], ◌∷◌, ◌++◌}
 use Prim.Native.Char.{code}
 use Rattle.rl_syntax.specs.Trivia.{IsLineBody, IsTrivia, IsTriviaPiece, TriviaPiece, trivia_piece_text}
@@ -15,8 +15,8 @@ BeginsTrivia t =
     ((p : TriviaPiece) × (rest : List ℕ) × IsTriviaPiece p × (t ≡ trivia_piece_text p ++ rest))
     ⊎ IsOpenLine t
 
--- The text `r` follows all white space and plain comments at the start of `t`. `StopsInOpenLine` is for a text `t` that
--- ends in a line comment, where `r` is empty.
+-- The text `t` consists of white space and plain comments, followed by `r`, which begins with neither. In
+-- `StopsInOpenLine`, `t` ends in a line comment without an LF, and `r` is empty.
 pub record StopsAfterTrivia (t r : List ℕ) : Type 0 where
   pub front : List ℕ
   pub is_trivia : IsTrivia front
@@ -34,6 +34,6 @@ pub record StopsInOpenLine (t r : List ℕ) : Type 0 where
 abbrev pub Skipped : List ℕ → List ℕ → Type 0
 Skipped t r = StopsAfterTrivia t r ⊎ StopsInOpenLine t r
 
--- The text after leading white space and comments is unique.
+-- For each text, the text after the leading white space and comments is unique.
 abbrev pub OneRest : Type 0
 OneRest = (t r s : List ℕ) → Skipped t r → Skipped t s → r ≡ s

@@ -55,9 +55,9 @@ source_text (StrayToken c) = c ∷ []
 abbrev pub IsName : ℕ → List ℕ → List ℕ → Type 0
 IsName c more after = IsTrue (is_start c) × IsRun is_continue more after
 
--- The token is well formed, and as long as the text `after` it allows. It is neither an invalid quoted literal nor a stray
--- character. No apostrophe follows a lifetime. A text that begins with `'r#` and an identifier is a raw lifetime, and not the
--- lifetime `'r`.
+-- The parts of the token are valid, and the text `after`, which follows the token, doesn't continue it. The token is
+-- neither an invalid quoted literal nor a stray character. No apostrophe follows a lifetime, since `'a'` is a character
+-- literal. `'r#a` is a raw lifetime, and doesn't begin with the lifetime `'r`.
 abbrev pub IsProper : SourceLexeme → List ℕ → Type 0
 IsProper (PlainToken l) after = IsLexeme l after
 IsProper (RawIdentifierToken c more) after = IsName c more after
@@ -82,8 +82,9 @@ abbrev pub Opens : List ℕ → Type 0
 Opens t =
     BeginsQuote t ⊎ (IsTrue (first_passes is_apostrophe t) ⊎ IsTrue (begins (codes "/*") t))
 
--- The text is a token of a source. Invalid quoted literals and stray characters are tokens only where no other token
--- begins. A stray character isn't the start of a quoted literal or a comment that isn't closed.
+-- The token is a token of a source, where the text `after` follows the token. An invalid quoted literal or a stray
+-- character is a token only if no other token begins at its position. A stray character begins neither like a quoted
+-- literal nor like a block comment.
 abbrev pub IsSource : SourceLexeme → List ℕ → Type 0
 IsSource (BadQuoteToken q) after =
     (BeginsProper (bad_quote_text q ++ after) → ⊥) × IsBadQuote q after
@@ -113,7 +114,7 @@ source_kind (DocBlockToken inside) = DocCommentKind
 source_kind (BadQuoteToken q) = PlainKind LiteralForm
 source_kind (StrayToken c) = StrayKind
 
--- The kind of a source's token in the definitions, for its form in the code.
+-- Converts the form of a source's token in the code to the kind of the token in the definitions.
 abbrev pub source_view : SourceForm → SourceKind
 source_view (found.Token form) = PlainKind (form_view form)
 source_view found.RawIdentifier = RawIdentifierKind
@@ -134,14 +135,14 @@ BeginsNoSource t = (kind : SourceKind) (rest : List ℕ) → SourceBefore t kind
 
 -- ---- the text before the first token
 
--- The text after a byte order mark at its start, or the text itself.
+-- A text without the byte order mark at its start, or the text itself if it begins with another character.
 abbrev pub without_byte_order_mark : List ℕ → List ℕ
 without_byte_order_mark [] = []
 without_byte_order_mark (c ∷ t) = if c == 0xfeff then t else c ∷ t
 
--- The text `t` begins with an interpreter's line, and `rest` follows the line. The line is `#!` and the rest of the
--- line without its LF. If `[` follows, after white space and plain comments, it is an attribute, and not an
--- interpreter's line.
+-- The text `t` begins with an interpreter's line, and `rest` follows the line. The line is `#!` and all characters up
+-- to the next LF. If `[` follows the `#!`, after white space and plain comments, the text begins with an attribute
+-- instead.
 pub record IsScriptLine (t rest : List ℕ) : Type 0 where
   pub line : List ℕ
   pub text_is : t ≡ code "#" ∷ code "!" ∷ line ++ rest
@@ -149,7 +150,7 @@ pub record IsScriptLine (t rest : List ℕ) : Type 0 where
   pub no_attribute : (s : List ℕ) → Skipped (line ++ rest) s
       → begins_char (code "[") s ≡ false
 
--- The text after an interpreter's line at its start, or the text itself if it has none.
+-- A text without the interpreter's line at its start, or the text itself if it doesn't begin with such a line.
 abbrev pub IsWithoutLine : List ℕ → List ℕ → Type 0
 IsWithoutLine t rest = IsScriptLine t rest ⊎ ((rest ≡ t) × ((r : List ℕ) → IsScriptLine t r → ⊥))
 
@@ -184,7 +185,8 @@ pub record IsCutUpTo (t : List ℕ) (cuts : List CutSource) (r : List ℕ) : Typ
   pub place : at + byte_len body ≡ byte_len t
   pub are_cuts : SourcesUpTo at body cuts r
 
--- The token that the cursor returns has the form, the text and the range of the token of the definitions.
+-- The token `l`, which a source cursor returns, has the form, the text and the byte range of `w`, a lexed token of the
+-- definitions.
 pub record IsBorrowedSource (l : SourceToken) (w : CutSource) : Type 0 where
   pub kind_is : source_kind w.token ≡ source_view l.form
   pub bytes_are : encode_utf8_all (source_text w.token) ≡ l.text.now
@@ -192,8 +194,9 @@ pub record IsBorrowedSource (l : SourceToken) (w : CutSource) : Type 0 where
   pub lo_is : w.at ≡ l.lo
   pub hi_is : source_end w ≡ l.hi
 
--- The cursor consumes the token and returns it. The token begins the cursor's old rest, and is lexed next, however the
--- source before it was lexed.
+-- The cursor consumes the token `l` and returns it. The source that remained before, `old.rest`, begins with the token.
+-- If the source before the token is lexed into some tokens, the source before `new.rest` is lexed into these tokens and
+-- `l`.
 pub record TakesSource (old : CursorState) (l : SourceToken) (new : CursorState) : Type 0 where
   pub cut : CutSource
   pub is_cut : IsBorrowedSource l cut
@@ -206,15 +209,15 @@ pub record TakesSource (old : CursorState) (l : SourceToken) (new : CursorState)
   pub same : new.text ≡ old.text
   pub following : IsTail old.rest new.rest
 
--- The meaning of the result of a source cursor's `next`: the next token. If no token begins the rest, it is `None`, and
--- the cursor doesn't move.
+-- The meaning of the result of a source cursor's `next`. If a token begins the remaining source, the result is this
+-- token. Otherwise the result is `None`, and the cursor doesn't move.
 abbrev pub GivesSource : CursorState → Option SourceToken → CursorState → Type 0
 GivesSource old token new =
     MatchOption token (BeginsNoSource (chars old.rest) × (new ≡ old)) (λ l. TakesSource old l new)
 
 -- ---- literals
 
--- The token of a source is a literal: by its form, or because it is `true` or `false`.
+-- The token of a source is a literal: by its form, or because its text is `true` or `false`.
 abbrev pub IsLiteralText : SourceKind → List ℕ → Type 0
 IsLiteralText (PlainKind LiteralForm) text = ⊤
 IsLiteralText (PlainKind IdentifierForm) text = (b : Bool) × (text ≡ truth_text b)
@@ -224,8 +227,8 @@ IsLiteralText _ text = ⊥
 abbrev pub IsOtherToken : CutSource → Type 0
 IsOtherToken w = IsLiteralText (source_kind w.token) (source_text w.token) → ⊥
 
--- Between the position of the old cursor and that of the new one there are only tokens that aren't literals, white
--- space and plain comments. These tokens are lexed next, however the source before them was lexed.
+-- The tokens between the positions of the cursors `old` and `new` aren't literals. If the source before `old` is lexed
+-- into some tokens, the source before `new` is lexed into these tokens and those between the two positions.
 pub record PassesTo (old new : CursorState) : Type 0 where
   pub cuts : List CutSource
   pub others : AllByRecursion IsOtherToken cuts
@@ -250,14 +253,15 @@ IsAfterLine t r = (line : List ℕ) × IsTrue (list_all is_in_line line) × (t �
 
 -- ---- errors
 
--- The lexer's error of the given kind is at the start of `r`, the rest of a source.
+-- An error of the given kind is at the start of `r`, the end of a source that can't be lexed further.
 abbrev pub SourceErrorAt : LexKind → List ℕ → Type 0
 SourceErrorAt UnclosedComment r = BeginsNoSource r × IsTrue (begins (codes "/*") r)
 SourceErrorAt UnclosedQuote r =
     BeginsNoSource r × (BeginsQuote r ⊎ IsTrue (first_passes is_apostrophe r))
 SourceErrorAt _ r = ⊥
 
--- The source's first error: the source is lexed as far as possible, and the error is at the start of the rest.
+-- The first error of the source `t` has the kind `kind` and the byte offset `at`. The source before `rest` is lexed
+-- into the tokens `cuts`, and the error is at the start of `rest`.
 pub record SourceError (t : List ℕ) (kind : LexKind) (at : ℕ) : Type 0 where
   pub cuts : List CutSource
   pub rest : List ℕ
@@ -265,7 +269,8 @@ pub record SourceError (t : List ℕ) (kind : LexKind) (at : ℕ) : Type 0 where
   pub error : SourceErrorAt kind rest
   pub rest_place : at + byte_len rest ≡ byte_len t
 
--- The first error of the cursor's source has the given kind and byte offset, if the source before the rest can be lexed.
+-- If the source before the cursor can be lexed into tokens, the first error of the whole source has the kind `kind` and
+-- the byte offset `at`.
 abbrev pub IsFirstSourceError : CursorState → LexKind → ℕ → Type 0
 IsFirstSourceError t kind at =
     (cuts : List CutSource) → IsCutUpTo (chars t.text) cuts (chars t.rest)
@@ -277,18 +282,19 @@ IsFirstSourceError t kind at =
 abbrev pub told : CutSource → SourceKind × List ℕ × ℕ
 told w = (source_kind w.token, source_text w.token, w.at)
 
--- A source is lexed in one way, as far as it can be lexed: to equal tokens at equal offsets, and an equal rest.
+-- A theorem: two lexings of a source, each as far as the source can be lexed, have equal tokens at equal byte offsets,
+-- and leave equal remaining texts.
 abbrev pub OneLexing : Type 0
 OneLexing =
     (t : List ℕ) (vs ws : List CutSource) (r s : List ℕ) → IsCutUpTo t vs r → BeginsNoSource r
     → IsCutUpTo t ws s → BeginsNoSource s → (map told vs ≡ map told ws) × (r ≡ s)
 
--- A token of a text, as a token of a source.
+-- Converts a lexed token of a text to a lexed token of a source.
 abbrev pub plain_cut : LexedToken → CutSource
 plain_cut w = record { token = PlainToken w.lexeme; at = w.at }
 
--- If a text has neither a byte order mark nor an interpreter's line, its tokens as a text are also its tokens as a
--- source.
+-- A theorem: if a text begins with neither a byte order mark nor an interpreter's line, the tokens of the text are also
+-- its tokens as a source.
 abbrev pub HoldsLexemes : Type 0
 HoldsLexemes =
     (t : List ℕ) (cuts : List LexedToken) (r : List ℕ) → IsWithoutPreamble t t → LexesUpTo 0 t cuts r

@@ -124,11 +124,11 @@ impl<'t> Tokens<'t> {
     /// // lex_error_kind("\"a") == Some(UnclosedQuote)
     /// ```
     pub fn error(&self) -> Option<LexError>
-        // The error is at the start of the cursor's rest. It is an error of that rest, whichever groups are open.
+        // The error is at the cursor, where the text that isn't consumed begins, whichever groups are open.
         ensures error { IfSome result (λ e. (groups : List OpenGroup)
             → ErrorAt e.kind groups (chars self.now.rest)) }
         ensures place { IfSome result (λ e. e.at + length self.now.rest ≡ length self.now.text) }
-        // The error is the first error of the text, however the text before the cursor was lexed.
+        // The error is the first error of the text, provided that the text before the cursor can be lexed.
         ensures first { IfSome result (λ e. IsFirstError self.now e.kind e.at) }
         ensures stopped { IfSome result (λ e. BeginsNoLexeme (chars self.now.rest)) }
         // If the result is `None`, the cursor is at the end of the text, or before a token.
@@ -145,8 +145,8 @@ impl<'t> Tokens<'t> {
         Some(LexError::new(kind, at))
     }
 
-    /// Returns the text after the consumed tokens, without leading white space and comments. It is empty at the end,
-    /// and otherwise begins with a token or an error.
+    /// Returns the text after the consumed tokens, without leading white space and comments. The result is empty at the
+    /// end of the text, and otherwise begins with a token or an error.
     pub fn rest(&self) -> &'t str
         ensures { result.now ≡ self.now.rest }
     {

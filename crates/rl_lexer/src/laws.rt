@@ -3,8 +3,8 @@
 ghost use Rattle.rl_lexer.specs.Sources.{OneLexing, HoldsLexemes};
 ghost use Rattle.rl_lexer.specs.Laws.{LiteralsDontBeginWithAMinus};
 
-/// A Rust source is lexed in one way: to equal tokens at equal byte offsets. If it can't be lexed to its end, the rest
-/// that isn't lexed is equal too.
+/// A Rust source is lexed in one way: two lexings have equal tokens at equal byte offsets. If the source can't be lexed
+/// to its end, the two remaining texts are equal too.
 pub fn a_source_has_one_lexing()
     ensures { OneLexing }
 {}

@@ -43,7 +43,8 @@ pub enum Form {
 /// Returns the form of the token at the start of a text, and the text after the token. Returns `None` if no token
 /// begins the text.
 ///
-/// Most tokens of a list are numbers, identifiers and punctuation characters. They are recognized without a call.
+/// Most tokens of a list are numbers, identifiers and punctuation characters. These tokens are recognized without a
+/// call.
 #[inline(always)]
 pub(crate) fn first_lexeme(text: &str) -> Option<(Form, &str)>
     ensures found { IfSome result
@@ -64,7 +65,8 @@ pub(crate) fn first_lexeme(text: &str) -> Option<(Form, &str)>
     rebuilt_lexeme(text)
 }
 
-/// Returns the result of [`first_lexeme`], without a call of [`word_or_mark`]. The caller has made that call already.
+/// Returns the result of [`first_lexeme`] without a call of [`word_or_mark`]. The caller has called `word_or_mark`
+/// already, and the result was `None`.
 #[inline(always)]
 pub(crate) fn number_or_other(text: &str) -> Option<(Form, &str)>
     ensures found { IfSome result
@@ -79,7 +81,7 @@ pub(crate) fn number_or_other(text: &str) -> Option<(Form, &str)>
     rebuilt_lexeme(text)
 }
 
-/// Returns the text after the number at its start, or `None` if it doesn't begin with a decimal digit.
+/// Returns `text` without the number at its start, or `None` if `text` doesn't begin with a decimal digit.
 #[inline(always)]
 fn after_number(text: &str) -> Option<&str>
     ensures found { IfSome result
@@ -94,10 +96,10 @@ fn after_number(text: &str) -> Option<&str>
     }
 }
 
-/// Returns the result of [`lexeme_but_number`], constructed again.
+/// Returns the result of [`lexeme_but_number`] as a new value.
 ///
-/// The memory for a call's result is zeroed at the entry of the function that makes the call. As the call is in a
-/// function of its own, only the texts that reach it cost that zeroing.
+/// The memory for a call's result is zeroed when the calling function begins. As this call is in a function of its own,
+/// only the texts that need the call cost that zeroing.
 #[inline(always)]
 fn rebuilt_lexeme(text: &str) -> Option<(Form, &str)>
     requires { IsFalse (first_passes is_ascii_digit (chars text.now)) }
@@ -134,8 +136,8 @@ fn lexeme_but_number(text: &str) -> Option<(Form, &str)>
     }
 }
 
-/// Returns the value `found`, constructed again. The copy keeps a call's result apart from other results, so that they
-/// aren't joined in memory.
+/// Returns a new value that equals `found`. So the result of one call isn't joined in memory with the results of other
+/// calls.
 #[inline(always)]
 pub(crate) fn rebuilt<F>(found: Option<(F, &str)>) -> Option<(F, &str)>
     ensures { result ≡ found.entry }
@@ -183,8 +185,9 @@ fn literal_or_identifier(letter: char, text: &str) -> Option<(Form, &str)>
 }
 
 /// Returns the form of the token at the start of a text, and the text after the token, if the first one or two ASCII
-/// bytes decide it: an identifier that doesn't begin like a literal, a delimiter, or a punctuation character that
-/// doesn't begin a comment. Otherwise the result is `None`, and the text may still begin with a token.
+/// bytes decide the form. The token is then an identifier that doesn't begin like a literal, a delimiter, or a
+/// punctuation character that doesn't begin a comment. Otherwise the result is `None`, and the text may still begin
+/// with a token.
 #[inline(always)]
 pub(crate) fn word_or_mark(text: &str) -> Option<(Form, &str)>
     ensures found { IfSome result
@@ -249,8 +252,9 @@ fn lead_of(byte: u8) -> Lead
     Lead::Other
 }
 
-/// Whether the text after a letter `b`, `c` or `r` begins with an ASCII character whose code is at least 64 (`@`),
-/// except `r`. The first letter then begins an identifier, or is one, and isn't a literal's prefix.
+/// Whether `following`, the text after a letter `b`, `c` or `r`, begins with an ASCII character whose code is at least
+/// 64 (`@`), except `r`. If the result is `true`, the letter begins an identifier or is one, and isn't a literal's
+/// prefix.
 ///
 /// Before a digit and before a non-ASCII character the result is `false`, although the letter begins an identifier
 /// there too.
@@ -308,10 +312,10 @@ fn mark_form(c: char) -> Form
     }
 }
 
-// The functions `quoted_literal`, `character_literal` and `raw_literal` are alike. They are separate functions,
-// because the memory for a call's result is zeroed at the entry of the calling function.
+// The functions `quoted_literal`, `character_literal` and `raw_literal` are alike. They are separate functions, because
+// a function zeroes the memory for the results of all its calls when it begins.
 
-/// Returns the form `Literal` and the text after a string literal, where `text` follows its opening `"`. Returns `None`
+/// Returns the form `Literal` and the text after a string literal, where `text` follows the opening `"`. Returns `None`
 /// if the literal isn't closed.
 #[inline(always)]
 fn quoted_literal(text: &str) -> Option<(Form, &str)>
@@ -322,7 +326,7 @@ fn quoted_literal(text: &str) -> Option<(Form, &str)>
     Some((Form::Literal, after_quoted(text)?))
 }
 
-/// Returns the form `Literal` and the text after a character or byte literal, where `text` follows its opening `'`.
+/// Returns the form `Literal` and the text after a character or byte literal, where `text` follows the opening `'`.
 /// Returns `None` if no `'` follows the one character or the escape.
 #[inline(always)]
 fn character_literal(text: &str) -> Option<(Form, &str)>
@@ -333,7 +337,7 @@ fn character_literal(text: &str) -> Option<(Form, &str)>
     Some((Form::Literal, after_character(text)?))
 }
 
-/// Returns the form `Literal` and the text after a raw literal, where `text` follows its `r`. Returns `None` if the
+/// Returns the form `Literal` and the text after a raw literal, where `text` follows the `r`. Returns `None` if the
 /// literal isn't closed.
 #[inline(always)]
 fn raw_literal(text: &str) -> Option<(Form, &str)>
@@ -358,10 +362,10 @@ fn after_slash(text: &str) -> Option<(Form, &str)>
     }
 }
 
-/// Returns the text after a number, where `text` follows its first digit.
+/// Returns the text after a number, where `text` follows the first digit of the number.
 ///
-/// A prefix as `0x` needs no test: its letter and the digits after it are lexed like a suffix. Most numbers end after a
-/// sequence of digits.
+/// A prefix such as `0x` needs no test: the letter of the prefix and the digits after the letter are lexed like a
+/// suffix. Most numbers end after a sequence of digits.
 #[inline(always)]
 fn after_digit(text: &str) -> &str
     ensures rest { (digit : ℕ) → chars result.now ≡ after_digit digit (chars text.now) }

@@ -98,7 +98,7 @@ impl<'t> Sources<'t> {
     }
 
     /// Creates a cursor over `text` at the position where `rest` begins. `rest` is the end of `text`, as
-    /// [`Sources::rest`] of another cursor returns it. White space and comments at its start aren't dropped.
+    /// [`Sources::rest`] of another cursor returns it. White space and comments at the start of `rest` aren't dropped.
     #[inline(always)]
     pub fn resume(text: &'t str, rest: &'t str) -> Sources<'t>
         requires { IsCursorState text.now rest.now }
@@ -139,7 +139,7 @@ impl<'t> Sources<'t> {
         // literals.
         ensures found { IfSome result (λ l. TakesLiteralAfter self.old l self.new) }
         ensures shorter { IfSome result (λ l. length self.new.rest < length self.old.rest) }
-        // If the result is `None`, tokens that aren't literals are consumed, and no token begins the rest.
+        // If the result is `None`, no consumed token is a literal, and no token begins the remaining text.
         ensures passed { IfNone result (PassesTo self.old self.new) }
         ensures none { IfNone result (BeginsNoSource (chars self.new.rest)) }
     {
@@ -157,7 +157,7 @@ impl<'t> Sources<'t> {
     pub fn error(&self) -> Option<LexError>
         ensures error { IfSome result (λ e. SourceErrorAt e.kind (chars self.now.rest)) }
         ensures place { IfSome result (λ e. e.at + length self.now.rest ≡ length self.now.text) }
-        // The error is the first error of the source, however the source before the cursor was lexed.
+        // The error is the first error of the source, provided that the source before the cursor can be lexed.
         ensures first { IfSome result (λ e. IsFirstSourceError self.now e.kind e.at) }
         // If the result is `None`, the cursor is at the end of the source, or before a token.
         ensures none { IfNone result ((self.now.rest ≡ [])
@@ -172,8 +172,8 @@ impl<'t> Sources<'t> {
         Some(LexError::new(kind, at))
     }
 
-    /// Returns the text after the consumed tokens, without leading white space and comments. It is empty at the end,
-    /// and otherwise begins with a token or an error.
+    /// Returns the text after the consumed tokens, without leading white space and comments. The result is empty at the
+    /// end of the source, and otherwise begins with a token or an error.
     pub fn rest(&self) -> &'t str
         ensures { result.now ≡ self.now.rest }
     {

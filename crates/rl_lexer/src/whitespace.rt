@@ -13,7 +13,7 @@ use rl_syntax::lines::after_first_line_feed;
 use rl_syntax::scan::{Marks, len_before_near_mark};
 use rl_syntax::text::{begins_with_char, split_ascii, strip_byte};
 
-/// Returns the text after its leading white space and plain comments, as a slice.
+/// Returns `text` without the white space and plain comments at its start, as a slice.
 ///
 /// The result begins with the first character that is neither white space nor part of a plain comment. Doc comments
 /// aren't skipped, and neither are block comments that aren't closed. If the text ends in a line comment, the result is
@@ -31,11 +31,11 @@ use rl_syntax::text::{begins_with_char, split_ascii, strip_byte};
 /// ```
 #[inline(always)]
 pub fn skip(text: &str) -> &str
-    // The result is the text after all white space and plain comments at its start, as characters.
+    // The characters of the result are those of `text` after all leading white space and plain comments.
     ensures skipped { Skipped (chars text.now) (chars result.now) }
     // The result is a slice at the end of the text.
     ensures following { IsTail text.now result.now }
-    // Each text has only one text after its white space and plain comments. Skipping again doesn't change the result.
+    // The text after leading white space and plain comments is unique. A second call doesn't change the result.
     ensures only { OneRest }
     ensures again { Skipped (chars result.now) (chars result.now) }
 {
@@ -46,8 +46,8 @@ pub fn skip(text: &str) -> &str
     skip_comments(rest)
 }
 
-/// Returns the text after the plain comments at its start, and after the white space that follows each. The text must
-/// not begin with white space.
+/// Returns `text` without the plain comments at its start, and without the white space after each of them. The text
+/// must not begin with white space.
 #[inline(never)]
 fn skip_comments(text: &str) -> &str
     requires { IsFalse (first_passes is_white (chars text.now)) }
@@ -64,8 +64,8 @@ fn skip_comments(text: &str) -> &str
     rest
 }
 
-/// Returns the text after a plain comment, where `text` follows its first slash. Returns `None` if no plain comment
-/// begins there, and if a block comment isn't closed.
+/// Returns the text after a plain comment, where `text` follows the first slash. Returns `None` if the slash begins no
+/// plain comment, and if a block comment isn't closed.
 #[inline(always)]
 #[tactic(auto, using(crate::proofs::CommentBytes::wide_comment, rl_syntax::proofs::TailLemmas::tail_step, rl_syntax::proofs::TailLemmas::some_tail))]
 fn after_comment(text: &str) -> Option<&str>
@@ -84,7 +84,7 @@ fn after_comment(text: &str) -> Option<&str>
     }
 }
 
-/// Whether a line comment is plain, and not a doc comment. `body` is the text after its `//`.
+/// Whether a line comment is plain, and not a doc comment. `body` is the text after the `//` of the comment.
 #[inline(always)]
 #[tactic(auto, using(crate::proofs::CommentBytes::wide_line))]
 pub(crate) fn is_comment_line(body: &str) -> bool
@@ -97,7 +97,7 @@ pub(crate) fn is_comment_line(body: &str) -> bool
     }
 }
 
-/// Whether a block comment is plain, and not a doc comment. `inside` is the text after its `/*`.
+/// Whether a block comment is plain, and not a doc comment. `inside` is the text after the `/*` of the comment.
 #[inline(always)]
 #[tactic(auto, using(crate::proofs::CommentBytes::wide_block))]
 pub(crate) fn is_comment_block(inside: &str) -> bool
@@ -122,9 +122,10 @@ pub(crate) fn after_line(text: &str) -> &str
     after_first_line_feed(text).unwrap_or("")
 }
 
-/// Returns the text after a block comment, where `text` follows its `/*`. Returns `None` if the comment isn't closed.
+/// Returns the text after a block comment, where `text` follows the `/*` of the comment. Returns `None` if the comment
+/// isn't closed.
 ///
-/// The loop is over bytes, from one `*` or `/` to the next. It counts the nested block comments that are open.
+/// The loop is over bytes, from one `*` or `/` to the next. The loop counts the nested block comments that are open.
 #[inline(always)]
 pub(crate) fn after_block(text: &str) -> Option<&str>
     ensures rest { option_map (λ rest. chars rest.now) result ≡ after_block 0 (chars text.now) }

@@ -15,8 +15,8 @@ use Rattle.rl_recovery.proofs.OpenerLemmas.{hashed, quoted_stuck, quoted_unclose
 
 -- ---- quoted literals that are unclosed in a text and in its end
 
--- If no quote in a text closes the literal, a backslash escapes each quote in it. So no quote in the text `body` after one of
--- these quotes closes the literal either.
+-- If no quote in a text closes the literal, a backslash escapes each quote in the text. So no quote in the text `body`,
+-- which follows one of these quotes, closes the literal either.
 quote_tail : (front body : List ℕ) → after_quote (front ++ 34 ∷ body) ≡ None → after_quote body ≡ None
 quote_tail [] body h = absurd (none-some body (sym h ∙ quote_now body))
 quote_tail (c ∷ []) body h = go (c == 34) (c == 92) h

@@ -1,4 +1,4 @@
--- A text has at most one first token, and this token has one list of bytes.
+-- Lemmas on the literal at the start of a text. A text has at most one first token, so at most one literal is at its start.
 use Rattle.rl_syntax.proofs.Common.{◌≡◌, ◌==◌, ℕ, zero, suc, Bool, false, true, ◌||◌, List, [], ◌∷◌, ◌++◌, Option, None, Some, refl, sym, subst, ap, ◌∙◌, arith, lit<, append_cancel_right, chars, chars_past_char, encode_ascii, encode_utf8_all, encodes-chars, IfNone, IsAscii, IsTrue, IsUtf8}
 use Rattle.std.proofs.lemmas.Str.{IsUtf8-append, IsUtf8-from_ascii}
 use Rattle.std.specs.Char.{is_ascii_digit}

@@ -1,4 +1,4 @@
--- The text from a line end on is an end of the whole text. It is also an end of the text after an opening delimiter.
+-- Let a text begin with an opening delimiter. The text from the first line end on is an end of the text after the delimiter.
 use Rattle.rl_syntax.proofs.Common.{◌≡◌, ℕ, zero, suc, Bool, true, false, not, ◌&&◌, ◌==◌, List, [], ◌∷◌, ◌++◌, drop, replicate, Option, Some, refl, sym, ◌∙◌, ap, none-some, if◌then◌else◌}
 use Rattle.rl_lexer.proofs.Comments.{same_Some}
 use Rattle.rl_lexer.specs.Lexemes.{LiteralPrefix, NoPrefix, BytePrefix, CPrefix, prefix_text}

@@ -26,7 +26,8 @@ lexeme_stuck t none = go (lexeme_at t) refl
     go None e = e
     go (Some p) e = absurd (none (PlainKind p.0) p.1 (plain_before t p.1 p.0 (form_before t p e)))
 
--- If the closing delimiter of a literal is found, the literal with its suffix is returned. Otherwise the result is `None`.
+-- The literal with its suffix if the closing delimiter was found, and `None` otherwise. The argument is the text after the
+-- closing delimiter.
 abbrev ended : Option (List ℕ) → Option (LexemeForm × List ℕ)
 ended o = literal_at (option_map after_suffix o)
 
@@ -63,7 +64,7 @@ quoted_unclosed p body none = not_ended (after_quote body)
 
 -- ---- a raw string begins a token if and only if it is closed
 
--- Hashes, a double quote and the text after it.
+-- `n` hashes, a double quote, and the text `body`.
 abbrev pub hashed : ℕ → List ℕ → List ℕ
 hashed n body = replicate n 35 ++ 34 ∷ body
 
@@ -145,7 +146,7 @@ hash_bytes : (n : ℕ) → length (encode_utf8_all (replicate n 35)) ≡ n
 hash_bytes zero = refl
 hash_bytes (suc n) = ap length (low_front 35 (replicate n 35) (lit< tt)) ∙ ap suc (hash_bytes n)
 
--- If a double quote follows the hashes at the start of a text, there are as many hashes as bytes before the quote.
+-- If a quote follows the hashes at the start of a text, the number of hashes is the number of bytes before the quote.
 pub hashes_taken : (front : List ℕ) (t quote body : List ℕ) → IsUtf8 front → t ≡ chars front ++ quote
     → quote ≡ after_run is_hash t → quote ≡ 34 ∷ body → 114 ∷ t ≡ 114 ∷ hashed (length front) body
 hashes_taken front t quote body u cut past is =

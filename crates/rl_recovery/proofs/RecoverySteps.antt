@@ -18,7 +18,7 @@ use Rattle.rl_recovery.specs.declared.unclosed.Unclosed.{Unclosed}
 use Rattle.rl_recovery.proofs.ClosingLemmas.{unclosed_end, unclosed_nil}
 use Rattle.rl_recovery.proofs.LineEnds.{EndsWith}
 
--- If a text is an end of another one by its bytes, it is also an end by its characters.
+-- If the bytes of `a` end with the bytes of `b`, the characters of `a` end with the characters of `b`.
 pub tail_chars : (a b : List ℕ) → IsUtf8 a → IsTail a b → EndsWith (chars a) (chars b)
 tail_chars a b u tail =
     let xs = take (length a - length b) a in
@@ -39,7 +39,8 @@ stays s u = record {
   following = tail_self s.rest u;
 }
 
--- The tokens read so far aren't literals, and each opening delimiter in the set `known` is unclosed in the rest.
+-- The tokens between the states `old` and `now` of a cursor aren't literals. In the text that the cursor still has to lex,
+-- each opening delimiter of the set `known` is unclosed.
 pub record Walks (known : Unclosed) (old now : CursorState) : Type 0 where
   pub passes : PassesTo old now
   pub unclosed : AreUnclosed known (chars now.rest)
@@ -83,8 +84,8 @@ begins_state text rest known cursor all = record {
   unclosed = all (chars rest);
 }
 
--- A cursor's part of the text is the text from the position at which lexing last resumed. If the cursor reads more of this
--- part, its state is still valid.
+-- A valid state of a cursor stays valid after the cursor lexes more of its part of the text. The part begins at the position
+-- at which lexing last resumed.
 pub further : (whole part left rest : List ℕ) (known : Unclosed) → IsRecoveryState whole part left known
     → IsTail left rest → IsRecoveryState whole part rest known
 further whole part left rest known is tail = record {
@@ -98,7 +99,7 @@ pub literal_tail : (old : CursorState) (l : SourceToken) (new : CursorState) →
     → IsTail old.rest new.rest
 literal_tail old l new t = tail_step old.rest t.between.rest new.rest t.passes.following t.takes.following
 
--- If lexing resumes in the lines after an error, the cursor's state at the start of these lines is valid.
+-- After an error, the cursor's state at the start of the lines where lexing resumes is valid.
 pub taken_up : (whole part left rest lines following : List ℕ) (known now : Unclosed)
     → IsRecoveryState whole part left known → IsTail left rest → IsTail rest lines → IsCursorState lines following
     → AreUnclosed now (chars lines) → IsRecoveryState whole lines following now
@@ -110,7 +111,7 @@ taken_up whole part left rest lines following known now is tail more cursor uncl
   unclosed = unclosed_rest now lines following cursor.is_text cursor.following unclosed;
 }
 
--- If no text follows an error, the cursor's state with an empty part is valid.
+-- After an error that extends to the text's end, the cursor's state with an empty part is valid.
 pub nothing_left : (whole part left : List ℕ) (known : Unclosed) → IsRecoveryState whole part left known
     → IsRecoveryState whole [] [] known
 nothing_left whole part left known is = record {
@@ -120,7 +121,7 @@ nothing_left whole part left known is = record {
   unclosed = subst (AreUnclosed known) (sym chars-nil) (unclosed_nil known);
 }
 
--- A position in the part of a text that the cursor reads is also a position in the whole text.
+-- The text that the cursor still has to lex isn't longer than the whole text.
 pub in_whole_len : (whole part left rest : List ℕ) (known : Unclosed) → IsRecoveryState whole part left known
     → IsTail left rest → length rest ≤ length whole
 in_whole_len whole part left rest known is tail = omega (

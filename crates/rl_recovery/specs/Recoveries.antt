@@ -19,13 +19,13 @@ pub record RecoveryState : Type 0 where
 
 -- ---- the next literal
 
--- A token of the part of the text that the cursor reads, with its byte range in the whole text.
+-- A token that the cursor lexed in its part of the text, with the token's byte range in the whole text.
 abbrev pub token_of_whole : RecoveryState → SourceToken → SourceToken
 token_of_whole t l =
     let before = length t.whole - length t.part.text in
     record { form = l.form; text = l.text; lo = before + l.lo; hi = before + l.hi }
 
--- The literal `l` is the next literal of the part of the text that the cursor reads.
+-- The literal `l` is the next literal that the cursor reads.
 pub record TakesLiteral (old : RecoveryState) (l : SourceToken) (new : RecoveryState) : Type 0 where
   pub token : SourceToken
   pub takes : TakesLiteralAfter old.part token new.part
@@ -56,7 +56,8 @@ abbrev pub lines_after : List ℕ → Option (List ℕ)
 lines_after t =
     if begins (codes "/*") t then None else from_line_end (begins_character t) false (drop 1 t)
 
--- Lexing resumes at `lines`, an end of the text. This end is lexed as a source of its own. None of its tokens are lexed yet.
+-- Lexing resumes at `lines`, an end of the text. The cursor lexes `lines` as a source of its own, and hasn't consumed any
+-- token of `lines` yet.
 pub record TakesUp (text lines : List ℕ) (part : CursorState) : Type 0 where
   pub following : IsTail text part.text
   pub lines_are : chars part.text ≡ lines
@@ -79,7 +80,7 @@ pub record StopsAt (rest : List ℕ) (old : RecoveryState) (e : LexError) (new :
   pub goes_on : TakesUpAfter rest new.part
   pub same : new.whole ≡ old.whole
 
--- The error `e` is the first error in the part of the text that the cursor reads.
+-- The error `e` is the next error of the source. The tokens before the error aren't literals.
 pub record ReportsUnclosed (old : RecoveryState) (e : LexError) (new : RecoveryState) : Type 0 where
   pub at : CursorState
   pub passes : PassesTo old.part at
@@ -91,7 +92,7 @@ pub record EndsAfter (old new : RecoveryState) : Type 0 where
   pub ends : new.part.rest ≡ []
   pub same : new.whole ≡ old.whole
 
--- The result of reading the next literal, and the cursor's next state: the text's end, a literal with its parse result, or an
+-- A cursor's step from the state `old` to the state `new` returns the text's end, a literal with its parse result, or an
 -- error.
 abbrev pub StepsRecovery : RecoveryState → SourceStep → RecoveryState → Type 0
 StepsRecovery old End new = EndsAfter old new

@@ -67,7 +67,7 @@ pub struct Recovery<'t> {
     text: &'t str,
     // The part of the text, up to its end, in which lexing resumed last.
     part: &'t str,
-    // The rest of `part` that isn't lexed yet.
+    // The end of `part` that isn't lexed yet.
     rest: &'t str,
     // The opening delimiters that are known to have no closing delimiter in `rest`.
     unclosed: Unclosed,
@@ -192,7 +192,7 @@ impl<'t> Recovery<'t> {
     /// resumes after it. The result is `None` at the text's end. Offsets are in bytes of the whole text.
     pub fn next_literal(&mut self) -> Option<Result<SourceToken<'t>, LexError>>
         ensures found { IfSome result (λ r. IfOk r (λ l. TakesLiteral self.old l self.new)) }
-        // The first error of the last resumed part, and the text after it.
+        // The error is the next error of the source. The tokens before the error aren't literals.
         ensures error { IfSome result (λ r. IfErr r (λ e. ReportsUnclosed self.old e self.new)) }
         ensures shorter { IfSome result
             (λ r. length self.new.part.rest < length self.old.part.rest) }

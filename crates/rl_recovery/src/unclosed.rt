@@ -1,4 +1,4 @@
-//! The opening delimiters that are known to have no closing delimiter in the rest of a text.
+//! A set of opening delimiters that are known to have no closing delimiter in the text that isn't lexed yet.
 
 ghost use Rattle.std.specs.Prelude.{◌≡◌, ◌≤◌, List, ℕ, Bool, false, Some, drop, IsTrue};
 ghost use Rattle.std.specs.Str.{chars};
@@ -8,15 +8,16 @@ ghost use Rattle.rl_recovery.specs.Mirrors.Closing.{AreUnclosed, IsIncluded, Non
 
 use crate::openers::{Opener, split_opener};
 
-/// A set of opening delimiters that have no closing delimiter in the rest of a text.
+/// A set of opening delimiters that have no closing delimiter in the text that isn't lexed yet.
 ///
-/// The closing delimiter of each was searched for once, up to the text's end. A raw string with fewer hashes than an unclosed
-/// one may be closed, so its closing delimiter is searched for again: at most once for each number of hashes.
+/// The closing delimiter of each was searched for once, up to the text's end. A raw string with fewer hashes than an
+/// unclosed one may be closed, so its closing delimiter is searched for again: at most once for each number of hashes.
 #[derive(Clone, Copy)]
 pub(crate) struct Unclosed {
     /// Whether the set contains the double quote without `r`.
     quoted: bool,
-    /// The set contains each raw opening delimiter with at least this number of hashes. `None` if it contains none.
+    /// The least number of hashes of a raw opening delimiter in the set, or `None` if the set contains none. The set also
+    /// contains each raw opening delimiter with more hashes.
     raw: Option<usize>,
 }
 

@@ -54,7 +54,7 @@ token_front old new l utf8 takes =
       );
     }
 
--- Two ends of one text are equal if they have the same length.
+-- Two ends of one text are equal if their lengths are equal.
 same_tail : (xs ys us vs : List ℕ) → xs ++ us ≡ ys ++ vs → length us ≡ length vs → us ≡ vs
 same_tail [] [] us vs e l = e
 same_tail [] (y ∷ ys) us vs e l = absurd (omega (arith, ap length e, l, length-append ys vs))
@@ -127,7 +127,8 @@ name_begins start t first utf8 (takes, is_name) =
       following = takes.following;
     }
 
--- If the next token directly follows the beginning of a name, the unread text begins with this token.
+-- The text `tail` directly follows the part of a name that was read. If the next token begins there, the unread text is
+-- `tail`.
 stands_at : (start t next : CursorState) (front tail : List ℕ) (l : Lexeme) (hi : ℕ) → start.rest ≡ front ++ tail
     → hi + length tail ≡ length start.text → IsTail start.rest t.rest → t.text ≡ start.text → TakesNext t l next
     → l.lo ≡ hi → t.rest ≡ tail
@@ -199,7 +200,7 @@ name_text start t first hi name = ap (λ n. take n start.rest) (sym (name_len st
 pub slice_front : (r s : List ℕ) (n : ℕ) → r ≡ s → slice_range r 0 n ≡ take n s
 slice_front r s n e = ap (λ m. take m r) (let q : n - 0 ≡ n = omega arith in q) ∙ ap (λ x. take n x) e
 
--- If the next token is a punctuation character, the rest of the text isn't longer than the whole text.
+-- If the next token is a punctuation character, the unread text isn't longer than the whole text.
 pub mark_fits : (c : ℕ) (old new : CursorState) → TakesMark c old new → length old.rest ≤ length old.text
 mark_fits c old new (l, takes, is) = omega (arith, takes.place)
 
@@ -215,7 +216,7 @@ name_same old new name takes =
     let begins = takes.begins in
     parts_same takes.first.hi name.hi begins.following new takes.parts begins.are_parts ∙ begins.named.0.same
 
--- If an optional result is `Some x`, and a property holds for its value, the property holds for `x`.
+-- If a property holds for the value of an optional result, and the result is `Some x`, the property holds for `x`.
 pub holds_of_some : {A : Type 0} (P : A → Type 0) (o : Option A) (x : A) → o ≡ Some x → IfSome o P → P x
 holds_of_some {A = A} P o x e p = subst (λ (z : Option A). IfSome z P) e p
 

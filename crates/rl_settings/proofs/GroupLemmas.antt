@@ -22,18 +22,19 @@ use Rattle.rl_settings.specs.WholeCuts.{IsCutWhole}
 
 -- ---- the array of open groups
 
--- If an index is at or after the end of the array, no group is open from this index on.
+-- The open groups are stored in an array from an index on. If the index is the array's length or greater, no group is open.
 pub none_from : (xs : List Opened) (start : ℕ) → length xs ≤ start → map open_view (drop start xs) ≡ []
 none_from xs start h = ap (map open_view) (drop_of_length-le xs {i = start} h)
 
--- The open groups from an index of the array on are the group at the index, and then the groups around it.
+-- The open groups are stored in an array from an index on, innermost first. The first group is at the index, and the others
+-- follow.
 pub one_from : (xs : List Opened) (start : ℕ) (d : Opened) → start < length xs → map open_view (drop start xs)
     ≡ open_view (get_or xs start d) ∷ map open_view (drop (start + 1) xs)
 one_from xs start d h = ap (map open_view) (drop_more xs start d h)
 
 -- ---- the loop over a text's tokens
 
--- The text before `rest` is lexed, and after it the groups in the list `groups` are open.
+-- The part of the text before `rest` is split into tokens. After these tokens, the groups in the list `groups` are open.
 pub record HasPassed (text rest : List ℕ) (groups : List OpenGroup) : Type 0 where
   pub cuts : List LexedToken
   pub are_cuts : LexesUpTo 0 (chars text) cuts (chars rest)
@@ -87,7 +88,7 @@ error_found text rest groups kind at place is has here error at_is = record {
   at_is = at_is;
 }
 
--- If the loop over a text's tokens has passed the whole text and no group is open, the whole text is lexed.
+-- If the loop over a text's tokens has passed the whole text, and no group is open, the text is lexed without an error.
 pub all_passed : (text rest : List ℕ) (groups : List OpenGroup) → HasPassed text rest groups → rest ≡ [] → groups ≡ []
     → IsCutWhole (chars text)
 all_passed text rest groups has ends none = record {
@@ -144,7 +145,7 @@ rejected_token text from to groups l kind is same has next h =
     (omega (arith, next.place, ap length same)) next.begins next.is_lexeme
     (subst (λ (f : LexemeForm). StopsForm groups f kind) (sym next.is_cut.form_is) h)
 
--- If the rest of a text begins with no token, the error that the cursor returns is the first error of the whole text.
+-- If no token begins at the cursor's position, the error that the cursor returns is the first error of the whole text.
 pub error_told : (text : List ℕ) (old new : CursorState) (groups : List OpenGroup) (e : LexError) → old.text ≡ text
     → new ≡ old → HasPassed text old.rest groups → IsFirstError new e.kind e.at → HasFirstError (chars text) e.kind e.at
 error_told text old new groups e same stays has first =
@@ -160,7 +161,7 @@ told_end old new stays none (inl nothing) = ap (λ (t : CursorState). t.rest) (s
 told_end old new stays none (inr (after, before)) = absurd (none after
     (subst (λ (t : CursorState). LexemeBefore (chars t.rest) after) stays before))
 
--- If a group is open at the text's end, the error for it is the text's first error.
+-- If the loop over a text's tokens returns an error for an open group at the text's end, this is the text's first error.
 pub error_at_end : (text rest : List ℕ) (groups : List OpenGroup) (r : Option LexError) → IsUtf8 text
     → HasPassed text rest groups → rest ≡ [] → MatchOption r (groups ≡ []) (EndsOpen groups)
     → IfSome r (λ e. HasFirstError (chars text) e.kind e.at)

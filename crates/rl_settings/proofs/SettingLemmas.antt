@@ -1,4 +1,5 @@
--- The token or the end where a part of a setting was expected, and the end of a token tree.
+-- Lemmas about errors for missing parts of settings: the token or the text's end in the place of the part, and the end of a
+-- token tree.
 use Rattle.rl_syntax.proofs.Common.{◌≡◌, ◌≢◌, ℕ, ◌+◌, ◌-◌, ◌≤◌, inl, inr, Bool, true, false, List, [], ◌∷◌, length, refl, ◌∙◌, ◌==◌, ap, subst, arith, chars, if◌then◌else◌}
 use Rattle.rl_lexer.specs.declared.cursor.Lexeme.{Lexeme}
 use Rattle.rl_lexer.specs.declared.lex_error.LexKind.{LexKind}
@@ -10,7 +11,7 @@ use Rattle.rl_lexer.specs.Lexemes.{LexemeForm, LiteralForm, IdentifierForm, Deli
 use Rattle.rl_lexer.specs.Cuts.{BeginsNoLexeme, OpenGroup, ErrorAt, is_opener}
 use Rattle.rl_settings.specs.SettingSteps.{depth_after, EndsInside}
 
--- If the code's form of a token isn't that of an identifier, the token's form in the definitions isn't that of an identifier.
+-- If the code finds that a token isn't an identifier, the token isn't an identifier by the definitions either.
 pub other_name : (f : FoundForm) → (f ≡ found.Identifier → ⊥) → form_view f ≡ IdentifierForm → ⊥
 other_name found.Literal h e = absurd (cc)
 other_name found.Identifier h e = h refl
@@ -21,7 +22,7 @@ other_name (found.Mark c) h e = absurd (cc)
 pub no_memory : (kind : LexKind) (r : List ℕ) → ((groups : List OpenGroup) → ErrorAt kind groups r) → kind ≡ Memory → ⊥
 no_memory kind r h e = subst (λ (k : LexKind). ErrorAt k [] r) e (h [])
 
--- If the code's test for an empty rest returns `false`, the rest isn't empty.
+-- If the code's test whether the unread text is empty returns `false`, this text isn't empty.
 pub some_rest : (rest now : List ℕ) (empty : Bool) → now ≡ rest → empty ≡ (length now == 0) → empty ≡ false → rest ≡ []
     → ⊥
 some_rest rest now empty same is none e =
@@ -41,8 +42,8 @@ one_deeper (MarkForm c) depth = omega arith
 
 -- ---- the loop over the tokens of a token tree
 
--- The loop's invariant: if the rest of the token tree after `t` ends at an offset, the whole token tree after `first` ends at
--- this offset.
+-- The loop over the tokens of a token tree begins at the cursor `first`. The loop's invariant: if the end of the token tree
+-- is computed from the loop's current cursor `t`, it is also the end computed from `first`.
 abbrev pub Leads : ℕ → ℕ → CursorState → ℕ → ℕ → CursorState → Type 0
 Leads depth end t first_depth first_end first =
     (hi : ℕ) → EndsInside depth end t hi → EndsInside first_depth first_end first hi
@@ -59,7 +60,7 @@ pub ends_closed : (depth end first_depth first_end : ℕ) (t first : CursorState
     → Leads depth end t first_depth first_end first → EndsInside first_depth first_end first end
 ends_closed depth end first_depth first_end t first none leads = leads end ([], (inl none, refl))
 
--- If no token begins the rest of a text, the token tree ends at the end of the last token.
+-- If no token begins at the cursor's position, the token tree ends where the last token ends.
 pub ends_stuck : (depth end first_depth first_end : ℕ) (t first : CursorState) → BeginsNoLexeme (chars t.rest)
     → Leads depth end t first_depth first_end first → EndsInside first_depth first_end first end
 ends_stuck depth end first_depth first_end t first none leads = leads end ([], (inr none, refl))

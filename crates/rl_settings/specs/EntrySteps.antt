@@ -19,11 +19,11 @@ use Rattle.rl_settings.specs.SettingSteps.{TakesName, TakesMark, Misses, HasNo, 
 
 -- ---- names of entries
 
--- The form of a token is that of a dot.
+-- The token's form is a dot.
 abbrev pub IsDotForm : LexemeForm → Type 0
 IsDotForm form = form ≡ MarkForm (code ".")
 
--- The form of a token is that of a comma.
+-- The token's form is a comma.
 abbrev pub IsCommaForm : LexemeForm → Type 0
 IsCommaForm form = form ≡ MarkForm (code ",")
 
@@ -43,8 +43,8 @@ pub record JoinsName (end : ℕ) (old : CursorState) (part : Lexeme) (new : Curs
   pub touches : dot.lo ≡ end
   pub touched : part.lo ≡ dot.hi
 
--- The identifiers in the list, each after a dot, continue a name that ends at the byte offset `end`. The longer name ends at
--- the byte offset `hi`.
+-- A name ends at the byte offset `end`. The identifiers in the list, each after a dot, continue this name. The longer name
+-- ends at the byte offset `hi`.
 abbrev pub AreNameParts : ℕ → CursorState → List Lexeme → CursorState → ℕ → Type 0
 AreNameParts end t [] new hi = (new ≡ t) × (hi ≡ end)
 AreNameParts end t (l ∷ ls) new hi =
@@ -83,13 +83,11 @@ bytes_between lo t = drop lo (take (length t.text - length t.rest) t.text)
 abbrev pub has_line_end : ℕ → CursorState → Bool
 has_line_end lo t = list_any (λ c. c == code "\n") (bytes_between lo t)
 
--- No comma is needed after a value that ends at the byte offset `hi`, since the text or the line of the value ends after the
--- value.
+-- A value ends at the byte offset `hi`. The text or the line ends after the value, so no comma is needed.
 abbrev pub MayLackComma : ℕ → CursorState → Type 0
 MayLackComma hi t = (t.rest ≡ []) ⊎ IsTrue (has_line_end hi t)
 
--- The separator after a value that ends at the byte offset `hi`: a comma, or no comma if the text or the line ends after the
--- value.
+-- A value ends at the byte offset `hi`. A comma follows the value, or the text or the line ends after the value.
 abbrev pub TakesSeparator : ℕ → CursorState → CursorState → Type 0
 TakesSeparator hi old new =
     TakesMark (code ",") old new ⊎ (MayLackComma hi old × HasNo IsCommaForm old × (new ≡ old))

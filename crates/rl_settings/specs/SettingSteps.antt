@@ -55,15 +55,16 @@ abbrev pub depth_after : LexemeForm → ℕ → ℕ
 depth_after (DelimiterForm c) depth = if is_opener c then depth + 1 else depth - 1
 depth_after _ depth = depth
 
--- The list has the next tokens, up to the one that closes the last open group, or up to an error of the lexer. Its last token
--- ends at the byte offset `hi`, and the token before the list ends at `end`.
+-- The list has the next tokens of a token tree of which `depth` groups are open. The last token in the list closes the last
+-- open group, or precedes an error of the lexer. This last token ends at the byte offset `hi`. The token before the list ends
+-- at `end`.
 abbrev pub AreRestOfTree : ℕ → ℕ → CursorState → List Lexeme → ℕ → Type 0
 AreRestOfTree depth end t [] hi = ((depth ≡ 0) ⊎ BeginsNoLexeme (chars t.rest)) × (hi ≡ end)
 AreRestOfTree depth end t (l ∷ ls) hi =
     (depth ≢ 0) × ((new : CursorState) × TakesNext t l new
     × AreRestOfTree (depth_after (form_view l.form) depth) l.hi new ls hi)
 
--- A token tree of which `depth` groups are open ends at the byte offset `hi`.
+-- The cursor is inside a token tree, of which `depth` groups are open. The token tree ends at the byte offset `hi`.
 abbrev pub EndsInside : ℕ → ℕ → CursorState → ℕ → Type 0
 EndsInside depth end t hi = (inside : List Lexeme) × AreRestOfTree depth end t inside hi
 
@@ -73,14 +74,14 @@ pub record MissesAtEnd (t : CursorState) (part : Part) (e : SyntaxError) : Type 
   pub kind : e.kind ≡ EndOfInput part
   pub hi : e.hi ≡ e.lo
 
--- If the lexer fails at the position of a missing part, the error is that of the lexer.
+-- If the lexer fails at the position of a missing part, the error is the lexer's error.
 pub record MissesToken (t : CursorState) (e : SyntaxError) : Type 0 where
   pub why : LexKind
   pub stands : (groups : List OpenGroup) → ErrorAt why groups (chars t.rest)
   pub kind : e.kind ≡ of_lexer why
   pub hi : e.hi ≡ e.lo
 
--- If another token tree is at the position of a missing part, the error's range is that of the token tree: one token, or a
+-- If another token tree is at the position of a missing part, the error's range is the whole token tree: one token, or a
 -- group with both its delimiters.
 pub record MissesAtTree (t : CursorState) (part : Part) (e : SyntaxError) : Type 0 where
   pub first : Lexeme
@@ -89,12 +90,12 @@ pub record MissesAtTree (t : CursorState) (part : Part) (e : SyntaxError) : Type
   pub kind : e.kind ≡ Expected part
   pub ends : EndsInside (depth_after (form_view first.form) 0) first.hi following e.hi
 
--- The error for a missing part of a setting. It begins where the unread text begins.
+-- The error for a missing part of a setting. The error begins where the unread text begins.
 pub record Misses (t : CursorState) (part : Part) (e : SyntaxError) : Type 0 where
   pub place : e.lo + length t.rest ≡ length t.text
   pub why : MissesAtEnd t part e ⊎ MissesToken t e ⊎ MissesAtTree t part e
 
--- The next token doesn't pass the test, or no token is next.
+-- The next token doesn't pass the test, or there is no next token.
 abbrev pub HasNo : (LexemeForm → Type 0) → CursorState → Type 0
 HasNo Is t =
     BeginsNoLexeme (chars t.rest)

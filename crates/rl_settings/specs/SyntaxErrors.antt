@@ -61,7 +61,7 @@ abbrev pub literal_expected : List ℕ → SyntaxErrorKind
 literal_expected [] = NotALiteral
 literal_expected (c ∷ cs) = if c == code "-" then NoNumber else NotALiteral
 
--- Converts the kind of a list's error, where `rest` is the unread rest of the list's text.
+-- Converts the kind of a list's error. `rest` is the unread text of the list, as bytes.
 abbrev pub of_list : RejectionKind → List ℕ → SyntaxErrorKind
 of_list (list.Lex kind) rest = of_lexer kind
 of_list list.Group rest = Group

@@ -140,7 +140,7 @@ pub(crate) fn take_name<'t>(tokens: &mut Tokens<'t>, end: usize) -> Result<Lexem
     }
 }
 
-/// Whether the form `form` is the punctuation character `mark`.
+/// Whether a token of the form `form` is the punctuation character `mark`.
 pub(crate) fn is_mark(form: Form, mark: char) -> bool
     ensures { MatchBool result (form_view form ≡ MarkForm mark) (form_view form ≢ MarkForm mark) }
 {

@@ -154,7 +154,7 @@ pub fn lexer_error(kind: LexKind) -> SyntaxErrorKind
     }
 }
 
-/// Converts the kind of an error in a list of literals. `rest` is the unread rest of the list's text.
+/// Converts the kind of an error in a list of literals. `rest` is the unread text of the list.
 pub fn list_error(kind: RejectionKind, rest: &str) -> SyntaxErrorKind
     requires { kind ≢ Lex Memory }
     ensures { result ≡ of_list kind rest.now }

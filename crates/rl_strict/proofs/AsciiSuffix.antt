@@ -1,4 +1,4 @@
--- A suffix of ASCII characters is recognized by the bytes of its text.
+-- A text is a suffix if it begins with an ASCII letter, and all its bytes are ASCII letters, digits or underscores.
 use Rattle.rl_strict.proofs.Names.{◌≡◌, ◌<◌, ◌||◌, ◌==◌, ℕ, suc, zero, true, cond, List, [], ◌∷◌, get_or, refl, ap, subst, ◌∙◌, arith, nat_tests, and_parts, or_right, list_all, is_ascii_alphabetic, IsAscii, after_run, chars-IsAscii, is_continue, is_start, suffix_rest, is_suffix_byte}
 use Rattle.rl_syntax.proofs.Common.{chars}
 use Rattle.rl_syntax.proofs.AsciiLemmas.{ascii_xid_continue, ascii_xid_start, continue_is_plain, start_is_plain}

@@ -54,8 +54,8 @@ row_goes_on c d (k ∷ more) x each e = both_ways (k == 39) (not_among k 39 is_c
 
 -- ---- one character between quotes
 
--- Any character other than a backslash, between single quotes, begins a valid token, whatever text follows the closing
--- quote.
+-- A source that begins with `'c'` begins with a valid token, for any character `c` other than a backslash, whatever text
+-- follows.
 one_proper : (c : ℕ) (after : List ℕ) → (c == 92) ≡ false → BeginsProper (39 ∷ c ∷ 39 ∷ after)
 one_proper c after n =
     let found = suffix_found after in (
@@ -76,8 +76,8 @@ one_byte_proper c after n =
 
 -- ---- identifiers between quotes
 
--- An identifier of more than one character, with a closing single quote after it, doesn't begin with one character and a
--- closing quote.
+-- In a text such as `ab'`, an identifier of more than one character precedes a single quote. The text doesn't begin with one
+-- character and a single quote.
 word_bare : (c : ℕ) (more : List ℕ) → list_all is_continue more ≡ true → (more ≡ [] → ⊥)
     → HasNoBare Char (c ∷ (more ++ (39 ∷ [])))
 word_bare c [] each some d x plain e = some refl
@@ -105,8 +105,8 @@ body_bare kind (PlainPart c ∷ EscapedPart k ∷ parts) suffix first is after a
     both_ways (92 == 39) refl (second_is c 92 d (k ∷ (body_text parts ++ (39 ∷ suffix))) x e)
 body_bare kind (EscapedPart c ∷ parts) suffix first is after alone d x plain e = absurd (both_ways true first refl)
 
--- If the text between two single quotes doesn't begin with an escape, neither does the text with the closing quote and a
--- suffix after it.
+-- If the text before a closing single quote doesn't begin with an escape, the text with the quote and a suffix appended
+-- doesn't either.
 body_escape : (parts : List BodyPart) (suffix : List ℕ) → first_passes begins_escape (body_text parts) ≡ false
     → first_passes begins_escape (body_text parts ++ (39 ∷ suffix)) ≡ false
 body_escape [] suffix first = refl

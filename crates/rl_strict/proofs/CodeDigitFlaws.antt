@@ -1,10 +1,11 @@
--- The flaw of the digits of a `\u{..}` escape, computed one digit at a time, is the flaw that the mirror of the code
--- returns.
+-- The flaw of the digits of a `\u{..}` escape, computed one digit at a time, is the flaw that the executable model of the
+-- code returns.
 use Rattle.rl_strict.proofs.Names.{◌≡◌, ℕ, ◌+◌, ◌*◌, ◌≤◌, ◌&&◌, false, not, cond, eqb, List, [], ◌∷◌, Option, Some, None, refl, sym, ap, subst, ◌∙◌, inl, inr, arith, option_and_then, digit_value, and_parts, both_ways, cases_Bool, eq-eqb, eqb-true, ne_eqb, not-true, Kind, is_hex_digit, Unclosed, NoHexDigit, TooManyDigits, CodeDigits, code_digits_at, first_code_digits_at, FoundFlaw, code_flaw_at, code_flaw_of, first_digit_flaw_at, found_flaw, is_code, digit_apart, below_six}
 
 -- ---- the flaw of the digits of a `\u{..}` escape
 
--- The flaw of a `\u{..}` escape, by the text after its first `n` digits. These digits represent the number `v`.
+-- The flaw of a `\u{..}` escape whose first `n` digits represent the number `v`. The last argument is the text after these
+-- digits.
 unfoldable pub digits_flaw_at : Kind → ℕ → ℕ → List ℕ → FoundFlaw
 digits_flaw_at kind v n [] = found_flaw Unclosed []
 digits_flaw_at kind v n (c ∷ cs) =
@@ -62,7 +63,8 @@ digits_flaw_is kind (c ∷ cs) v n last few good = elim (cases_Bool (is_hex_digi
       | inr e ↦ ne_eqb (m + 1) 6 (λ same. both_ways (eqb m 5) e (eq-eqb m 5 (omega (arith, same)))) ∙ sym e
     ]
 
--- If a text after `\u{` begins with a digit, `code_flaw_at` of its digits is the flaw that `first_digit_flaw_at` returns.
+-- For a text after `\u{` that begins with a digit, `code_flaw_at` of the digits is the flaw that `first_digit_flaw_at`
+-- returns for the text.
 pub first_flaw_is : (kind : Kind) (t : List ℕ) (d : CodeDigits) → Some d ≡ first_code_digits_at t → code_flaw_at kind d
     ≡ first_digit_flaw_at kind t
 unfolding first_digit_flaw_at

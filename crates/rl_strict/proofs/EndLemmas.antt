@@ -7,8 +7,7 @@ use Rattle.rl_strict.proofs.FileUnits.{closer_read, single_in, single_read, stuc
 
 -- ---- ends of texts, which don't begin between a CR and an LF in a file
 
--- An end of a text that doesn't begin between a CR and an LF is also an end of the text outside files, where CR LF isn't
--- read as LF.
+-- An end of a text in a file, which doesn't begin between a CR and its LF, is also an end of the text outside files.
 pub loose : (t rest : List ℕ) → IsFileRest t rest → IsRestOf Text t rest
 loose t rest r = record { front = r.front; text_is = r.text_is; seam = refl }
 
@@ -44,8 +43,8 @@ nil_of File t e = ap (read_of File) e
 
 -- ---- tests of characters of texts as they are read
 
--- If a test of characters has equal results for CR and LF, its result for a text's first character doesn't change if CR LF
--- is read as LF.
+-- Reading CR LF as LF doesn't change whether the first character of a text passes a test that has equal results for CR and
+-- LF.
 pub first_of : (how : LineEnds) (test : ℕ → Bool) → test 13 ≡ test 10 → (t : List ℕ) → first_passes test (read_of how t)
     ≡ first_passes test t
 first_of Text test e t = refl

@@ -7,11 +7,11 @@ use Rattle.rl_strict.proofs.Names.{◌≡◌, ℕ, suc, ◌+◌, ◌*◌, ◌^�
 abbrev pub Reader : Type 0 → Type 0
 Reader V = List ℕ → Option (V × List ℕ)
 
--- The result of a successful parser: a value, and the rest of the text.
+-- The result of a successful parser: a value, and the text after the part that the parser consumed.
 abbrev pub given : {V : Type 0} → V → List ℕ → Option (V × List ℕ)
 given v rest = Some (v, rest)
 
--- The parser consumes all of the text, and returns one value, whatever text follows.
+-- The parser consumes all of the text `t` and returns one value, whatever text follows `t`.
 abbrev pub Closes : {V : Type 0} → Reader V → List ℕ → Type 0
 Closes {V} reader t = (value : V) × ((r : List ℕ) → reader (t ++ r) ≡ given value r)
 
@@ -19,22 +19,23 @@ Closes {V} reader t = (value : V) × ((r : List ℕ) → reader (t ++ r) ≡ giv
 abbrev pub Fails : {V : Type 0} → Reader V → List ℕ → Type 0
 Fails reader t = reader t ≡ None
 
--- There is a text that the parser consumes whole, whatever text follows.
+-- There is a text that the parser consumes whole, whatever text follows that text.
 abbrev pub Completes : {V : Type 0} → Reader V → Type 0
 Completes reader = IsCompletable (Closes reader) []
 
--- If a parser consumes the one character `c`, whatever text follows, there is a text that the parser consumes whole.
+-- A parser that consumes only the character `c`, whatever text follows, satisfies `Completes`: it consumes the text `c`
+-- whole.
 ends_by : {V : Type 0} (reader : Reader V) (value : V) (c : ℕ) → IsScalar c
     → ((r : List ℕ) → reader (c ∷ r) ≡ given value r) → Completes reader
 ends_by reader value c is h = record { ending = c ∷ []; are_characters = (is, tt); is_taken = (value, h) }
 
--- If a parser consumes the characters `c` and `d`, whatever text follows, there is a text that the parser consumes whole.
+-- A parser that consumes only the characters `c` and `d`, whatever text follows, satisfies `Completes`: it consumes the text
+-- `cd` whole.
 ends_by_two : {V : Type 0} (reader : Reader V) (value : V) (c d : ℕ) → IsScalar c → IsScalar d
     → ((r : List ℕ) → reader (c ∷ d ∷ r) ≡ given value r) → Completes reader
 ends_by_two reader value c d is js h = record { ending = c ∷ d ∷ []; are_characters = (is, (js, tt)); is_taken = (value, h) }
 
--- An outer parser calls an inner parser, and only converts the inner parser's value. If the outer parser fails, the inner
--- parser has failed.
+-- If a parser that only converts the value of an inner parser fails, the inner parser has failed.
 pub inner_none : {V W : Type 0} (o : Option (V × List ℕ)) (f : V → W) → option_and_then (λ p. given (f p.0) p.1) o
     ≡ None → o ≡ None
 inner_none None f h = refl
@@ -42,7 +43,7 @@ inner_none (Some p) f h = absurd (cc)
 
 -- ---- the kinds of literals, and the numbers that they allow
 
--- If a kind of literal doesn't allow the number of a character, the number is 0.
+-- If a kind of literal doesn't allow characters with the code point `v`, `v` is 0.
 pub only_zero : (kind : Kind) (v : ℕ) → allows_code kind v ≡ false → v ≡ 0
 only_zero CStr v h = elim (cases_Bool (eqb v 0)) [
   | inl a ↦ eqb-true v 0 a
@@ -85,8 +86,7 @@ hex_second kind c h low =
     ends_by (second kind c) (v * 16 + 1) 49 refl (λ r. hex_read kind c 49 r h refl
     ∙ ap (λ b. number_if b (v * 16 + 1) r) allowed)
 
--- If a parser rejects the number of an escape because the kind of literal doesn't allow it, the parser rejects it whatever
--- text follows.
+-- An escape whose code point the kind of literal doesn't allow is rejected, whatever text follows the escape.
 pub never : (b : Bool) (n : ℕ) (r s : List ℕ) → number_if b n r ≡ None → number_if b n s ≡ None
 never true n r s h = absurd (cc)
 never false n r s h = refl
@@ -121,7 +121,7 @@ past_hex kind c (d ∷ ds) h high =
 
 -- ---- the digits between the braces of a `\u{..}` escape
 
--- The number of a `\u{..}` escape and the text after the escape, if the kind allows the number.
+-- The code point of a `\u{..}` escape and the text after the escape, or `None` if the kind doesn't allow the code point.
 abbrev pub allowed : Kind → ℕ × List ℕ → Option (ℕ × List ℕ)
 allowed kind p = number_if (allows_unicode_escapes kind && allows_code kind p.0) p.0 p.1
 
@@ -184,7 +184,7 @@ full_none kind v (c ∷ cs) bad =
       ]
     ]
 
--- A number below 0xD800, the first surrogate, is the number of a character.
+-- A number that isn't the code point of a character is at least 0xD800, the first surrogate.
 pub not_low : (v : ℕ) → scalar v ≡ false → 55296 ≤ v
 not_low v h = elim (cases_Bool (ltb v 55296)) [
   | inl a ↦ let e = rw a at h in absurd (cc)
@@ -210,8 +210,8 @@ grown v n few small bad =
     rw low (and_from (leb 57344 (v * 16 + 1)) (ltb (v * 16 + 1) 1114112) (le-leb 57344 (v * 16 + 1) (omega arith))
     (lt-ltb (v * 16 + 1) 1114112 (omega arith)))
 
--- The `n` digits of a `\u{..}` escape so far, at most six, represent the number `v`. If there are six digits, the number is
--- allowed.
+-- `v` may be the number that the first `n` digits of a `\u{..}` escape represent. The kind allows such escapes, and `n` is
+-- at most 6. If `n` is 6, the kind allows the code point `v`.
 pub record Spelled (kind : Kind) (v n : ℕ) : Type 0 where
   pub unicode : allows_unicode_escapes kind ≡ true
   pub few : n ≤ 6
@@ -355,6 +355,6 @@ by_escape kind r = refl
 
 -- ---- a character or an escape
 
--- The kind is that of a quoted literal.
+-- The kind is the kind of a quoted literal.
 abbrev pub IsQuotedKind : Kind → Type 0
 IsQuotedKind kind = (is_string kind ≡ true) ⊎ (is_single kind ≡ true)

@@ -170,8 +170,8 @@ escape_flaw_read k t = by_first (λ z r. escape_flaw_at k r ≡ lf_flaw (escape_
     _ _ _ _ (unicode_flaw_read k cs) (ap (found_flaw NoUnicode) (sym e))) (both lf_flaw (c == 48) _ _ _ _ (ap
     (found_flaw Nul) (sym e)) (ap (found_flaw UnknownEscape) (sym e))))) t
 
--- The flaw of an invalid escape doesn't change if CR LF is read as LF in the text after the backslash. In a string, the text
--- has to be an invalid escape after CR LF is read as LF.
+-- The flaw of an invalid escape doesn't change if CR LF is read as LF in the text after the backslash. In a string, the
+-- escape must also be invalid after CR LF is read as LF.
 strict_escape_read : (k : Kind) (t : List ℕ) → (is_string k ≡ true → escape_rest k (lf_text t) ≡ None)
     → strict_escape_flaw_at k (lf_text t) ≡ lf_flaw (strict_escape_flaw_at k t)
 unfolding strict_escape_flaw_at escape_flaw_at

@@ -199,7 +199,7 @@ by_read q h =
     ∙ ap (whole_read_at (capped m)) (after_read 10 ten q.1) ∙ whole_read (capped m) (after_digits 10 q.1))
     (based_read q.0 h q.1)
 
--- If a text begins with a digit, its parse result as a number doesn't change if CR LF is read as LF.
+-- Reading CR LF as LF doesn't change the parse result of a text that begins with a digit.
 pub number_read : (t : List ℕ) → first_passes is_ascii_digit t ≡ true → number_read_at (lf_text t)
     ≡ lf_number (number_read_at t)
 unfolding number_read_at

@@ -36,8 +36,8 @@ pub rest_length : (how : LineEnds) (t rest : List ℕ) → IsUtf8 t → IsUtf8 r
     → length t ≡ byte_len r.front + length rest
 rest_length how t rest ut ur r = cut_bytes t rest r.front ut ur r.text_is
 
--- If a text is split at a position that isn't between a CR and an LF, reading CR LF as LF in the two parts gives the whole
--- text with CR LF read as LF.
+-- Let `rest` be an end of a text that doesn't begin between a CR and its LF. The whole text with CR LF read as LF consists
+-- of two parts: the text before `rest`, and `rest`, each with CR LF read as LF.
 lf_cut : (t rest : List ℕ) → IsUtf8 t → IsUtf8 rest → (r : IsFileRest (chars t) (chars rest)) → chars (lf_bytes t)
     ≡ lf_text r.front ++ chars (lf_bytes rest)
 lf_cut t rest ut ur r = lf_chars t ut ∙ rest_text (chars t) (chars rest) r
@@ -67,7 +67,8 @@ lf_place t rest at ut ur r e =
 longer : (front : List ℕ) (c : ℕ) → byte_len (front ++ (c ∷ [])) ≡ byte_len front + length (encode_utf8 c)
 longer front c = byte_len-append front (c ∷ []) ∙ ap (λ z. byte_len front + length z) (append-nil (encode_utf8 c))
 
--- Outside files, the byte offset where an end of a text begins is the number of bytes before that end.
+-- Outside files, the byte offset at which the end `rest` of the text `front ++ rest` begins is the number of bytes of
+-- `front`.
 pub front_at : (t rest front : List ℕ) (at : ℕ) → IsRestPlace Text t rest at → t ≡ front ++ rest → at ≡ byte_len front
 front_at t rest front at p e = p.at_is
     ∙ ap byte_len (append_cancel_right p.is_rest.front front rest (sym p.is_rest.text_is ∙ e))
@@ -83,8 +84,8 @@ after_at t rest front at p e = go rest refl
     go (c ∷ cs) is = front_at t p.after (front ++ (c ∷ [])) at p.place (e ∙ ap (λ z. front ++ z) (is ∙ ap (λ z. c ∷ z)
         (sym (p.after_is ∙ ap (drop 1) is))) ∙ sym (append_assoc front (c ∷ []) p.after)) ∙ longer front c
 
--- In a file, the byte offset where an end of the text as written begins corresponds to the byte offset where that end begins
--- in the text with CR LF read as LF.
+-- In a file, let `rest` begin at the byte offset `at` of the text as written. After CR LF is read as LF, `rest` begins at
+-- the byte offset that corresponds to `at`.
 place_in : (t rest front : List ℕ) (at : ℕ) → IsRestPlace File t rest at → lf_text t ≡ front ++ lf_text rest
     → IsPlaceInFile t (byte_len front) at
 place_in t rest front at p e =
@@ -99,8 +100,8 @@ place_in t rest front at p e =
       at_is = p.at_is;
     }
 
--- In a file, the byte offset after the first character of an end of the text as written corresponds to the byte offset after
--- that character in the text with CR LF read as LF.
+-- In a file, let `at` be the byte offset after the first character of `rest` in the text as written. After CR LF is read as
+-- LF, the byte offset after the first character of `rest` corresponds to `at`.
 after_place : (t rest front : List ℕ) (at : ℕ) → IsPlaceAfter File t rest at → lf_text t ≡ front ++ lf_text rest
     → IsPlaceInFile t (byte_len front + first_len (lf_text rest)) at
 after_place t rest front at p e = go (lf_text rest) refl
@@ -116,7 +117,7 @@ after_place t rest front at p e = go (lf_text rest) refl
 
 -- ---- the byte offsets of flaws
 
--- A flaw with its byte offsets in the text as it is read. In a file, CR LF is read as LF.
+-- A flaw with its byte offsets in the text as it is read: with CR LF read as LF in a file, and unchanged outside files.
 abbrev read_flaw : (how : LineEnds) (signed : Bool) (t piece rest : List ℕ) (k : FlawKind)
     → IsFlawOf how signed t k piece rest → Flaw
 read_flaw how signed t piece rest k f = record {

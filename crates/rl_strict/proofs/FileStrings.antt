@@ -53,7 +53,7 @@ pub signed_of : (how : LineEnds) (t : List ℕ) → IsSignedToken t → IsSigned
 signed_of Text t y = y
 signed_of File t y = subst IsSignedToken (sym (signed_same t y)) y
 
--- A parse result of a literal token is also a parse result where a minus before a number is allowed.
+-- A parse result of a literal token stays correct where a minus before a number is allowed.
 pub reads_signed : (how : LineEnds) (signed : Bool) (t : List ℕ) (r : Reading) → IsReadingOf how false t r
     → IsReadingOf how signed t r
 reads_signed how false t r h = h
@@ -88,8 +88,8 @@ suffix_no_line x (inr w) = word_without 10 x (omega arith) refl w.identifier
 suffix_same : (x : List ℕ) → is_strict_suffix (lf_text x) ≡ true → lf_text x ≡ x
 suffix_same x h = unread_same x (suffix_no_line (lf_text x) (strict_suffix_sound (lf_text x) h))
 
--- A string in a file: its text, the texts that begin after its opening quote, at its closing quote and at its suffix, and
--- the byte offsets of its body. All of these texts end where the string ends.
+-- The parts of a string in a file. `t` is the whole string, `opened` the text after the opening quote, `closing` the text
+-- from the closing quote on, and `suffix` the suffix. `body` has the byte offsets of the string's body.
 pub record InFile (t opened closing suffix : List ℕ) (body : Body) : Type 0 where
   pub utf8 : IsUtf8 t
   pub opened_utf8 : IsUtf8 opened

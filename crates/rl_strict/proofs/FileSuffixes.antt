@@ -1,5 +1,5 @@
--- In a file, the code has equal results for the text as written and for the text with CR LF read as LF: for the flaw of a
--- suffix, for the flaw of a word, and for the opening delimiter.
+-- In a file, three results of the code don't change if CR LF is read as LF: the flaw of a suffix, the flaw of a text that
+-- begins neither as a number nor as a quoted literal, and the opening delimiter.
 use Rattle.rl_strict.proofs.Names.{◌≡◌, ℕ, Bool, true, false, not, ◌==◌, ◌&&◌, ◌||◌, cond, List, [], ◌∷◌, Option, Some, None, refl, sym, ap, subst, ◌∙◌, arith, and_parts, not-true, is_xid_continue, is_xid_continue-ascii, is_xid_start, is_xid_start-ascii, list_all, option_map, ByteStr, CStr, Kind, Str, after_run, first_passes, truth_text, and_left, is_continue, is_start, is_white, all_weaker, apart, run, FoundOpener, byte_opener_at, opener_at, string_opener_at, is_some_text, QuotedForm, CookedForm, RawForm, SingleForm, run_all, run_join, and_from, FlawKind, BadSuffix, TextAfterQuote, ExtraHash, NotALiteral, UnderscoreSuffix, UnexpectedEnd, is_dropped, lf_text, IsFileRest, form_quote, is_raw_form, begins_hash, suffix_end_flaw_at, suffix_rest, is_lone_underscore, suffix_end_read, suffix_read_at, FoundFlaw, found_flaw, after_letters, end_flaw_at, word_flaw_at}
 use Rattle.rl_strict.proofs.FileTextLemmas.{by_first, lacks_cr, line_of, rest_free, rest_self, when_kept}
 
@@ -9,14 +9,14 @@ pub both : {A B : Type 0} (f : A → B) (b : Bool) (x y : A) (u v : B) → u ≡
 both f true x y u v p q = p
 both f false x y u v p q = q
 
--- A flaw, with CR LF read as LF in the text that begins at the flaw.
+-- The flaw, with CR LF read as LF in the text that begins at the flaw. The kind of flaw doesn't change.
 abbrev pub lf_flaw : FoundFlaw → FoundFlaw
 lf_flaw flaw = (flaw.0, lf_text flaw.1)
 
 -- ---- tests of characters, and sequences of characters that pass a test
 
--- If a test of characters has equal results for CR and LF, its result for a text's first character doesn't change if CR LF
--- is read as LF.
+-- Reading CR LF as LF doesn't change whether the first character of a text passes a test that has equal results for CR and
+-- LF.
 pub first_read : (test : ℕ → Bool) → test 13 ≡ test 10 → (t : List ℕ) → first_passes test (lf_text t)
     ≡ first_passes test t
 first_read test e t = by_first (λ z r. first_passes test r ≡ first_passes test z) refl (λ cs. sym e) (λ c cs k. refl) t
@@ -24,8 +24,8 @@ first_read test e t = by_first (λ z r. first_passes test r ≡ first_passes tes
 pub some_read : (t : List ℕ) → is_some_text (lf_text t) ≡ is_some_text t
 some_read t = first_read (λ c. true) refl t
 
--- If a test fails for CR and LF, skipping the characters at a text's beginning that pass the test commutes with reading CR
--- LF as LF.
+-- Let a test fail for CR and LF. Skipping the first characters that pass the test, and then reading CR LF as LF, gives the
+-- text that these two steps give in the other order.
 pub run_read : (test : ℕ → Bool) → test 13 ≡ false → test 10 ≡ false → (t : List ℕ) → after_run test (lf_text t)
     ≡ lf_text (after_run test t)
 run_read test r l [] = refl
@@ -45,8 +45,7 @@ run_read test r l (c ∷ cs) = go (run_read test r l cs) (is_dropped c cs) refl
         ap (after_run test) e ∙ both lf_text (test c) (after_run test cs) (c ∷ cs) (after_run test (lf_text cs))
         (c ∷ lf_text cs) ih (sym e)
 
--- If a test fails for CR and LF, the characters at a text's beginning that pass the test don't change if CR LF is read as
--- LF.
+-- Reading CR LF as LF doesn't change the first characters of a text that pass a test, if the test fails for CR and LF.
 pub front_read : (test : ℕ → Bool) → test 13 ≡ false → test 10 ≡ false → (t : List ℕ) → run test (lf_text t)
     ≡ run test t
 unfolding run
@@ -63,7 +62,7 @@ front_read test r l (c ∷ cs) = go (front_read test r l cs) (is_dropped c cs) r
     go ih true h = let found = line_of c cs h in subst At (sym found.1) (line found.0)
     go ih false h = ap (run test) (when_kept c cs h) ∙ ap (λ z. cond (test c) (c ∷ z) []) ih
 
--- After a sequence of characters other than CR, the rest of a text doesn't begin between a CR and an LF.
+-- If a test fails for CR, the text after the first characters that pass the test doesn't begin between a CR and its LF.
 pub run_rest : (test : ℕ → Bool) → test 13 ≡ false → (t : List ℕ) → IsFileRest t (after_run test t)
 run_rest test r t = rest_free t (run test t) (after_run test t) (run_join test t)
     (all_weaker test (λ c. not (c == 13)) (λ c h. ap not (apart test c 13 h r)) (run test t) (run_all test t))
@@ -159,7 +158,7 @@ suffix_read form t =
     (Some (found_flaw ExtraHash (lf_text t))) (at (lf_text t)) refl
     (ap (suffix_end_read form (lf_text t)) (suffix_rest_read t) ∙ end_read form t (suffix_rest t))
 
--- A flaw of a suffix is where the identifier at the suffix's beginning ends.
+-- A flaw that `suffix_end_read` returns is at the end of the identifier that follows the closing delimiter.
 end_place : (form : QuotedForm) (t r : List ℕ) (f : FoundFlaw) → suffix_end_read form t r ≡ Some f → f.1 ≡ r
 end_place form t [] f h = go (is_lone_underscore t) h
   where
@@ -225,7 +224,7 @@ word_read t = by_first (λ z r. word_flaw_at r ≡ lf_flaw (word_flaw_at z)) ref
 
 -- ---- opening delimiters
 
--- An opening delimiter that the code found, with CR LF read as LF in the text after it.
+-- The opening delimiter that the code found, and the text after the delimiter with CR LF read as LF.
 abbrev pub lf_opener : FoundOpener → FoundOpener
 lf_opener found = option_map (λ p. (p.0, p.1, lf_text p.2)) found
 

@@ -72,7 +72,8 @@ back_free a b h = (and_parts (lacks_cr a) (lacks_cr b) (sym (list_all-append (λ
 
 -- ---- borders between two texts that aren't between a CR and an LF
 
--- If the border between two texts isn't between a CR and an LF, CR LF can be read as LF in each of the two texts separately.
+-- If the border between two texts isn't between a CR and its LF, the texts can be joined before or after CR LF is read as
+-- LF, with equal results.
 pub seam_text : (a b : List ℕ) → is_seam a b ≡ true → lf_text (a ++ b) ≡ lf_text a ++ lf_text b
 seam_text [] b h = refl
 seam_text (c ∷ []) b h = when_kept c b (not-true (is_dropped c b) h)
@@ -103,20 +104,21 @@ rest_step a b d p q = record {
   seam = seam_join p.front q.front d (subst (λ z. is_seam p.front z ≡ true) q.text_is p.seam) q.seam;
 }
 
--- After a prefix without CR, the rest of a text doesn't begin between a CR and an LF.
+-- The text after a prefix without CR doesn't begin between a CR and its LF.
 pub rest_free : (t front rest : List ℕ) → t ≡ front ++ rest → lacks_cr front ≡ true → IsFileRest t rest
 rest_free t front rest e h = record { front = front; text_is = e; seam = free_seam front rest h }
 
--- After a CR LF, the rest of a text doesn't begin between a CR and an LF.
+-- The text after a CR LF doesn't begin between a CR and its LF.
 pub rest_line : (t rest : List ℕ) → t ≡ 13 ∷ 10 ∷ rest → IsFileRest t rest
 rest_line t rest e = record { front = 13 ∷ 10 ∷ []; text_is = e; seam = refl }
 
--- After a first character other than the CR of a CR LF, the rest of a text doesn't begin between a CR and an LF.
+-- If the first character of a text isn't the CR of a CR LF, the text after this character doesn't begin between a CR and its
+-- LF.
 pub rest_kept : (t rest : List ℕ) (c : ℕ) → t ≡ c ∷ rest → is_dropped c rest ≡ false → IsFileRest t rest
 rest_kept t rest c e h = record { front = c ∷ []; text_is = e; seam = ap not h }
 
--- If the rest of a text doesn't begin between a CR and an LF, CR LF can be read as LF in the text before the rest and in the
--- rest separately.
+-- Let `rest` be an end of a text that doesn't begin between a CR and its LF. The whole text with CR LF read as LF consists
+-- of two parts: the text before `rest`, and `rest`, each with CR LF read as LF.
 pub rest_text : (t rest : List ℕ) (r : IsFileRest t rest) → lf_text t ≡ lf_text r.front ++ lf_text rest
 rest_text t rest r = ap lf_text r.text_is ∙ seam_text r.front rest r.seam
 
@@ -128,8 +130,8 @@ token_free t y = strict_holds_no_return t y.kind y.contents y.suffix y.strict
 pub token_same : (t : List ℕ) → IsToken t → lf_text t ≡ t
 token_same t y = same_text t (token_free t y)
 
--- The longest prefix of a text that can be completed to a literal token contains no CR. So the rest doesn't begin between a
--- CR and an LF.
+-- The longest prefix of a text that can be completed to a literal token contains no CR. So the text after this prefix
+-- doesn't begin between a CR and its LF.
 pub stops_rest : (t rest : List ℕ) → StopsBefore IsToken t rest → IsFileRest t rest
 stops_rest t rest s = rest_free t s.front rest s.text_is
     (front_free s.front s.begins.ending (token_free (s.front ++ s.begins.ending) s.begins.is_taken))

@@ -106,7 +106,7 @@ pub other_none : (k : Kind) (t cs : List ℕ) (c : ℕ) → t ≡ c ∷ cs → (
 other_none k t cs c e n m is = sym (ap (escape_rest k) (kept_read t cs c e (other_kept c cs m))
     ∙ other_read k c cs n m ∙ ap (option_map (λ (p : List ℕ × List ℕ). lf_text p.1)) (sym (is ∙ ap (escape_at k) e)))
 
--- After a character or escape of a string, the rest of the text doesn't begin between a CR and an LF.
+-- The text after a character or escape of a string doesn't begin between a CR and its LF.
 pub unit_in : (k : Kind) (t rest : List ℕ) → is_string k ≡ true → unit_rest k t ≡ Some rest → IsFileRest t rest
 unit_in k t rest s h =
     let found = row_rest k t rest s (row_unit k t t rest (row_none k t) (unit_rest_sound k t rest (quoted_string k s) h))

@@ -7,7 +7,7 @@ use Rattle.rl_strict.proofs.NumberEnds.{in_row, part_row, row_part}
 
 -- ---- the suffixes `f32` and `f64`
 
--- The bytes of the text `f32` are its characters.
+-- The text `f32` is ASCII, so the list of its bytes is the list of its characters.
 f32_chars : chars (codes "f32") ≡ codes "f32"
 unfolding chars
 f32_chars = refl

@@ -1,5 +1,5 @@
--- The parse result of a text by its beginning: an opening delimiter, a word, a number, or a minus. In a file, CR LF is read
--- as LF.
+-- The parse result of a text that begins with an opening delimiter, with `true` or `false`, with a number, or with a minus.
+-- In a file, CR LF is read as LF.
 use Rattle.rl_strict.proofs.Names.{◌≡◌, ◌≢◌, ℕ, Bool, true, false, not, ◌==◌, List, [], ◌∷◌, ◌++◌, None, Some, refl, sym, ap, subst, ◌∙◌, inl, inr, and_parts, both_ways, is_ascii_digit, list_all, Kind, Str, first_passes, truth_text, form_opener, found_opener, opener_at, QuotedForm, CookedForm, RawForm, SingleForm, front_sound, ClosesForm, IsToken, FlawKind, Minus, NoNumber, UnexpectedEnd, LineEnds, Text, File, StopsBefore, IsRestOf, StopsAsRead, is_dropped, lf_text, read_of, IsFlawOf, IsTokenIf, IsSignedToken, IsStrictWordFlaw, IsStop, IsMinusStop, NumberRead, number_read_at, FoundFlaw, found_flaw, end_flaw_at, word_flaw_at, goes_on}
 use Rattle.rl_strict.proofs.EndLemmas.{end_of, first_of, free_in, loose, read_flaw, self_in, step_in}
 use Rattle.rl_strict.proofs.FileNumbers.{file_stop}
@@ -183,8 +183,8 @@ minus_alone_flaw how t number rest k text n same = after_minus how t number rest
     how UnexpectedEnd NoNumber number))) (subst (IsRestOf how number) (sym (ap (λ (z : FoundFlaw). z.1) same ∙ end_place
     UnexpectedEnd NoNumber number)) (self_in how number))
 
--- If a text doesn't begin with a minus, its flaw as a literal token is also its flaw where a minus before a number is
--- allowed.
+-- Where a minus before a number is allowed, the flaw of a text that doesn't begin with a minus is its flaw as a literal
+-- token.
 pub flaw_signed : (how : LineEnds) (signed : Bool) (t piece rest : List ℕ) (k : FlawKind) → (signed ≡ true →
     first_passes (λ c. c == 45) t ≡ false) → IsFlawOf how false t k piece rest → IsFlawOf how signed t k piece rest
 flaw_signed how false t piece rest k none f = f

@@ -11,8 +11,7 @@ use Rattle.rl_strict.proofs.StrictTokens.{token_number, token_reads, truth_no_di
 
 -- ---- the byte offset of the suffix
 
--- A text is a prefix followed by an end of the text. The number of bytes of the text is the sum of those of the prefix and
--- the end.
+-- A text is a prefix followed by an end of the text. The text has as many bytes as the prefix and the end together.
 pub front_of : (t rest : List ℕ) → IsUtf8 t → IsTail t rest → (front : List ℕ) × (chars t ≡ front ++ chars rest)
     × (length t ≡ byte_len front + length rest)
 front_of t rest u tail =
@@ -134,8 +133,8 @@ within_of t x s n m r h =
     let w = within_reads t x n (record { sign = s; reads = r; within = under n m h }) in
     (Int, (w.0, x, w.1))
 
--- If the parse result of a text is an integer whose magnitude is `None`, the text is an integer above 128 bits. Its suffix
--- begins at the byte offset in the parse result.
+-- An integer whose parse result has the magnitude `None` is above 128 bits. The byte offset in the parse result is where the
+-- integer's suffix begins.
 pub signed_past : (t : List ℕ) (r : Reading) (at : ℕ) → IsSignedRead t r → oversized_suffix_at r ≡ Some at → IsCharBoundary t at
     × ((past : IsPast (chars t)) × (past.suffix ≡ chars (drop at t)))
 signed_past t (Integer None k) at y e =
@@ -153,7 +152,7 @@ signed_past t (Integer None k) at y e =
     ])
 signed_past t r at y e = absurd (cc)
 
--- If the parse result of a text isn't an integer whose magnitude is `None`, the text isn't an integer above 128 bits.
+-- The parse result of an integer above 128 bits is an integer with the magnitude `None`.
 pub signed_within : (t : List ℕ) (r : Reading) → IsSignedRead t r → oversized_suffix_at r ≡ None → IsPast (chars t) → ⊥
 signed_within t r y e p = read_within (chars t) (reading t r y e) p
   where

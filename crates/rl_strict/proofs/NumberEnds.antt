@@ -91,8 +91,8 @@ suffix_whole (c ∷ cs) u = ap (λ b. not b && (cond b (is_some_text cs) (is_sta
     go true = all_run is_continue cs
     go false = refl
 
--- If a text doesn't begin with an underscore, the parser of suffixes reads it to its end exactly if it passes the test of
--- suffixes.
+-- For a text that doesn't begin with an underscore, the parser of suffixes finds no flaw exactly if the text passes the test
+-- of number suffixes.
 pub suffix_reads : (t : List ℕ) → first_passes is_underscore t ≡ false → is_read (suffix_end_at t) ≡ is_number_suffix t
 unfolding suffix_end_at
 suffix_reads t u = go (is_some_text (suffix_rest t)) ∙ sym (suffix_whole t u)
@@ -112,7 +112,7 @@ is_sign c = is_power_sign (c ∷ [])
 abbrev pub IsSign : List ℕ → Type 0
 IsSign sign = (sign ≡ []) ⊎ ((sign ≡ 43 ∷ []) ⊎ (sign ≡ 45 ∷ []))
 
--- A text is an optional sign and the rest. Without a sign, the rest doesn't begin with a sign.
+-- `t` is an optional sign followed by `rest`. Without a sign, `rest` doesn't begin with a sign.
 pub record SignCut (t rest : List ℕ) : Type 0 where
   pub sign : List ℕ
   pub is_sign_of : IsSign sign
@@ -147,7 +147,7 @@ row_bare (c ∷ cs) x each some =
     let p = and_parts (in_row c) (list_all in_row cs) each in
     or_from (c == 43) (c == 45) (apart in_row c 43 p.0 refl) (apart in_row c 45 p.0 refl)
 
--- The result of parsing the text after the digits of an exponent. The first argument tells whether there is a digit.
+-- The result of parsing the text after the digits of an exponent. The first argument tells whether the exponent has a digit.
 abbrev pub power_tail : Bool → List ℕ → Ending
 power_tail some y = cond some (suffix_end_at y) (stopped NoExponentDigit y)
 
@@ -236,8 +236,7 @@ decimal_is t w x at text d stops =
 
 -- ---- the text after the whole part of a decimal number
 
--- Whether the whole part of a number is `0` and the character after it is the letter of a base prefix, for example the `x`
--- of `0x`.
+-- Whether the whole part is `0` and the character is the letter of a base prefix, as the `x` of `0x`.
 abbrev pub names : List ℕ → ℕ → Bool
 names [] c = false
 names (a ∷ []) c = a == 48 && not (radix_of c == 10)
@@ -252,7 +251,7 @@ not_named true r cs u h = go (r == 10) refl h
     go true e k = refl
     go false e k = let same : false ≡ true = sym e ∙ ap (λ z. z == 10) k in absurd (cc)
 
--- If a number is decimal, the character after its whole part doesn't make a base prefix of `0`, as the `x` of `0x` does.
+-- The whole part of a decimal number and the character after it aren't a base prefix such as `0x`.
 pub names_none : (w z : List ℕ) → (radix_at (w ++ z)).0 ≡ 10 → first_passes (names w) z ≡ false
 unfolding radix_at
 names_none w [] h = refl
@@ -260,7 +259,8 @@ names_none [] (c ∷ cs) h = refl
 names_none (a ∷ []) (c ∷ cs) h = not_named (a == 48) (radix_of c) cs (a ∷ c ∷ cs) h
 names_none (a ∷ b ∷ ws) (c ∷ cs) h = refl
 
--- If the whole part and the character after it aren't a base prefix, the number is decimal.
+-- A number stays decimal if another text follows its whole part. The whole part and the first character of this text must
+-- not be a base prefix such as `0x`.
 ten_stays : (w z x : List ℕ) → first_passes is_ascii_digit w ≡ true → (radix_at (w ++ z)).0 ≡ 10
     → first_passes (names w) x ≡ false → radix_at (w ++ x) ≡ (10, w ++ x)
 unfolding radix_at
@@ -270,7 +270,7 @@ ten_stays (a ∷ []) z (c ∷ cs) d h k = ap (λ b. cond {A = ℕ × List ℕ} b
 ten_stays (a ∷ b ∷ ws) z x d h k = ap (λ t. cond {A = ℕ × List ℕ} t (radix_of b, ws ++ x) (10, a ∷ b ∷ (ws ++ x)))
     (not_named (a == 48) (radix_of b) (ws ++ z) (a ∷ b ∷ (ws ++ z)) h)
 
--- Whether the character continues a decimal whole part, or makes a base prefix of it.
+-- Whether the character continues a decimal whole part, or makes the whole part before it a base prefix, as the `x` of `0x`.
 abbrev pub ten_first : List ℕ → ℕ → Bool
 ten_first w c = in_row c || names w c
 
@@ -288,8 +288,8 @@ of_base b = has_value (radix b)
 abbrev pub in_base : Base → ℕ → Bool
 in_base b = is_run_part (of_base b)
 
--- The result of parsing the text after the digits of a number with a base prefix, by three tests. The first test is whether
--- a decimal digit follows. The second is whether there are no digits. The third is whether a dot or an exponent follows.
+-- The result of parsing a number with a base prefix from the end of its digits on. `digit` tells whether a decimal digit
+-- follows, `none` whether there are no digits, and `mark` whether a dot or the letter of an exponent follows.
 abbrev pub row_tail : Bool → Bool → Bool → List ℕ → Ending
 row_tail digit none mark y = cond digit (stopped InvalidDigit y)
     (cond none (stopped NoDigits y) (cond mark (stopped BasedFloat y) (suffix_end_at y)))

@@ -31,7 +31,7 @@ exponent_is e x p s =
     ∙ digits_power p.letter (p.sign ++ (p.run ++ x)) p.is_letter
     ∙ power_is p.sign p.run x true p.is_sign (λ e. row_bare p.run x each some) each some (no_row x s)
 
--- An exponent begins with its letter. So a test that fails for this letter fails for the exponent's first character.
+-- A test that fails for the letter of an exponent fails for the exponent's first character, which is this letter.
 exponent_front : (test : ℕ → Bool) (e x : List ℕ) (p : IsStrictExponent e) → test p.letter ≡ false
     → first_passes test (e ++ x) ≡ false
 exponent_front test e x p h = ap (λ z. first_passes test (z ++ x)) p.text ∙ h

@@ -1,5 +1,5 @@
--- A literal's text in a file has at most one flaw. Each byte offset in the text with CR LF read as LF is exactly one byte
--- offset in the file.
+-- A literal's text in a file has at most one flaw. Each byte offset in the text with CR LF read as LF corresponds to exactly
+-- one byte offset in the file.
 use Rattle.rl_strict.proofs.Names.{◌≡◌, ℕ, ◌<◌, ◌==◌, Bool, false, true, not, List, [], ◌∷◌, ◌++◌, length, refl, sym, ap, subst, ◌∙◌, inl, inr, arith, and-false, length-le-encodes, byte_len, byte_len-append, Flaw, ExplainsInFile, ExplainsSignedInFile, ExplainsSignedValueInFile, ExplainsValueInFile, IsPlaceInFile, is_dropped, is_seam, lf_text, IsExplainedOnce, IsSignedToken}
 use Rattle.rl_strict.proofs.FileStrings.{signed_same}
 use Rattle.rl_strict.proofs.FileTextLemmas.{by_first, seam_text, when_dropped, when_kept}
@@ -8,7 +8,8 @@ use Rattle.rl_strict.proofs.OneStrictFlaw.{After, Before, Meets, Same, flaw_same
 
 -- ---- borders between two texts
 
--- If CR LF can be read as LF in two adjacent texts separately, the border between the texts isn't between a CR and an LF.
+-- If two texts can be joined before or after CR LF is read as LF, with equal results, the border between the texts isn't
+-- between a CR and its LF.
 pub whole_seam : (a b : List ℕ) → lf_text (a ++ b) ≡ lf_text a ++ lf_text b → is_seam a b ≡ true
 whole_seam [] b e = refl
 whole_seam (c ∷ []) b e = go (is_dropped c b) refl
@@ -50,8 +51,8 @@ reads_some c cs = by_first ReadsSome (λ d ds e. absurd (cc)) (λ ds d es e. som
     some : (d : ℕ) (ds : List ℕ) → 0 < byte_len (d ∷ ds)
     some d ds = omega (arith, length-le-encodes (d ∷ ds))
 
--- A longer prefix of a text has more bytes after CR LF is read as LF, if the shorter prefix doesn't end between a CR and an
--- LF.
+-- Let `front` be a prefix of a text that doesn't end between a CR and its LF. After CR LF is read as LF, a longer prefix of
+-- the text has more bytes than `front`.
 pub more_read : (front : List ℕ) (c : ℕ) (more rest : List ℕ) → is_seam front (c ∷ (more ++ rest)) ≡ true
     → byte_len (lf_text front) < byte_len (lf_text (front ++ (c ∷ more)))
 more_read front c more rest h =
@@ -67,7 +68,7 @@ not_longer t read at other p q c more e h =
     ap (λ z. byte_len (lf_text z)) e in
     omega (arith, less, longer, p.read_is, q.read_is)
 
--- A byte offset in the text with CR LF read as LF is exactly one byte offset in the text as written.
+-- A byte offset in the text with CR LF read as LF corresponds to exactly one byte offset in the text as written.
 pub place_once : (t : List ℕ) (r s at other : ℕ) → r ≡ s → IsPlaceInFile t r at → IsPlaceInFile t s other → at ≡ other
 place_once t r s at other same p other_place =
     let q = subst (λ z. IsPlaceInFile t z other) (sym same) other_place in
@@ -80,8 +81,8 @@ place_once t r s at other same p other_place =
 
 -- ---- flaws in a file
 
--- The flaw `flaw` of a text in a file has the kind of the flaw `read`. Its byte offsets are the positions of those of
--- `read`, which count in the text with CR LF read as LF.
+-- The flaw `flaw` of a text in a file corresponds to the flaw `read` of the text with CR LF read as LF. The two flaws have
+-- one kind, and the byte offsets of `flaw` correspond to those of `read`.
 record InFile (t : List ℕ) (read flaw : Flaw) : Type 0 where
   pub kind : flaw.kind ≡ read.kind
   pub from : IsPlaceInFile t read.from flaw.from

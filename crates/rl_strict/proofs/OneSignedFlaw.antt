@@ -7,8 +7,8 @@ use Rattle.rl_strict.proofs.SignedFlaws.{unsigned}
 
 -- ---- texts without a minus
 
--- If a text without a minus can be completed to a literal token or to a minus and a number, it can be completed to a literal
--- token.
+-- If a text doesn't begin with a minus, and can be completed to a literal token or to a minus and a number, it can be
+-- completed to a literal token.
 completed : (front : List ℕ) → first_passes (λ c. c == 45) front ≡ false → IsCompletable IsSignedToken front
     → IsCompletable IsToken front
 completed [] n b = record { ending = 49 ∷ []; are_characters = (refl, tt); is_taken = one_digit 49 refl }
@@ -39,7 +39,7 @@ number_cut t number rest e s = go s.front (sym e ∙ s.text_is) s.stuck
     go [] h stuck = absurd (stuck 45 number (49 ∷ []) (sym h) (inr (49 ∷ [], refl, refl, one_digit 49 refl)))
     go (c ∷ cs) h stuck = let same : 45 ∷ number ≡ c ∷ (cs ++ rest) = h in (cs, cc)
 
--- The kind of flaw if no digit follows a minus, by the text after the minus.
+-- The kind of flaw if no digit follows a minus. The argument is the text after the minus.
 lack_of : List ℕ → FlawKind
 lack_of [] = UnexpectedEnd
 lack_of (c ∷ cs) = NoNumber

@@ -9,20 +9,20 @@ use Rattle.rl_strict.proofs.ReadNumbers.{goes_on}
 
 -- ---- the position of the flaw
 
--- The relation between two ways to split one text into a front and a rest: the fronts are equal, or one is a prefix of the
--- other.
+-- One text is split in two ways: into `f` and `r`, and into `g` and `s`. The prefixes `f` and `g` are equal, or one of them
+-- is a prefix of the other.
 pub data Meets (f g r s : List ℕ) : Type 0 where
   Same : f ≡ g → r ≡ s → Meets f g r s
   Before : (c : ℕ) (more : List ℕ) → g ≡ f ++ (c ∷ more) → r ≡ c ∷ (more ++ s) → Meets f g r s
   After : (c : ℕ) (more : List ℕ) → f ≡ g ++ (c ∷ more) → s ≡ c ∷ (more ++ r) → Meets f g r s
 
--- If two fronts of a text are equal, or one is a prefix of the other, this stays true with one more character before both.
+-- Two splits of a text that satisfy `Meets` still satisfy `Meets` after a character is put before the text.
 meets_on : (c : ℕ) (f g r s : List ℕ) → Meets f g r s → Meets (c ∷ f) (c ∷ g) r s
 meets_on c f g r s (Same a b) = Same (ap (λ z. c ∷ z) a) b
 meets_on c f g r s (Before d more a b) = Before d more (ap (λ z. c ∷ z) a) b
 meets_on c f g r s (After d more a b) = After d more (ap (λ z. c ∷ z) a) b
 
--- If a text is split into a front and a rest in two ways, the fronts are equal, or one is a prefix of the other.
+-- If one text is split into `f` and `r`, and also into `g` and `s`, the two splits satisfy `Meets`.
 pub meets : (f g r s : List ℕ) → f ++ r ≡ g ++ s → Meets f g r s
 meets [] [] r s e = Same refl e
 meets [] (c ∷ g) r s e = Before c g refl e
@@ -157,8 +157,8 @@ number_once k l front rest p q =
 
 -- ---- the flaw of a text that begins neither as a number nor as a quoted literal
 
--- The kind of flaw of a text that begins neither as a number nor as a quoted literal. The arguments are the text before the
--- flaw and the text from the flaw on.
+-- The kind of flaw of a text that begins neither as a number nor as a quoted literal. The first argument is the text before
+-- the flaw, and the second argument the text from the flaw on.
 word_of : List ℕ → List ℕ → FlawKind
 word_of [] [] = Empty
 word_of (c ∷ cs) [] = UnexpectedEnd
@@ -181,8 +181,7 @@ word_is Minus [] (d ∷ ds) (e, h) = sym (ap (λ b. cond b Minus NotALiteral) h)
 word_is Minus (c ∷ cs) (d ∷ ds) (e, h) = absurd (cc)
 word_is k front rest h = absurd h
 
--- If a text begins neither with a digit nor as a quoted literal, the text before its flaw doesn't begin as a number or as a
--- quoted literal.
+-- The text before a flaw of `IsStrictWordFlaw` doesn't begin as a number or as a quoted literal.
 word_front : (k : FlawKind) (front rest : List ℕ) → IsStrictWordFlaw k front rest → IsFront front
 word_front Empty front rest (e, h) = subst IsFront (sym e)
     (truth_front true [] (truth_text true) refl)
@@ -237,8 +236,8 @@ kinds_once k l t pa pb rest s p q = go p q
 
 -- ---- at most one flaw
 
--- A flaw explains a text if its range is where the text's longest completable prefix ends, and its kind describes the error
--- in the piece and the rest.
+-- The flaw's range begins after the longest prefix of `text` that can be completed to a text that satisfies `takes`. The
+-- text to show for the flaw begins at `piece`. `says` relates the flaw's kind to `piece` and to the text from the flaw on.
 pub record Explained (takes : List ℕ → Type 0) (says : FlawKind → List ℕ → List ℕ → Type 0) (text : List ℕ)
     (flaw : Flaw) : Type 0 where
   pub place : IsPlaced takes text flaw.lo flaw.hi
@@ -248,7 +247,7 @@ pub record Explained (takes : List ℕ → Type 0) (says : FlawKind → List ℕ
   pub from_is : flaw.from ≡ byte_len before
   pub kind : says flaw.kind piece place.rest
 
--- If at most one kind and one piece of a flaw are possible at each position of a text, at most one flaw explains the text.
+-- If `says` allows at most one kind of flaw and one `piece` at each position of a text, at most one flaw explains the text.
 pub explained_once : (takes : List ℕ → Type 0) (says : FlawKind → List ℕ → List ℕ → Type 0) (text : List ℕ)
     → ((k l : FlawKind) (pa pb rest : List ℕ) → StopsBefore takes text rest → says k pa rest → says l pb rest
     → (k ≡ l) × (pa ≡ pb)) → (a b : Flaw) → Explained takes says text a → Explained takes says text b → a ≡ b

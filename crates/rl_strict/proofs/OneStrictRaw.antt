@@ -1,4 +1,4 @@
--- At each position, a raw string has at most one kind of flaw. The piece of text that the flaw shows is determined too.
+-- At each position, a raw string has at most one kind of flaw. The text to show for the flaw is determined too.
 use Rattle.rl_strict.proofs.Names.{◌≡◌, ◌≢◌, ℕ, ◌&&◌, Bool, true, false, not, ◌==◌, cond, List, [], ◌∷◌, ◌++◌, replicate, refl, sym, ap, ◌∙◌, inl, inr, arith, append_assoc, append_cancel_right, nat_lt, and_parts, both_ways, eqb-true, or_from, list_all, zero, suc, append_cancel_left, Kind, first_passes, after_run, is_hash, or_left, begins, apart, hashes_past, begins_front, FlawKind, UnexpectedEnd, NoQuote, Unclosed, Nul, NotAscii, TooManyHashes, CarriageReturn, RawForm, IsUnopened, is_quote, IsOpen, StrictQuotedFlaw, StrictRawFlaw, is_raw_character, raw_stop, raw_character_flaw_of, spoiled_flaw_of}
 use Rattle.rl_strict.proofs.OneStrictUnit.{suffix_once}
 use Rattle.rl_strict.proofs.StrictRawFlaws.{ends_at, many_hashes, walk_halt}
@@ -8,7 +8,7 @@ use Rattle.rl_strict.proofs.StrictRawLemmas.{NoCloser, inside_allowed, no_closer
 abbrev pub HasQuote : List ℕ → Type 0
 HasQuote t = (hashes : ℕ) × (inside : List ℕ) × (t ≡ replicate hashes 35 ++ (34 ∷ inside))
 
--- If hashes precede a character that is neither a hash nor a quote, the text isn't hashes and a quote.
+-- A text whose first character after its hashes isn't a quote doesn't begin with hashes and a quote.
 pub no_quote : (n m : ℕ) (rest z : List ℕ) → first_passes is_hash rest ≡ false → first_passes is_quote rest ≡ false
     → replicate n 35 ++ rest ≡ replicate m 35 ++ (34 ∷ z) → ⊥
 no_quote zero zero rest z h q e = both_ways (first_passes is_quote rest) q (ap (first_passes is_quote) e)
@@ -17,7 +17,8 @@ no_quote (suc n) zero rest z h q e = both_ways true (sym (ap (first_passes is_qu
 no_quote (suc n) (suc m) rest z h q e = no_quote n m rest z h q
     (let same : 35 ∷ (replicate n 35 ++ rest) ≡ 35 ∷ (replicate m 35 ++ (34 ∷ z)) = e in cc)
 
--- After a raw string's prefix, a text with only hashes before another character isn't hashes and a quote.
+-- If a raw string has no opening quote after its hashes (`IsUnopened`), the text after its prefix doesn't begin with hashes
+-- and a quote (`HasQuote`).
 pub unopened_quote : (t rest : List ℕ) → IsUnopened t rest → HasQuote t → ⊥
 unopened_quote t rest u (m, z, e) = no_quote u.hashes m rest z u.no_hash u.no_quote (sym u.text_is ∙ e)
 
@@ -30,7 +31,7 @@ open_quote k n t rest o = (n, o.body ++ rest, o.text_is)
 abbrev hashes : ℕ → List ℕ
 hashes n = replicate n 35
 
--- Two ways to read the hashes and the opening quote of a raw string agree: the hashes and the texts after the opening quote
+-- Two parses of one raw string's hashes and opening quote agree: the hashes are equal, and the texts after the opening quote
 -- are equal.
 record SameOpen (n m : ℕ) (x y : List ℕ) : Type 0 where
   hashes_are : hashes n ≡ hashes m
@@ -47,7 +48,8 @@ open_same n m x y e =
 
 -- ---- the first closing delimiter
 
--- If a raw string's content has only allowed characters and no closing delimiter, the code's loop skips all of it.
+-- The loop over a raw string's content skips the content, if no hash follows it. The content has only allowed characters,
+-- and no closing delimiter.
 walk_finds : (k : Kind) (n : ℕ) (body z : List ℕ) → list_all (is_raw_character k) body ≡ true
     → NoCloser (replicate n 35) body → first_passes is_hash z ≡ false → z ≡ raw_stop k (replicate n 35) z
     → raw_stop k (replicate n 35) (body ++ z) ≡ z
@@ -61,7 +63,7 @@ walk_finds k n (c ∷ cs) z each none no_hash ends_raw_content =
     ap (λ b. cond b (c ∷ (cs ++ z)) (raw_stop k (replicate n 35) (cs ++ z))) goes
     ∙ walk_finds k n cs z p.1 (λ f r e. none (c ∷ f) r (ap (λ q. c ∷ q) e)) no_hash ends_raw_content
 
--- At a closing delimiter of a raw string, the code's loop stops.
+-- The loop over a raw string's content stops at a closing delimiter.
 closer_halts : (k : Kind) (n : ℕ) (suffix : List ℕ) → 34 ∷ (replicate n 35 ++ suffix)
     ≡ raw_stop k (replicate n 35) (34 ∷ (replicate n 35 ++ suffix))
 closer_halts k n suffix =
@@ -69,7 +71,7 @@ closer_halts k n suffix =
     walk_halt k h (34 ∷ (h ++ suffix)) (h ++ suffix) 34 refl
     (or_left (begins h (h ++ suffix)) (not (is_raw_character k 34)) (begins_front h suffix))
 
--- The closing delimiter of a raw string is the closing delimiter at which the code's loop stops.
+-- The loop over a raw string's content skips all of the content, and stops at the closing delimiter.
 closing_found : (k : Kind) (n : ℕ) (t closing suffix : List ℕ) (o : IsOpen k n t closing) → closing
     ≡ 34 ∷ (replicate n 35 ++ suffix) → raw_stop k (replicate n 35) (o.body ++ closing) ≡ closing
 closing_found k n t closing suffix o e =
@@ -87,7 +89,7 @@ closing_once k n m t ca cb sa sb a b e f =
     ∙ ap (raw_stop k (replicate m 35)) same.inside_is
     ∙ closing_found k m t cb sb b f
 
--- In a raw string, a flaw of the content isn't after a closing delimiter.
+-- In a raw string, no flaw of the content is after a closing delimiter.
 not_closed : (k : Kind) (n m : ℕ) (t rest closing front : List ℕ) → IsOpen k n t rest → IsOpen k m t closing → closing
     ≡ 34 ∷ (replicate m 35 ++ (front ++ rest)) → ⊥
 not_closed k n m t rest closing front a b e =
@@ -100,12 +102,12 @@ not_closed k n m t rest closing front a b e =
 
 -- ---- the kinds of flaws before the closing delimiter
 
--- The kind of flaw of an unclosed raw string, by the text from the flaw on.
+-- The kind of flaw of an unclosed raw string. The last argument is the text from the flaw on.
 open_kind : Kind → List ℕ → FlawKind
 open_kind k [] = Unclosed
 open_kind k (c ∷ cs) = raw_character_flaw_of k c
 
--- The kind of flaw if no quote follows a raw string's hashes, by the text from the flaw on.
+-- The kind of flaw if no quote follows a raw string's hashes. The argument is the text after the hashes.
 unopened_kind : List ℕ → FlawKind
 unopened_kind [] = UnexpectedEnd
 unopened_kind (c ∷ cs) = NoQuote
@@ -180,7 +182,7 @@ not_both k f m t piece rest closing front (Many x h a p) o e = many_open k m t r
 
 -- ---- at most one flaw of a raw string at each position
 
--- If two closing delimiters of a raw string have equal hashes and begin at one position, the texts after them are equal.
+-- The position and the hashes of a raw string's closing delimiter determine the text after the delimiter.
 suffix_same : (n m : ℕ) (ca cb sa sb : List ℕ) → hashes n ≡ hashes m → ca ≡ cb → ca
     ≡ 34 ∷ (replicate n 35 ++ sa) → cb ≡ 34 ∷ (replicate m 35 ++ sb) → sa ≡ sb
 suffix_same n m ca cb sa sb h c a b =

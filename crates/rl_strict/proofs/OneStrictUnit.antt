@@ -1,5 +1,5 @@
--- At each position, a string with escapes has at most one kind of flaw, and so has a character or byte literal. The piece of
--- text that the flaw shows is determined too.
+-- At each position, a string with escapes has at most one kind of flaw, and so has a character or byte literal. The text to
+-- show for the flaw is determined too.
 use Rattle.rl_strict.proofs.Names.{◌≡◌, ℕ, ◌⊎◌, ◌&&◌, Bool, true, false, ◌==◌, cond, List, [], ◌∷◌, ◌++◌, Option, Some, None, refl, sym, ap, subst, ◌∙◌, inl, inr, append_assoc, append-nil, append_cancel_right, and_from, and_parts, both_ways, eqb-true, flat_map, list_all, Kind, first_passes, is_single, is_string, is_line_end, StrictUnit, strict_text, is_strict_unit, and_right, FlawKind, Unclosed, UnknownEscape, NoUnicode, Nul, MustEscape, NoCharacter, TwoCharacters, BadSuffix, CarriageReturn, TextAfterQuote, ExtraHash, UnderscoreSuffix, QuotedForm, CookedForm, SingleForm, BeginsStrictUnit, BeginsStrictUnits, BreaksEnd, HasNoStrictUnit, StrictCloserFlaw, StrictQuotedFlaw, StrictUnitFlaw, SuffixFlaw, form_quote, is_raw_form, suffix_piece, unit_rest, character_flaw_of, HasStrictUnits, not_both}
 use Rattle.rl_strict.proofs.OneUnitFlaw.{at_end, flaw_of, must_escape, spoils}
 use Rattle.rl_strict.proofs.StrictRowLemmas.{quote_stops, quoted_string}
@@ -12,14 +12,15 @@ use Rattle.rl_strict.proofs.ReadQuoted.{not_string}
 abbrev is_bad_return : Kind → ℕ → Bool
 is_bad_return kind c = c == 13 && is_string kind
 
--- The kind of flaw of a character or escape, by the text before the flaw and the character at the flaw.
+-- The kind of flaw of a character or escape. The arguments are the kind of literal, the text before the flaw, and the
+-- character at the flaw.
 abbrev strict_flaw_of : Kind → List ℕ → ℕ → FlawKind
 strict_flaw_of kind [] c = cond (is_bad_return kind c) CarriageReturn (character_flaw_of c)
 strict_flaw_of kind (a ∷ []) c = cond (is_bad_return kind c) CarriageReturn (flaw_of (a ∷ []) c)
 strict_flaw_of kind front c = flaw_of front c
 
--- The kind of flaw of a character or escape is the one that the text before the flaw and the character at the flaw
--- determine.
+-- The kind of flaw `k` is the one that `strict_flaw_of` returns for the text before the flaw and the character `c` at the
+-- flaw.
 record Told (kind : Kind) (k : FlawKind) (t : List ℕ) (c : ℕ) (cs : List ℕ) : Type 0 where
   front : List ℕ
   text_is : t ≡ front ++ (c ∷ cs)
@@ -55,8 +56,8 @@ no_unknown kind k t a c cs h bad e =
         both_ways (is_string kind && is_line_end b.first) b.no_line_end (and_from (is_string kind)
         (is_line_end b.first) p.1 (ap is_line_end (sym same ∙ eqb-true c 13 p.0)))
 
--- If the kind of flaw is the one that `flaw_of` returns, it is also the one that `strict_flaw_of` returns. The function
--- `strict_flaw_of` adds the flaws of CRs in strings.
+-- If `flaw_of` returns the kind of a flaw, `strict_flaw_of` returns it too. The two functions differ only for a CR in a
+-- string.
 shared_told : (kind : Kind) (k : FlawKind) (t : List ℕ) (c : ℕ) (cs : List ℕ) (front : List ℕ)
     → StrictUnitFlaw kind k t (c ∷ cs) → t ≡ front ++ (c ∷ cs) → k ≡ flaw_of front c → Told kind k t c cs
 shared_told kind k t c cs [] h text e = record { front = []; text_is = text; kind_is = go (is_bad_return kind c) refl }
@@ -113,7 +114,7 @@ unit_once kind k l t (c ∷ cs) p q =
     let same : a.front ≡ b.front = append_cancel_right a.front b.front (c ∷ cs) (sym a.text_is ∙ b.text_is) in
     a.kind_is ∙ ap (λ z. strict_flaw_of kind z c) same ∙ sym b.kind_is
 
--- The flaw of a character or escape isn't before the character or escape.
+-- A text that begins with a faulty character or escape ends with the text that begins at the flaw.
 pub strict_unit_cut : (kind : Kind) (k : FlawKind) (t rest : List ℕ) → StrictUnitFlaw kind k t rest → (m : List ℕ)
     × (t ≡ m ++ rest)
 strict_unit_cut kind k t [] h = (t, sym (append-nil t))
@@ -167,12 +168,13 @@ unit_left k t r u = ap (unit_rest k) u.text_is ∙ unit_rest_complete k u.unit r
 
 -- ---- the text after a closing delimiter
 
--- Whether the text is empty. Between a closing delimiter and a further hash the text is empty.
+-- Whether the text is empty. No text is between a closing delimiter and one more hash.
 empty_front : List ℕ → Bool
 empty_front [] = true
 empty_front (c ∷ cs) = false
 
--- The kind of flaw after a closing delimiter, by the text between the delimiter and the flaw, and the text from the flaw on.
+-- The kind of flaw after a closing delimiter. `front` is the text between the delimiter and the flaw. The last argument is
+-- the text from the flaw on.
 suffix_kind : QuotedForm → List ℕ → List ℕ → FlawKind
 suffix_kind form front [] = UnderscoreSuffix
 suffix_kind form front (c ∷ cs) = cond (is_raw_form form && (empty_front front && c == 35)) ExtraHash
@@ -215,7 +217,7 @@ suffix_told form BadSuffix front (c ∷ cs) (f, some, n, q, x) = go (is_raw_form
     go false e = sym (ap (λ z. cond z TextAfterQuote BadSuffix) q)
 suffix_told form k front rest h = absurd h
 
--- Two flaws at one position after a closing quote have one kind and one piece.
+-- Two flaws at one position after a closing delimiter have one kind, and one text to show.
 pub suffix_once : (form : QuotedForm) (k l : FlawKind) (ca cb fa fb pa pb rest : List ℕ) → SuffixFlaw form k fa rest
     → SuffixFlaw form l fb rest → ca ≡ cb → fa ++ rest ≡ fb ++ rest → pa ≡ suffix_piece k ca (fa ++ rest) → pb
     ≡ suffix_piece l cb (fb ++ rest) → (k ≡ l) × (pa ≡ pb)
@@ -228,7 +230,7 @@ suffix_once form k l ca cb fa fb pa pb rest p q closing suffix is_a is_b =
           ∙ ap (suffix_piece l cb) suffix ∙ sym is_b,
     )
 
--- The text after its first character.
+-- The text without its first character.
 tail_of : List ℕ → List ℕ
 tail_of [] = []
 tail_of (c ∷ cs) = cs
@@ -265,7 +267,7 @@ cooked_once kind k l t pa pb rest s (inr a) (inr b) =
 
 -- ---- character and byte literals
 
--- If a text begins with a character or escape, the text after this character or escape is determined.
+-- At most one text follows the character or escape at the beginning of a text.
 left_once : (k : Kind) (t r s : List ℕ) → BeginsStrictUnit k t r → BeginsStrictUnit k t s → r ≡ s
 left_once k t r s a b =
     let both : Some r ≡ Some s = sym (unit_left k t r a) ∙ unit_left k t s b in

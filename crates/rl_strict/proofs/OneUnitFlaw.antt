@@ -4,12 +4,13 @@ use Rattle.rl_lenient.proofs.Names.{Zero}
 
 -- ---- the kind of flaw, by the text before the flaw and the character at the flaw
 
--- The kind of flaw in a `\u{..}` escape, by the digits before the flaw and the character at the flaw.
+-- The kind of flaw in a `\u{..}` escape. The arguments are the digits before the flaw, and the character at the flaw.
 abbrev pub digits_flaw : List ℕ → ℕ → FlawKind
 digits_flaw ds c = cond (is_hex_digit c) (cond (eqb (digit_count ds) 6) TooManyDigits
     (code_flaw_of (number_of (ds ++ (c ∷ []))))) (cond (eqb c 125) (code_flaw_of (number_of ds)) NoHexDigit)
 
--- The kind of flaw in a character or escape, by the text before the flaw and the character at the flaw.
+-- The kind of flaw in a character or escape. The arguments are the text from the beginning of the character or escape to the
+-- flaw, and the character at the flaw.
 abbrev pub flaw_of : List ℕ → ℕ → FlawKind
 flaw_of [] c = character_flaw_of c
 flaw_of (a ∷ []) c = cond (eqb c 117) NoUnicode (cond (eqb c 48) Nul UnknownEscape)
@@ -18,8 +19,8 @@ flaw_of (a ∷ b ∷ d ∷ []) c = cond (eqb b 120) (cond (is_hex_digit c) Nul N
     (cond (eqb c 125) EmptyBraces NoHexDigit)
 flaw_of (a ∷ b ∷ d ∷ e ∷ ds) c = digits_flaw (e ∷ ds) c
 
--- The text before the flaw isn't a complete character or escape. This text and the character at the flaw determine the kind
--- of flaw.
+-- `front` is the text from the beginning of a character or escape to the flaw. `front` isn't a complete character or escape.
+-- `front` and the character `c` at the flaw determine the kind of flaw.
 pub record Spoils (kind : Kind) (k : FlawKind) (t : List ℕ) (c : ℕ) (cs : List ℕ) : Type 0 where
   pub front : List ℕ
   pub text_is : t ≡ front ++ (c ∷ cs)
@@ -57,7 +58,7 @@ no_digit kind = refl
 abbrev is_part : ℕ → Bool
 is_part c = is_underscore c || is_hex_digit c
 
--- After `\u{`, digits without a closing brace aren't accepted as the number of an escape.
+-- The parser of the digits after `\u{` fails if the text ends before a closing brace.
 not_closed : (v n : ℕ) (ds : List ℕ) → list_all is_part ds ≡ true → unicode_digits_at v n ds ≡ None
 unfolding unicode_digits_at
 not_closed v n [] h = refl
@@ -83,7 +84,7 @@ no_end kind (c ∷ cs) first each =
 
 -- ---- the flaws of a character or escape, kind by kind
 
--- If a kind of literal can't contain the character with a number, the reason is the one that the code returns.
+-- `code_flaw_of` returns the reason why a literal can't contain the character with the code point `n`.
 code_of : (kind : Kind) (k : FlawKind) (n : ℕ) → IsNoCode kind k n → k ≡ code_flaw_of n
 code_of kind UnicodeEscapeOutOfRange n h = rw (lt-ltb 1114111 n h) refl
 code_of kind Surrogate n h = rw (
@@ -94,14 +95,14 @@ code_of kind Surrogate n h = rw (
 code_of kind Nul n h = ap code_flaw_of (sym h.1)
 code_of kind k n h = absurd h
 
--- If the digits of an unclosed `\u{..}` escape and the character at the flaw determine the kind of flaw, the escape is
--- incomplete before the flaw.
+-- Suppose that `digits_flaw` returns the kind of a flaw after `\u{` and digits. Then the text before the flaw isn't a
+-- complete escape. The text before the flaw and the character at the flaw determine the kind of flaw.
 after_digits_spoils : (kind : Kind) (k : FlawKind) (t ds : List ℕ) (c : ℕ) (cs : List ℕ) → IsBraced ds t (c ∷ cs) → k
     ≡ digits_flaw ds c → Spoils kind k t c cs
 after_digits_spoils kind k t [] c cs b is = let h = b.begins in absurd (cc)
 after_digits_spoils kind k t (d ∷ ds) c cs b is = record { front = 92 ∷ 117 ∷ 123 ∷ d ∷ ds; text_is = b.text_is; no_unit = no_end kind (d ∷ ds) b.begins b.each; kind_is = is }
 
--- If the number of a `\u{..}` escape isn't allowed, the text before the flaw and the character at the flaw determine the
+-- If the code point of a `\u{..}` escape isn't allowed, the text before the flaw and the character at the flaw determine the
 -- kind of flaw.
 code_spoils : (kind : Kind) (k : FlawKind) (t : List ℕ) (c : ℕ) (cs : List ℕ) → HasNoCode kind k t (c ∷ cs)
     → Spoils kind k t c cs

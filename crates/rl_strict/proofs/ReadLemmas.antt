@@ -1,11 +1,12 @@
--- Lemmas from the text after an opening delimiter or a minus to the parse result of the whole text.
+-- The parse result of a text with an opening delimiter or a minus, given the result for the text after the delimiter or the
+-- minus.
 use Rattle.rl_strict.proofs.Names.{◌≡◌, ℕ, Bool, true, false, List, ◌∷◌, refl, sym, ap, subst, ◌∙◌, inl, inr, both_ways, is_ascii_digit, IsTrue, IsUtf8, ◌↔◌, Kind, Str, Char, first_passes, is_string, Result, Ok, Err, IfOk, IfErr, is_ok, chars, IsTail, cut_boundary, cut_drop, Body, QuotedForm, CookedForm, SingleForm, IsFound, IsQuotedAt, found_opener, opener_at, front_complete, front_sound, OfUnit, quoted_found, no_unit, ClosesForm, IsToken, FlawKind, StopsIn, Flaw, Reading, Number, ExplainsStrictly, IsFloatRead, IsIntegerRead, IsNumberRead, IsStop, suffix_of, IsFlawAt, IsMinusStop, IsStrictReading, IsSignedRead, placed_in, NoNumber, UnexpectedEnd, end_flaw_at, found_flaw}
 use Rattle.rl_strict.proofs.StrictLemmas.{close_token, told_token}
 use Rattle.rl_strict.specs.declared.read_numbers.Number.TheVariants.{Integer, Float}
 use Rattle.rl_strict.proofs.SignedFlaws.{no_digit, number_of, number_stops}
 use Rattle.rl_strict.proofs.StrictTokens.{stops_token, strict_quoted_has}
 
--- If a text begins with `"`, its opening delimiter is that of a string with escapes.
+-- A text that begins with `"` begins with the opening delimiter of a string with escapes.
 pub string_opens : (t inside : List ℕ) → t ≡ 34 ∷ inside → opener_at t ≡ found_opener CookedForm Str inside
 string_opens t inside e = ap opener_at e ∙ front_complete CookedForm Str inside refl
 
@@ -31,8 +32,7 @@ form_flaw t form kind inside k piece rest h s =
       says = inl (strict_quoted_has t form kind inside k piece rest h s.has);
     }
 
--- The parse result of a string, which is the byte offsets of its parts, is the result of `find`, which parses by `syn`'s
--- grammar.
+-- If `body` has the byte offsets of a string's parts, it is the result of `parse_literal` for the string.
 pub text_found : (t : List ℕ) (kind : Kind) (body : Body) → is_string kind ≡ true → IsUtf8 t → IsQuotedAt kind t body
     → IsFound t (OfUnit kind body 0)
 text_found t kind body s u q = quoted_found t kind body 0 (OfUnit kind body 0) u q (no_unit kind q.value s) refl

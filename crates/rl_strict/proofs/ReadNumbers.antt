@@ -41,7 +41,7 @@ one_digit c h = number_is_token (c ∷ []) h (ap is_read (decimal_is (c ∷ []) 
     (h, and_from (is_ascii_digit c || (c == 95)) true (or_left (is_ascii_digit c) (c == 95) h) refl) refl
     ∙ whole_plain [] refl))
 
--- If a text begins with a digit, the text before its flaw as a number begins with a digit too.
+-- If a text begins with a digit, the text before its flaw begins with a digit too.
 pub goes_on : (t front rest : List ℕ) → t ≡ front ++ rest → ((c : ℕ) (cs e : List ℕ) → rest ≡ c ∷ cs
     → IsToken (front ++ (c ∷ e)) → ⊥) → first_passes is_ascii_digit t ≡ true → first_passes is_ascii_digit front ≡ true
 goes_on t (c ∷ cs) rest e stuck h = sym (ap (first_passes is_ascii_digit) e) ∙ h
@@ -49,8 +49,7 @@ goes_on t [] [] e stuck h = absurd (both_ways false refl (sym (ap (first_passes 
 goes_on t [] (c ∷ cs) e stuck h = absurd
     (stuck c cs [] refl (one_digit c (sym (ap (first_passes is_ascii_digit) e) ∙ h)))
 
--- If the first character of a text passes a test, it still passes if the text after any character is replaced by another
--- text.
+-- Replacing the text after a character of a text doesn't change whether the text's first character passes a test.
 starts : (test : ℕ → Bool) (front rest t : List ℕ) (c : ℕ) (cs e : List ℕ) → t ≡ front ++ rest → rest ≡ c ∷ cs
     → first_passes test t ≡ true → first_passes test (front ++ (c ∷ e)) ≡ true
 starts test [] rest t c cs e a b k = sym (ap (first_passes test) (a ∙ b)) ∙ k
@@ -105,7 +104,7 @@ number_stop t k rest d code f = record {
     digit : first_passes is_ascii_digit s.front ≡ true
     digit = goes_on t s.front rest s.text_is stuck d
 
--- ---- the parse result or the flaw of a number, from the result of the mirror
+-- ---- the parse result or the flaw of a number, from the result of the executable model
 
 judged : (t : List ℕ) (r : NumberRead) → first_passes is_ascii_digit t ≡ true → r ≡ number_read_at t
     → ReadJudged t number_end_at [] t r

@@ -248,7 +248,7 @@ single_open_stops k f t piece rest s none same is =
       has = flaw.has;
     }
 
--- The value of a character or byte literal is that of its one character or escape.
+-- A character or byte literal has the value of its one character or escape.
 abbrev pub single_quoted : (kind : Kind) (t inside closing suffix v : List ℕ) (body : Body) → opener_at (chars t)
     ≡ found_opener SingleForm kind (chars inside) → is_single kind ≡ true
     → unit_at kind (chars inside) ≡ Some (v, chars closing) → chars closing ≡ 39 ∷ chars suffix → chars inside
@@ -261,7 +261,8 @@ single_quoted kind t inside closing suffix v body front s unit quote cut suffix_
 
 -- ---- a raw string
 
--- If the longest prefix of a text that can be completed ends before the text's end, the text doesn't satisfy `takes`.
+-- Let `takes` be a predicate of texts. If the longest prefix of a text that can be completed to satisfy `takes` isn't the
+-- whole text, the text doesn't satisfy `takes`.
 pub stuck_none : (takes : List ℕ → Type 0) (t rest cs : List ℕ) (c : ℕ) → StopsBefore takes t rest → rest ≡ c ∷ cs
     → takes t → ⊥
 stuck_none takes t rest cs c s e y = s.stuck c cs cs e (subst takes (s.text_is ∙ ap (λ z. s.front ++ z) e) y)

@@ -24,7 +24,7 @@ pub past_token : (how : LineEnds) (signed : Bool) (t : List ℕ) (r : Reading) (
 past_token how signed t r at h e y = subst IsSignedToken (past_read how signed t r at h e).0
     (signed_token signed (read_of how (chars t)) y)
 
--- An integer above 128 bits that is a float by its suffix has a value.
+-- A decimal integer above 128 bits with the suffix `f32` or `f64` has a value, since Rust reads it as a float.
 pub past_value : (how : LineEnds) (signed : Bool) (t : List ℕ) (r : Reading) (at : ℕ) → IsReadingOf how signed t r
     → oversized_suffix_at r ≡ Some at → IsFloatBySuffix (chars t) → HasValueOf how (chars t)
 past_value how signed t r at h e f = inr (subst IsFloatBySuffix (sym (past_read how signed t r at h e).0) f)

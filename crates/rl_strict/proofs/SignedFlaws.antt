@@ -1,4 +1,4 @@
--- The position where a text with a minus can't continue as a literal token or a negative number.
+-- The position where a text that begins with a minus can't continue as a literal token or as a negative number.
 use Rattle.rl_strict.proofs.Names.{◌≡◌, ℕ, ◌==◌, true, false, List, [], ◌∷◌, ◌++◌, ◌+◌, length, refl, sym, ap, subst, ◌∙◌, inl, inr, both_ways, is_ascii_digit, IsUtf8, byte_len, first_passes, chars, NoNumber, UnexpectedEnd, StopsBefore, IsMinusFlawOf, IsSignedToken, IsToken, FoundFlaw, passes_more, end_flaw_at}
 use Rattle.rl_strict.proofs.StrictExplainLemmas.{cut_bytes}
 use Rattle.rl_strict.proofs.ReadNumbers.{goes_on as digit_goes_on, one_digit}

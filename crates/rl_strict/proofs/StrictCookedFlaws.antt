@@ -82,7 +82,7 @@ string_closed k f t closing suffix piece rest s r e found spoiled =
 
 -- ---- an unclosed string
 
--- If a text consists of valid characters, it does so with one more character at its end.
+-- A text of Unicode scalar values, with one more scalar value at its end, is a text of Unicode scalar values.
 one_more : (q : ℕ) (e : List ℕ) → IsScalar q → AllByRecursion IsScalar e → AllByRecursion IsScalar (e ++ (q ∷ []))
 one_more q [] s a = (s, tt)
 one_more q (c ∷ cs) s a = (a.0, one_more q cs s a.1)
@@ -118,8 +118,8 @@ string_open k f t piece rest s r none unquoted same =
         → ClosesUnits k z → ClosesUnits k (flat_map strict_text r.units ++ z)
     quoted z opened c = (row_closes k r.units z s r.each (breaks_to r.units piece z opened r.ends)).0 c
 
-    -- The text before the flaw is complete characters and escapes, and perhaps an incomplete one. A completed escape and a
-    -- quote then close the string.
+    -- The text before the flaw can be completed to the end of a string. An incomplete escape is completed first. Then a
+    -- closing quote is added.
     begins : (front : List ℕ) → piece ≡ front ++ rest → IsCompletable (IsUnitText k) front
         → IsCompletable (ClosesUnits k) (flat_map strict_text r.units ++ front)
     begins [] text done = record {
@@ -143,7 +143,8 @@ string_open k f t piece rest s r none unquoted same =
 
 -- ---- a character or byte literal
 
--- In a character or byte literal, the end of a character or escape doesn't depend on the text after it.
+-- In a character or byte literal, the end of a character or escape doesn't depend on the text after it, since no escape is a
+-- line end.
 single_ends : (k : Kind) (u : StrictUnit) (r : List ℕ) → is_single k ≡ true → is_strict_unit k u ≡ true → BreakEnds u r
 single_ends Byte (LineBreak blanks) r s h = absurd (cc)
 single_ends Char (LineBreak blanks) r s h = absurd (cc)
@@ -183,7 +184,8 @@ single_closed k f t closing suffix piece rest s h e found spoiled =
     (u.text_is ∙ ap (λ z. strict_text u.unit ++ z) e ∙ sym (append_assoc (strict_text u.unit) (39 ∷ []) suffix))
     (front_unit k t closing u, e) found spoiled
 
--- If no quote follows the one character or escape of a character or byte literal, the literal can't continue there.
+-- If no quote follows the one character or escape of a character or byte literal, the longest prefix that can be completed
+-- ends after this character or escape.
 single_unquoted : (k : Kind) (t rest : List ℕ) → is_single k ≡ true → StrictFront k t rest
     → first_passes (λ c. c == 39) rest ≡ false → StopsBefore (ClosesForm SingleForm k) t rest
 unfolding is_strict_suffix

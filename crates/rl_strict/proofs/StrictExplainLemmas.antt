@@ -2,7 +2,7 @@
 use Rattle.rl_strict.proofs.Names.{◌≡◌, ℕ, List, [], ◌∷◌, ◌+◌, ◌++◌, length, replicate, refl, sym, ap, ◌∙◌, inl, inr, append_assoc, flat_map, IsUtf8, encode_utf8_all, encodes-append, encodes-chars, byte_len, Kind, strict_text, chars, FlawKind, UnexpectedEnd, NoQuote, Unclosed, Nul, NotAscii, TwoCharacters, TooManyHashes, CarriageReturn, TextAfterQuote, ExtraHash, QuotedForm, CookedForm, RawForm, SingleForm, StopsBefore, form_opener, ClosedFlaw, IsClosed, IsOpen, OpenFlaw, StrictCloserFlaw, StrictQuotedFlaw, StrictRawFlaw, suffix_piece, IsStrictFlawOf, IsToken, length-append}
 use Rattle.rl_strict.proofs.OneStrictUnit.{strict_unit_cut}
 
--- The number of bytes of a text is the sum of those of a prefix and of the text after the prefix.
+-- A text has as many bytes as a prefix of the text and the text after the prefix together.
 pub cut_bytes : (t rest front : List ℕ) → IsUtf8 t → IsUtf8 rest → chars t ≡ front ++ chars rest → length t
     ≡ byte_len front + length rest
 cut_bytes t rest front ut ur cut =
@@ -12,12 +12,12 @@ cut_bytes t rest front ut ur cut =
     ∙ length-append (encode_utf8_all front) (encode_utf8_all (chars rest))
     ∙ ap (λ z. byte_len front + length z) (encodes-chars rest ur)
 
--- The number of bytes of a text is the sum of those of its longest completable prefix and of the rest.
+-- A text has as many bytes as its longest completable prefix and the text after this prefix together.
 pub front_bytes : (t rest : List ℕ) → IsUtf8 t → IsUtf8 rest → (s : StopsBefore IsToken (chars t) (chars rest)) → length
     t ≡ byte_len s.front + length rest
 front_bytes t rest ut ur s = cut_bytes t rest s.front ut ur s.text_is
 
--- ---- a flaw's piece is an end of the text
+-- ---- the text to show for a flaw is an end of the whole text
 
 abbrev Tail : List ℕ → List ℕ → Type 0
 Tail t piece = (before : List ℕ) × (t ≡ before ++ piece)
@@ -25,7 +25,7 @@ Tail t piece = (before : List ℕ) × (t ≡ before ++ piece)
 tail_more : (a b c : List ℕ) → Tail a b → Tail b c → Tail a c
 tail_more a b c (p, e) (q, h) = (p ++ q, e ∙ ap (λ z. p ++ z) h ∙ sym (append_assoc p q c))
 
--- If a flaw's piece is an end of the text after the opening delimiter, it is an end of the whole text.
+-- An end of the text after the opening delimiter is an end of the whole text.
 inside_tail : (t before inside piece : List ℕ) → t ≡ before ++ inside → Tail inside piece → Tail t piece
 inside_tail t before inside piece e k = tail_more t inside piece (before, e) k
 

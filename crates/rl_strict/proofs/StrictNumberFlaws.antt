@@ -9,21 +9,22 @@ use Rattle.rl_strict.proofs.StrictSuffixFlaws.{goes_on_first, suffix_cut, suffix
 
 -- ---- a flaw after a prefix of a number
 
--- The kind of flaw describes the error in the digits of a number. The arguments are the text before the flaw and the text
--- from the flaw on. For `BadSuffix`, nothing is required.
+-- The kind of flaw describes the error in the digits of a number. The arguments are the kind, the text before the flaw, and
+-- the text from the flaw on. `BadSuffix` isn't an error in digits, so nothing is required for it.
 abbrev pub Says : FlawKind → List ℕ → List ℕ → Type 0
 Says BadSuffix front rest = ⊤
 Says k front rest = IsDigitFlaw k front rest
 
--- The flaw of a number after its prefix `before`: parsing the text `t` stops before `rest` with the kind of flaw `k`.
+-- A number has a flaw of the kind `k` at `rest`. The parser `read` found the flaw in the part `t` of the number. `before` is
+-- the text of the number before this part.
 pub record TailFlaw (read : List ℕ → Ending) (before t : List ℕ) (k : FlawKind) (rest : List ℕ) : Type 0 where
   pub stops : Stops (Passes read) (Fails read) t rest
   pub fits : stops.front ≡ [] → stops.begins.ending ≡ []
   pub whole : k ≡ BadSuffix → Passes read stops.front × (rest ≢ [])
   pub says : Says k (before ++ stops.front) rest
 
--- The result of parsing a part of a number is correct. At the text's end, the statement `good` holds about the suffix.
--- Otherwise the text has the flaw that parsing returned.
+-- The result of parsing the part `t` of a number with the parser `read` is correct. `before` is the text of the number
+-- before this part. If the parser found no flaw, `good` holds for the suffix. Otherwise the flaw satisfies `TailFlaw`.
 abbrev pub NextFlaw : (List ℕ → Type 0) → (List ℕ → Ending) → List ℕ → List ℕ → Ending → Type 0
 NextFlaw good read before t (None, x) = good x
 NextFlaw good read before t (Some k, rest) = TailFlaw read before t k rest
@@ -32,13 +33,15 @@ no_end : (a b : List ℕ) → a ++ b ≡ [] → b ≡ []
 no_end [] b e = e
 no_end (c ∷ cs) b e = absurd (cc)
 
--- If the first character of a text fails a test, so does that of each completed prefix of the text.
+-- If the first character of a text fails a test, the first character of a completed prefix of the text fails the test too.
+-- The ending that completes an empty prefix must be empty.
 begins_so : (first : ℕ → Bool) (front rest ending t : List ℕ) → t ≡ front ++ rest → (front ≡ [] → ending ≡ [])
     → first_passes first t ≡ false → first_passes first (front ++ ending) ≡ false
 begins_so first [] rest ending t e fits h = ap (first_passes first) (fits refl)
 begins_so first (x ∷ xs) rest ending t e fits h = sym (ap (first_passes first) e) ∙ h
 
--- The flaw of a part of a number is also the flaw of a longer part, if parsing skips the text before the part.
+-- Let the parser `outer` skip the text `pre`, and then parse like `inner`. A flaw that `inner` finds in a text is the flaw
+-- that `outer` finds in `pre` followed by the text.
 tail_lifted : (inner outer : List ℕ → Ending) (first : ℕ → Bool) (before pre t : List ℕ) (k : FlawKind) (rest : List ℕ)
     → first_passes first t ≡ false → ((x : List ℕ) → first_passes first x ≡ false → outer (pre ++ x) ≡ inner x)
     → TailFlaw inner (before ++ pre) t k rest → TailFlaw outer before (pre ++ t) k rest
@@ -59,8 +62,8 @@ tail_lifted inner outer first before pre t k rest ok same f =
       says = subst (λ z. Says k z rest) (append_assoc before pre s.front) f.says;
     }
 
--- If the result of parsing a part of a number is correct, so is that of parsing a longer part, if parsing skips the text
--- before the part.
+-- Let the parser `outer` skip the text `pre`, and then parse like `inner`. If the result of `inner` for a text is correct
+-- (`NextFlaw`), it is also correct as the result of `outer` for `pre` followed by the text.
 through : (good more : List ℕ → Type 0) (inner outer : List ℕ → Ending) (first : ℕ → Bool) (before pre t u : List ℕ)
     (e : Ending) → u ≡ pre ++ t → first_passes first t ≡ false
     → ((x : List ℕ) → first_passes first x ≡ false → outer (pre ++ x) ≡ inner x) → ((x : List ℕ) → good x → more x)
@@ -152,7 +155,7 @@ underscores r (c ∷ cs) each none =
     and_from (is_underscore c) (list_all is_underscore cs) (sym (ap (λ b. b || is_underscore c) n.0) ∙ p.0)
     (underscores r cs p.1 n.1)
 
--- Whether digits and the text after them begin with a sign depends only on the digits and the next character.
+-- Replacing the text after a character of a text doesn't change whether the text begins with a sign.
 row_sign : (run y : List ℕ) (c : ℕ) (cs e : List ℕ) → y ≡ c ∷ cs → first_passes is_sign (run ++ y) ≡ false
     → first_passes is_sign (run ++ (c ∷ e)) ≡ false
 row_sign [] y c cs e h n = sym (ap (first_passes is_sign) h) ∙ n
@@ -451,8 +454,8 @@ whole_judged t d y m h n text stops is = go y text stops
         tests false b true l = power c cs text b l
         tests false b false l = plain (c ∷ cs) text stops (both_fail (λ c. c == 46) is_exponent_letter (c ∷ cs) b l)
 
--- If the result of parsing a part of a number is correct, so is the result with the text before this part, which parsing
--- skips.
+-- Let the parser `outer` skip the text `pre`, and then parse like `inner`. If the result of `inner` for a text is correct
+-- (`ReadJudged`), it is also correct as the result of `outer` for `pre` followed by the text.
 read_through : (t : List ℕ) (inner outer : List ℕ → Ending) (first : ℕ → Bool) (pre y u : List ℕ) (r : NumberRead) → u ≡
     pre ++ y → first_passes first y ≡ false → ((x : List ℕ) → first_passes first x ≡ false → outer (pre ++ x) ≡ inner x)
     → ReadJudged t inner pre y r → ReadJudged t outer [] u r
@@ -483,7 +486,7 @@ one_of : (b : Base) → of_base b 49 ≡ true
 one_of Binary = refl
 one_of other = refl
 
--- A base prefix, digits and underscores of the base, and one more digit are a number.
+-- The prefix of a base other than ten, digits and underscores of the base, and the digit `1` are a number.
 based_one : (b : Base) (w : List ℕ) → b ≢ Decimal → list_all (in_base b) w ≡ true
     → Passes number_end_at ((prefix b ++ w) ++ (49 ∷ []))
 unfolding suffix_end_at suffix_rest
@@ -546,7 +549,8 @@ no_more_digits : (b : Base) (x : List ℕ) → first_passes (in_base b) x ≡ fa
 no_more_digits Hexadecimal x h e = passes_same is_ascii_hexdigit (has_value 16) hex_is_sixteen x ∙ hex_stops x h
 no_more_digits kind x h e = absurd (omega arith)
 
--- Whether the character continues the digits after a base prefix, or is a decimal digit, a dot or the letter of an exponent.
+-- Whether the character continues the digits after a base prefix, or may be a flaw after them: a decimal digit, a dot, or
+-- the letter of an exponent.
 abbrev based_first : Base → ℕ → Bool
 based_first b c = in_base b c || (is_ascii_digit c || is_float_mark c)
 

@@ -1,11 +1,12 @@
--- The definition of each kind of flaw in a number agrees with the parser of numbers. So each kind excludes the others.
+-- Where the definition of a kind of flaw in a number holds, the parser of numbers stops with this kind. So the definitions
+-- of two kinds never hold at one position.
 use Rattle.rl_strict.proofs.Names.{◌≡◌, ◌≢◌, ℕ, Bool, true, false, not, ◌==◌, cond, List, [], ◌∷◌, ◌++◌, refl, sym, ap, ◌∙◌, inl, inr, append_assoc, and_parts, both_ways, and_from, or_cases, or_from, or_right, eqb-true, is_ascii_digit, list_all, list_any, and_right, false_from_ne_true, first_passes, is_underscore, Base, Binary, Decimal, is_exponent_letter, is_power_sign, IsDigits, apart, letter_no_part, has_value, radix_at, radix_of, letter_no_dot, FlawKind, NoExponentDigit, NoDigits, InvalidDigit, BasedFloat, NoFractionDigit, EndsInPower, IsBasedRun, IsDigitFlaw, IsStrictFraction, is_float_mark, power_end_at, stopped}
 use Rattle.rl_strict.proofs.NumberEnds.{IsSign, based_is, decimal_is, digits_power, each_fails, fraction_is, fraction_none, in_base, in_row, is_sign, names, number_end_at, of_base, power_is, row_part, row_tail, whole_digits, whole_dot, whole_end_at}
 
 -- ---- numbers with a base prefix
 
--- The result of parsing a number with a base prefix, by three tests after its digits. The first test is whether a decimal
--- digit follows. The second is whether there are no digits. The third is whether a dot or an exponent follows.
+-- The result of parsing a number with a base prefix depends on three tests: `digit` tells whether a decimal digit follows
+-- the number's digits, `none` whether there are no digits, and `mark` whether a dot or the letter of an exponent follows.
 row_is : (b : Base) (run front rest : List ℕ) (digit none mark : Bool) → IsBasedRun b run front → first_passes (in_base
     b) rest ≡ false → first_passes is_ascii_digit rest ≡ digit → not (list_any (of_base b) run) ≡ none → first_passes
     is_float_mark rest ≡ mark → number_end_at (front ++ rest) ≡ row_tail digit none mark rest
@@ -99,8 +100,8 @@ sign_of (c ∷ []) h = elim (or_cases (c == 43) (c == 45) h) [
 ]
 sign_of (c ∷ d ∷ cs) h = absurd (cc)
 
--- Any number of underscores, with a text after them, don't begin with a sign. If there are no underscores, the text itself
--- must not begin with a sign.
+-- Underscores with a text after them don't begin with a sign. If there are no underscores, the text itself must not begin
+-- with a sign.
 marks_no_sign : (us rest : List ℕ) → list_all is_underscore us ≡ true → (us ≡ [] → first_passes is_sign rest ≡ false)
     → first_passes is_sign (us ++ rest) ≡ false
 marks_no_sign [] rest h n = n refl
@@ -161,7 +162,7 @@ fraction_kind front (c ∷ cs) whole d e some n =
     ap number_end_at (ap (λ z. z ++ (c ∷ cs)) e ∙ append_assoc whole (46 ∷ []) (c ∷ cs))
     ∙ whole_is whole 46 (c ∷ cs) d refl ∙ whole_dot (c ∷ cs) ∙ fraction_none c cs n
 
--- If the definition of a kind of flaw in a number's digits holds, the parser of numbers stops there with this kind.
+-- Where the definition of a kind of flaw in a number's digits holds, the parser of numbers stops with this kind.
 pub digit_kind : (k : FlawKind) (front rest : List ℕ) → IsDigitFlaw k front rest
     → number_end_at (front ++ rest) ≡ stopped k rest
 digit_kind NoDigits front rest (b, run, r, marks, none) =

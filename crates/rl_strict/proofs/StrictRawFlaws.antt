@@ -5,20 +5,21 @@ use Rattle.rl_strict.proofs.StrictSuffixFlaws.{Closer, FlawInside, SuffixSpoiled
 
 -- ---- the content of a raw string
 
--- The code's loop over a raw string has skipped allowed characters that contain no closing delimiter, and the rest follows.
+-- The loop over a raw string's content has skipped the text `body`, and has reached `rest`. `body` has only allowed
+-- characters, and no closing delimiter.
 record RawWalk (k : Kind) (hashes t rest : List ℕ) : Type 0 where
   body : List ℕ
   text_is : t ≡ body ++ rest
   each : list_all (is_raw_character k) body ≡ true
   none : NoCloser hashes body
 
--- The code's loop over a raw string's content stops at the beginning of the text: a closing delimiter, or a character that
--- isn't allowed.
+-- Whether the loop over a raw string's content stops at the beginning of the text: at a closing delimiter, or at a character
+-- that isn't allowed.
 abbrev pub ends_at : Kind → List ℕ → List ℕ → Bool
 ends_at k hashes [] = false
 ends_at k hashes (c ∷ cs) = (c == 34 && begins hashes cs) || not (is_raw_character k c)
 
--- The code's loop over a raw string skips only allowed characters that contain no closing delimiter.
+-- The loop over a raw string's content skips only allowed characters that contain no closing delimiter.
 raw_walk : (k : Kind) (hashes t : List ℕ) → RawWalk k hashes t (raw_stop k hashes t)
 unfolding raw_stop
 raw_walk k hashes [] = record { body = []; text_is = refl; each = refl; none = λ f r e. nothing_inside f (hashes ++ r) e }
@@ -86,7 +87,7 @@ unfolding raw_stop
 walk_on k hashes t cs s c e h same =
     sym (ap (λ b. cond b (c ∷ cs) (raw_stop k hashes cs)) h) ∙ ap (raw_stop k hashes) (sym e) ∙ same
 
--- The code's test of a closing delimiter passes exactly if the text begins with a quote and the raw string's hashes.
+-- The code's test for a closing delimiter passes exactly if the text begins with a quote and the raw string's hashes.
 pub closer_test : {R : Type 0} (o : Option R) (text : R → List ℕ) (hashes after : List ℕ) (c : ℕ) (b : Bool)
     → IfSome o (λ r. (c ≡ 34) × (after ≡ hashes ++ text r)) → IfNone o ((c == 34 && begins hashes after) ≡ false) → b
     ≡ is_some o → b ≡ (c == 34 && begins hashes after)
@@ -116,8 +117,8 @@ many_hashes (suc m) (suc n) e r h =
     let less = many_hashes m n e r rest in
     omega (arith, less)
 
--- If hashes, a quote and a text close a raw string, the text passes the code's test of the content, the closing delimiter
--- and the suffix.
+-- If `n` hashes, a quote and the text `x` are a raw string after its prefix, `x` passes the test `ends_raw` for the end of a
+-- raw string.
 raw_bad : (k : Kind) (n : ℕ) (x : List ℕ) → ClosesRaw k (replicate n 35 ++ (34 ∷ x)) → ends_raw k (replicate n 35) x
     ≡ true
 raw_bad k n x c =
@@ -164,7 +165,8 @@ hashes_characters : (m : ℕ) → AllByRecursion IsScalar (replicate m 35 ++ [])
 hashes_characters zero = tt
 hashes_characters (suc m) = (refl, hashes_characters m)
 
--- An unclosed raw string after its prefix: `n` hashes, a quote, the content, and the rest where the code's loop stops.
+-- The next lemmas are about a raw string after its prefix: `n` hashes, a quote and the text `inside`. The loop over the
+-- content has skipped the content up to `rest`.
 module _ (k : Kind) (n : ℕ) (inside rest : List ℕ) (s : is_string k ≡ true) (few : n < 256)
     (w : RawWalk k (replicate n 35) inside rest) where
   abbrev hs : List ℕ
@@ -210,14 +212,14 @@ module _ (k : Kind) (n : ℕ) (inside rest : List ℕ) (s : is_string k ≡ true
     stuck = stuck;
   }
 
-  -- If the code's loop over a raw string reaches the text's end, the flaw is `Unclosed`.
+  -- If the loop over a raw string's content reaches the text's end, the flaw is `Unclosed`.
   ended : rest ≡ [] → FlawInside RawForm k Unclosed whole rest rest
   ended e = record {
     stops = stops_at (λ c cs r h y. let bad_end : c ∷ cs ≡ [] = sym h ∙ e in absurd (cc));
     has = inl ((n, opened), e, refl);
   }
 
-  -- After a raw string's character that isn't allowed, no text closes the raw string.
+  -- A raw string that contains a character that isn't allowed can't be closed, whatever text follows the character.
   stuck_at : (c : ℕ) (cs : List ℕ) → rest ≡ c ∷ cs → is_raw_character k c ≡ false → (d : ℕ) (ds e : List ℕ) → rest
       ≡ d ∷ ds → ClosesRaw k (before ++ (d ∷ e)) → ⊥
   stuck_at c cs at not_held d ds e h y =
@@ -268,13 +270,14 @@ module _ (k : Kind) (n : ℕ) (inside rest : List ℕ) (s : is_string k ≡ true
 
 -- ---- the flaw after the opening quote, by the result of the code
 
--- Where the code's loop stops, it has skipped only allowed characters that contain no closing delimiter.
+-- Up to `rest`, where the loop over a raw string's content stops, the content has only allowed characters, and no closing
+-- delimiter.
 found_walk : (k : Kind) (n : ℕ) (hashes inside rest : List ℕ) → hashes ≡ replicate n 35 → rest ≡ raw_stop k hashes
     inside → RawWalk k (replicate n 35) inside rest
 found_walk k n hashes inside rest e at = subst (RawWalk k (replicate n 35) inside)
     (sym (at ∙ ap (λ z. raw_stop k z inside) e)) (raw_walk k (replicate n 35) inside)
 
--- A flaw of a raw string stays its flaw if its kind, piece, hashes and rest are replaced by equal ones of the code.
+-- Replaces the kind, the hashes and the texts of a raw string's flaw by equal ones that the code returned.
 as_found : (k : Kind) (f g : FlawKind) (n : ℕ) (hashes inside p q r z : List ℕ) → hashes ≡ replicate n 35 → f ≡ g
     → q ≡ p → z ≡ r → FlawInside RawForm k g (replicate n 35 ++ (34 ∷ inside)) p r
     → FlawInside RawForm k f (hashes ++ (34 ∷ inside)) q z
@@ -325,7 +328,7 @@ hash_run zero [] h = refl
 hash_run zero (c ∷ cs) h = ap (λ b. cond b (after_run is_hash cs) (c ∷ cs)) h
 hash_run (suc n) z h = hash_run n z h
 
--- At most 255 hashes can begin a raw string: two quotes and further hashes complete it.
+-- After the prefix of a raw string, at most 255 hashes can be completed to a raw string: by two quotes and as many hashes.
 hashes_begin : (k : Kind) (n : ℕ) → is_string k ≡ true → n < 256 → ClosesRaw k (replicate n 35
     ++ (34 ∷ (34 ∷ (replicate n 35 ++ []))))
 unfolding is_strict_suffix
@@ -380,7 +383,8 @@ raw_no_quote k f n t rest q z cs c s few text is no_hash no_quote kind piece pla
         ∙ hashes_past y.hashes y.rest in
         both_ways (c == 34) no_quote (ap (λ x. x == 34) same ∙ ap (first_passes (λ x. x == 34)) quote)
 
--- If a raw string begins with more than 255 hashes, the flaw is `TooManyHashes`. Its piece begins at the first hash.
+-- If a raw string begins with more than 255 hashes, the flaw is `TooManyHashes`. The text to show for the flaw begins at the
+-- first hash.
 pub raw_many_hashes : (k : Kind) (f : FlawKind) (n : ℕ) (t rest q z cs : List ℕ) (c : ℕ) → is_string k ≡ true → n ≤ 255
     → t ≡ replicate n 35 ++ rest → (n < 255 → first_passes is_hash rest ≡ false) → rest ≡ c ∷ cs → (c == 35) ≡ true → f
     ≡ TooManyHashes → q ≡ t → z ≡ rest → FlawInside RawForm k f t q z
@@ -446,8 +450,8 @@ raw_end_none k n hashes inside rest s few e at end y =
     (subst (ClosesRaw k) (ap (λ y. y ++ (34 ∷ inside)) e ∙ cut k n inside rest s less w
     ∙ ap (λ z. before k n inside rest s less w ++ z) end) y)
 
--- The content of a raw string is the text between the opening quote and the position where the code's loop stops. It has
--- only allowed characters.
+-- The content of a raw string is the text between the opening quote and the position where the loop over the content stops.
+-- The content has only allowed characters.
 pub raw_body : (k : Kind) (n : ℕ) (hashes inside rest : List ℕ) → hashes ≡ replicate n 35 → rest
     ≡ raw_stop k hashes inside → (body : List ℕ) × (inside ≡ body ++ rest) × (list_all (is_raw_character k) body ≡ true)
 raw_body k n hashes inside rest e at =

@@ -8,7 +8,7 @@ use Rattle.rl_strict.proofs.StrictWordLemmas.{all_both, all_apart, strict_suffix
 abbrev no_return : ℕ → Bool
 no_return c = not (c == 13)
 
--- If the characters of a raw string's content are allowed in the kind, they pass the code's test.
+-- The characters of a raw string's content that the grammar allows in the kind pass the test `is_raw_character`.
 pub inside_allowed : (k : Kind) (cs : List ℕ) → IsRawInside k cs → list_all no_return cs ≡ true
     → list_all (is_raw_character k) cs ≡ true
 inside_allowed Str cs a n = n
@@ -16,7 +16,7 @@ inside_allowed ByteStr cs a n = all_both (λ c. nat_lt c 128) no_return cs a n
 inside_allowed CStr cs a n = all_both (λ c. not (c == 0)) no_return cs a n
 inside_allowed kind cs a n = absurd a
 
--- If the characters of a raw string's content pass the code's test, they are allowed in the kind.
+-- If the characters of a raw string's content pass the test `is_raw_character`, the grammar allows them in the kind.
 pub inside_sound : (k : Kind) (cs : List ℕ) → is_string k ≡ true → list_all (is_raw_character k) cs ≡ true
     → IsRawInside k cs × (list_all no_return cs ≡ true)
 inside_sound Str cs s h = (tt, h)
@@ -26,7 +26,7 @@ inside_sound kind cs s h = absurd (cc)
 
 -- ---- the first closing delimiter
 
--- If a text begins with `n` hashes, and no hash follows its first part, the `n` hashes are in the first part.
+-- If the text `a` followed by `z` begins with `n` hashes, and `z` doesn't begin with a hash, `a` begins with `n` hashes.
 hashes_in_front : (n : ℕ) (a z : List ℕ) → first_passes is_hash z ≡ false → begins (replicate n 35) (a ++ z) ≡ true
     → begins (replicate n 35) a ≡ true
 hashes_in_front zero a z no_hash h = refl
@@ -45,16 +45,16 @@ begins_more (k ∷ p) (c ∷ cs) b h =
     let q = and_parts (c == k) (begins p cs) h in
     and_from (c == k) (begins p (cs ++ b)) q.0 (begins_more p cs b q.1)
 
--- At a character that begins no closing delimiter, the code's test of a raw string's end checks the character and continues
--- after it.
+-- At a character that begins no closing delimiter, the test `ends_raw` checks the character, and then the text after the
+-- character.
 pub raw_on : (k : Kind) (hashes : List ℕ) (c : ℕ) (cs : List ℕ) → (c == 34 && begins hashes cs) ≡ false
     → ends_raw k hashes (c ∷ cs) ≡ (is_raw_character k c && ends_raw k hashes cs)
 unfolding ends_raw
 raw_on k hashes c cs h = ap (λ b. cond b (is_strict_suffix (drop (length hashes) cs))
     (is_raw_character k c && ends_raw k hashes cs)) h
 
--- The code's test of a raw string's character passes for a character other than `"` and CR. The argument `a` tells whether
--- the character is `"`, and `b` whether it is CR.
+-- A character that is neither `"` nor CR passes the test of a raw string's character. `a` tells whether the character is
+-- `"`, and `b` whether it is CR.
 str_inside : (a b : Bool) → not (a || b || b || b) ≡ true → (not a && not b) ≡ true
 str_inside true b h = absurd (cc)
 str_inside false true h = absurd (cc)
@@ -87,7 +87,7 @@ c_run (c ∷ cs) h =
     and_from (is_inside CStr c) (list_all (is_inside CStr) cs) (c_inside (c == 34) (c == 13) (c == 0) b.0)
     (c_run cs b.1)
 
--- At a closing delimiter, the code's test of a raw string's end passes exactly if a suffix follows.
+-- At a closing delimiter, the test `ends_raw` passes exactly if a suffix follows the delimiter.
 pub raw_close : (k : Kind) (hashes x : List ℕ) → ends_raw k hashes (34 ∷ (hashes ++ x)) ≡ is_strict_suffix x
 unfolding ends_raw
 raw_close k hashes x =
@@ -99,8 +99,7 @@ raw_close k hashes x =
 abbrev pub NoCloser : List ℕ → List ℕ → Type 0
 NoCloser hashes inside = (front rest : List ℕ) → inside ≢ front ++ (34 ∷ (hashes ++ rest))
 
--- No closing delimiter begins inside a raw string's content, also if a text that doesn't begin with a hash follows the
--- content.
+-- If no hash follows a raw string's content, no closing delimiter begins at the content's first character.
 pub no_closer_at : (n : ℕ) (c : ℕ) (cs z : List ℕ) → first_passes is_hash z ≡ false → NoCloser (replicate n 35) (c ∷ cs)
     → (c == 34 && begins (replicate n 35) (cs ++ z)) ≡ false
 no_closer_at n c cs z no_hash none = false_from_ne_true (c == 34 && begins (replicate n 35) (cs ++ z)) (λ h.
@@ -108,8 +107,8 @@ no_closer_at n c cs z no_hash none = false_from_ne_true (c == 34 && begins (repl
     let b = begins_is (replicate n 35) cs (hashes_in_front n cs z no_hash p.1) in
     none [] b.0 (ap (λ q. q ∷ cs) (eqb-true c 34 p.0) ∙ ap (λ q. 34 ∷ q) b.1))
 
--- The code's test of a raw string's end skips content that has only allowed characters and no closing delimiter, if no hash
--- follows the content.
+-- If no hash follows a raw string's content, the test `ends_raw` skips the content. The content must have only allowed
+-- characters, and no closing delimiter.
 pub past_body : (k : Kind) (n : ℕ) (body z : List ℕ) → list_all (is_raw_character k) body ≡ true → NoCloser (replicate n
     35) body → first_passes is_hash z ≡ false → ends_raw k (replicate n 35) (body ++ z) ≡ ends_raw k (replicate n 35) z
 past_body k n [] z each none no_hash = refl
@@ -119,7 +118,7 @@ past_body k n (c ∷ cs) z each none no_hash =
     ∙ ap (λ b. b && ends_raw k (replicate n 35) (cs ++ z)) p.0
     ∙ past_body k n cs z p.1 (λ f r e. none (c ∷ f) r (ap (λ q. c ∷ q) e)) no_hash
 
--- The text after the opening quote of a raw string passes the code's test of a raw string's end.
+-- The text after the opening quote of a raw string passes the test `ends_raw`.
 pub raw_complete : (k : Kind) (n : ℕ) (t : List ℕ) → ClosesInside k (replicate n 35) t → ends_raw k (replicate n 35) t
     ≡ true
 raw_complete k n t c =
@@ -142,7 +141,8 @@ pub nothing_inside : (f z : List ℕ) → [] ≡ f ++ (34 ∷ z) → ⊥
 nothing_inside [] z e = absurd (cc)
 nothing_inside (c ∷ f) z e = absurd (cc)
 
--- If a character begins no closing delimiter, and the text after it contains none, the character and the text contain none.
+-- If the character `c` begins no closing delimiter, and the text after `c` contains no closing delimiter, `c` and the text
+-- together contain no closing delimiter.
 pub none_before : (hashes : List ℕ) (c : ℕ) (cs z : List ℕ) → (c == 34 && begins hashes (cs ++ z)) ≡ false
     → NoCloser hashes cs → NoCloser hashes (c ∷ cs)
 none_before hashes c cs z h none [] rest e =
@@ -154,7 +154,7 @@ none_before hashes c cs z h none (f ∷ front) rest e =
     let tail : cs ≡ front ++ (34 ∷ (hashes ++ rest)) = cc in
     none front rest tail
 
--- A text that passes the code's test of a raw string's end is a content, a closing delimiter and a suffix.
+-- A text that passes the test `ends_raw` is a content, a closing delimiter and a suffix.
 raw_parts : (k : Kind) (hashes t : List ℕ) → ends_raw k hashes t ≡ true → RawParts k hashes t
 unfolding ends_raw
 raw_parts k hashes [] h = absurd (cc)
@@ -193,7 +193,7 @@ raw_parts k hashes (c ∷ cs) h = go (λ e. raw_parts k hashes cs e) (cases_Bool
           text_is = ap (λ z. c ∷ z) r.text_is;
         }
 
--- A text that passes the code's test of a raw string's end is the text after a raw string's opening quote.
+-- A text that passes the test `ends_raw` is the text after a raw string's opening quote.
 pub raw_sound : (k : Kind) (hashes t : List ℕ) → is_string k ≡ true → ends_raw k hashes t ≡ true
     → ClosesInside k hashes t
 raw_sound k hashes t s h =
@@ -222,7 +222,7 @@ raw_unquoted k t r rest n = (
 
 -- ---- the content of a raw byte string
 
--- A raw byte string may contain each ASCII character other than `"` and CR. The record lists these two characters.
+-- A raw byte string may contain each ASCII character other than `"` (34) and CR (13).
 inside_one : (c : ℕ) → is_ascii_other (record { first = 34; second = 13; third = 13; fourth = 13 }) c ≡ true
     → is_inside ByteStr c ≡ true
 inside_one c h = go (nat_lt c 128) (c == 34) (c == 13) h
@@ -257,7 +257,8 @@ more_hashes (suc m) (suc n) a b e q =
     let p = more_hashes m n a b (ap (drop 1) e) q in
     (omega (arith, p.0), p.1)
 
--- If a text begins with at most 255 hashes and no quote follows them, the text isn't at most 255 hashes and a quote.
+-- Skip the hashes at the beginning of a text, but at most 255. If no quote follows them, the text doesn't begin with at most
+-- 255 hashes and a quote.
 pub raw_unopened : (inside quote : List ℕ) (m : ℕ) → m ≤ 255 → inside ≡ replicate m 35 ++ quote
     → (m < 255 → first_passes is_hash quote ≡ false) → first_passes (λ c. c == 34) quote ≡ false
     → (n : ℕ) (opened : List ℕ) → n ≤ 255 → inside ≡ replicate n 35 ++ (34 ∷ opened) → ⊥

@@ -25,7 +25,7 @@ single_ends Byte h = refl
 single_ends Char h = refl
 single_ends kind h = absurd (cc)
 
--- One character or escape is the right number for a character or byte literal.
+-- A character or byte literal may contain one character or escape.
 single_count : (k : Kind) (u : StrictUnit) → is_single k ≡ true → HasUnits k (u ∷ [])
 single_count Byte u h = refl
 single_count Char u h = refl
@@ -47,25 +47,25 @@ quote_stops kind x h = absurd (cc)
 
 -- ---- the white space of an escaped line end
 
--- If the first character of a text fails a test, so does the first character of each prefix.
+-- If the first character of a text fails a test, the first character of each prefix fails the test too.
 pub passes_front : (test : ℕ → Bool) (a b : List ℕ) → first_passes test (a ++ b) ≡ false → first_passes test a ≡ false
 passes_front test [] b h = refl
 passes_front test (c ∷ cs) b h = h
 
--- If the first character of each of two texts fails a test, so does that of the concatenated text.
+-- If the first characters of two texts fail a test, the first character of the joined text fails the test too.
 pub passes_seam : (test : ℕ → Bool) (a b : List ℕ) → first_passes test a ≡ false → first_passes test b ≡ false
     → first_passes test (a ++ b) ≡ false
 passes_seam test [] b h k = k
 passes_seam test (c ∷ cs) b h k = h
 
--- An escaped line end skips white space. If a text may follow an escaped line end, each prefix of the text may follow it
--- too.
+-- If a text may follow a character or escape, each prefix of the text may follow it too. A text that may follow an escaped
+-- line end doesn't begin with white space.
 may_end_front : (u : StrictUnit) (a b : List ℕ) → MayEnd u (a ++ b) → MayEnd u a
 may_end_front (LineBreak blanks) a b m = passes_front is_dropped_blank a b m
 may_end_front other a b m = tt
 
--- An escaped line end skips white space. If characters and escapes may follow an escaped line end, they may also follow it
--- with a text after them that doesn't begin with white space.
+-- Let the characters and escapes after an escaped line end not begin with white space. With a text appended that doesn't
+-- begin with white space, they still don't begin with white space.
 may_end_seam : (u : StrictUnit) (us : List StrictUnit) (b : List ℕ) → first_passes is_dropped_blank b ≡ false
     → BlanksEnd (u ∷ us) → MayEnd u (flat_map strict_text us ++ b)
 may_end_seam (LineBreak blanks) us b n m = passes_seam is_dropped_blank (flat_map strict_text us) b m.0 n
@@ -73,12 +73,12 @@ may_end_seam other us b n m = tt
 
 -- ---- the closing quote and the suffix
 
--- A closing quote and a suffix pass the code's test of a literal's end.
+-- A closing quote and a suffix pass the test `ends_quoted`.
 quote_complete : (quote : ℕ) (x : List ℕ) → (quote == quote) ≡ true → IsStrictSuffix x → ends_quoted quote (quote ∷ x)
     ≡ true
 quote_complete quote x e s = and_from (quote == quote) (is_strict_suffix x) e (strict_suffix_complete x s)
 
--- A text that passes the code's test of a literal's end is a closing quote and a suffix.
+-- A text that passes the test `ends_quoted` is a closing quote and a suffix.
 quote_sound : (quote : ℕ) (t : List ℕ) → ends_quoted quote t ≡ true → (x : List ℕ) × IsStrictSuffix x × (t ≡ quote ∷ x)
 quote_sound quote [] h = absurd (cc)
 quote_sound quote (c ∷ cs) h =
@@ -120,7 +120,7 @@ row_down k t r x (u ∷ us) s h each b i e =
           ∙ ap (λ z. flat_map strict_text us ++ (z ++ x)) (sym (string_ends k s));
     }
 
--- If a text ends a string, a character or escape followed by this text ends a string too.
+-- If a text ends a string, a character or escape followed by the text ends a string too.
 row_up : (k : Kind) (t r : List ℕ) → is_string k ≡ true → StrictFront k t r → ClosesUnits k r → ClosesUnits k t
 row_up k t r s f c =
     let rest : List ℕ = strict_closer k ++ c.suffix in
@@ -142,8 +142,8 @@ row_up k t r s f c =
 pub quoted_string : (k : Kind) → is_string k ≡ true → HasStrictUnits k
 quoted_string k h = string_count k (Itself 0 ∷ []) h
 
--- In the loop over characters and escapes, each iteration preserves this: the remaining text ends a string if and only if
--- the whole text does.
+-- Each iteration of the loop over characters and escapes preserves the loop's invariant: the remaining text ends a string if
+-- and only if the whole text does.
 pub units_step : (k : Kind) (t r s : List ℕ) → is_string k ≡ true → unit_rest k t ≡ Some r
     → (ClosesUnits k t ↔ ClosesUnits k s) → ClosesUnits k r ↔ ClosesUnits k s
 units_step k t r s h e same = (
@@ -176,8 +176,8 @@ stuck_down k t x [] s h each b i e = ap (ends_quoted 34) e ∙ quote_complete 34
 stuck_down k t x (u ∷ us) s h each b i e = absurd (let n : None ≡ Some (flat_map strict_text us ++ (34 ∷ x)) = sym h
     ∙ row_after k u us 34 x t each b refl e in (cc))
 
--- If no further character or escape of a string follows, the whole text ends a string if and only if a quote and a suffix
--- follow.
+-- Where the loop over characters and escapes stops, a closing quote and a suffix follow if and only if the whole text ends a
+-- string.
 pub units_end : (k : Kind) (b : Bool) (t s : List ℕ) → is_string k ≡ true → unit_rest k t ≡ None
     → (ClosesUnits k t ↔ ClosesUnits k s) → b ≡ ends_quoted 34 t → IsTrue b ↔ ClosesUnits k s
 units_end k b t s h e same is = (

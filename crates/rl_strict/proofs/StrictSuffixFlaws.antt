@@ -5,15 +5,16 @@ use Rattle.rl_strict.proofs.Stops.{Flawed, Stops, lifted, stops_before}
 
 -- ---- the first characters of a suffix
 
--- A text is the first characters of a suffix, and a rest that doesn't continue the suffix.
+-- `t` is the first characters of a suffix, followed by `rest`. The suffix doesn't continue with the first character of
+-- `rest`.
 pub record SuffixCut (t rest : List ℕ) : Type 0 where
   pub front : List ℕ
   pub text_is : t ≡ front ++ rest
   pub is_front : is_suffix_front front ≡ true
   pub ends : goes_on_with_suffix front rest ≡ false
 
--- `suffix_rest` returns the text after the first characters of a suffix. The text that it returns doesn't continue the
--- suffix.
+-- `suffix_rest` returns the text after the first characters of a suffix. The suffix doesn't continue with the first
+-- character of the returned text.
 pub suffix_cut : (t : List ℕ) → SuffixCut t (suffix_rest t)
 unfolding suffix_rest
 suffix_cut [] = record { front = []; text_is = refl; is_front = refl; ends = refl }
@@ -28,7 +29,7 @@ suffix_cut (c ∷ cs) = go (is_start c) refl
     }
     go false e = record { front = []; text_is = refl; is_front = refl; ends = e }
 
--- Whether the rest of a text continues a suffix depends only on the rest's first character.
+-- Whether a text continues the first characters of a suffix depends only on the text's first character.
 pub goes_on_first : (x cs e : List ℕ) (c : ℕ) → goes_on_with_suffix x (c ∷ cs) ≡ false → goes_on_with_suffix x (c ∷ e)
     ≡ false
 goes_on_first [] cs e c h = h
@@ -40,8 +41,7 @@ goes_on_first (d ∷ ds) cs e c h = h
 letter_continues : is_continue 97 ≡ true
 letter_continues = and_from (is_xid_continue 97) (not (is_white 97)) (is_xid_continue-ascii 97 (omega arith)) refl
 
--- The ending that completes the first characters of a suffix to a suffix: the letter `a`, or no ending if there are no first
--- characters.
+-- The ending that completes the first characters of a suffix to a suffix: the letter `a`. An empty text needs no ending.
 pub suffix_ending : List ℕ → List ℕ
 suffix_ending [] = []
 suffix_ending (c ∷ cs) = 97 ∷ []
@@ -67,7 +67,7 @@ suffix_begins (c ∷ cs) h =
     ∙ and_from (list_all is_continue cs) (list_all is_continue (97 ∷ [])) p.1
     (and_from (is_continue 97) true letter_continues refl))
 
--- If the first characters of a suffix are not a suffix by themselves, they are `_`.
+-- The beginning of a suffix is a suffix itself, unless it is `_`.
 pub only_underscore : (x : List ℕ) → is_suffix_front x ≡ true → is_strict_suffix x ≡ false → x ≡ 95 ∷ []
 unfolding is_strict_suffix
 only_underscore [] h n = absurd (cc)
@@ -100,8 +100,8 @@ no_start_no_suffix c e h =
           (ap (λ b. cond b (is_some_text e) (is_start c)) a ∙ h)
     ]
 
--- If a character doesn't continue the first characters of a suffix, no suffix begins with these characters and the
--- character.
+-- Let `c` be a character that can't continue the first characters `x` of a suffix. No text that begins with `x` and `c` is a
+-- suffix.
 pub suffix_stuck : (x : List ℕ) (c : ℕ) (e : List ℕ) → goes_on_with_suffix x (c ∷ e) ≡ false
     → is_strict_suffix (x ++ (c ∷ e)) ≡ false
 unfolding is_strict_suffix
@@ -115,8 +115,8 @@ hash_no_start = and_left (35 == 95 || is_xid_start 35) (not (is_white 35)) (is_x
 
 -- ---- the flaw after a closing delimiter
 
--- The text after a closing delimiter isn't a suffix. Its longest prefix that can be completed to a suffix ends before the
--- rest, and the flaw's kind describes the error.
+-- The text `t` after a closing delimiter has a flaw of the kind `k` at `rest`. The text before `rest` can be completed to a
+-- suffix, and no longer prefix can.
 pub record SuffixSpoiled (form : QuotedForm) (k : FlawKind) (t rest : List ℕ) : Type 0 where
   pub stops : Stops (λ x. is_strict_suffix x ≡ true) (λ x. is_strict_suffix x ≡ false) t rest
   pub spoils : SuffixFlaw form k stops.front rest
@@ -144,8 +144,8 @@ hash_spoils form t h =
       spoils = (p.0, refl, p.1);
     }
 
--- If the rest doesn't continue a suffix, the longest prefix of the text that can be completed to a suffix ends before the
--- rest.
+-- If the first characters of a suffix don't continue with `rest`, they are the longest prefix of the text that can be
+-- completed to a suffix.
 cut_stops : (t rest : List ℕ) (k : SuffixCut t rest)
     → Stops (λ x. is_strict_suffix x ≡ true) (λ x. is_strict_suffix x ≡ false) t rest
 cut_stops t rest k = record {
@@ -161,14 +161,14 @@ lone_is [] h = absurd (cc)
 lone_is (c ∷ []) h = ap (λ z. z ∷ []) (eqb-true c 95 h)
 lone_is (c ∷ d ∷ ds) h = absurd (cc)
 
--- The code's result for the text after a closing delimiter is correct: no flaw if the text is a suffix, and its flaw
--- otherwise.
+-- The result of the code for the text after a closing delimiter is correct: no flaw if the text is a suffix, and the text's
+-- flaw otherwise.
 abbrev pub Judges : QuotedForm → List ℕ → Option FoundFlaw → Type 0
 Judges form t None = is_strict_suffix t ≡ true
 Judges form t (Some f) = (is_strict_suffix t ≡ false) × SuffixSpoiled form f.0 t f.1
 
--- The code's result for a suffix is correct, if no further hash follows the closing delimiter: no flaw, or the flaw at the
--- end of the suffix's first characters.
+-- Unless one more hash follows a raw string's closing delimiter, the result of `suffix_end_read` is correct: no flaw, or the
+-- flaw at the end of the suffix's first characters.
 judged_end : (form : QuotedForm) (t rest : List ℕ) → SuffixCut t rest → begins_hash form t ≡ false
     → Judges form t (suffix_end_read form t rest)
 unfolding cut_stops is_strict_suffix
@@ -221,19 +221,20 @@ suffix_judged form t = go (begins_hash form t) refl
 
 -- ---- the flaw of a suffix is a flaw of the whole literal
 
--- The text after an opening delimiter isn't the end of a literal, and has the flaw with this kind, piece and rest.
+-- The text `inside` after an opening delimiter has a flaw of the kind `k` at `rest`. The text to show for the flaw begins at
+-- `piece`.
 abbrev pub FlawInside : QuotedForm → Kind → FlawKind → List ℕ → List ℕ → List ℕ → Type 0
 FlawInside form kind k inside piece rest =
     Flawed (ClosesForm form kind) inside rest (StrictQuotedFlaw form kind k inside piece rest)
 
--- A flaw of a quoted literal stays its flaw if its kind, piece and rest are replaced by equal ones.
+-- Replaces the kind and the texts of a quoted literal's flaw by equal ones.
 pub same_flaw : (form : QuotedForm) (kind : Kind) (k l : FlawKind) (inside p q r z : List ℕ) → k ≡ l → q ≡ p → z ≡ r
     → FlawInside form kind l inside p r → FlawInside form kind k inside q z
 same_flaw form kind k l inside p q r z is piece place h = subst (λ y. FlawInside form kind y inside q z) (sym is) (subst
     (λ y. FlawInside form kind l inside y z) (sym piece) (subst (FlawInside form kind l inside p) (sym place) h))
 
--- The text from the end of an opening delimiter to the end of the closing delimiter. With a suffix after this text the
--- literal is closed, and with any other text it isn't.
+-- `before` is a quoted literal without its opening delimiter and its suffix. With the text `x` after `before`, the literal
+-- is valid if and only if `x` is a suffix.
 pub record Closer (form : QuotedForm) (kind : Kind) : Type 0 where
   pub before : List ℕ
   pub good : (x : List ℕ) → is_strict_suffix x ≡ true → ClosesForm form kind (before ++ x)

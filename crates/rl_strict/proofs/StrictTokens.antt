@@ -1,5 +1,5 @@
--- A text that begins neither as a number nor as a quoted literal is a literal token only if it is `true` or `false`. If the
--- text after an opening delimiter can't continue at a position, the whole text can't either.
+-- A text that begins neither as a number nor as a quoted literal is a literal token only if it is `true` or `false`. In the
+-- text after an opening delimiter, and in the whole text, the longest prefix that can be completed ends at one position.
 use Rattle.rl_strict.proofs.Names.{◌≡◌, ◌≢◌, ℕ, Bool, true, false, ◌==◌, List, [], ◌∷◌, ◌++◌, None, refl, sym, ap, subst, ◌∙◌, inl, inr, both_ways, or_right, is_ascii_digit, IsTrue, Reads, Kind, Str, ByteStr, CStr, Byte, Char, Int, Float, BoolKind, first_passes, HasReading, truth_text, Strict, number_front, strict_float, strict_int, exponent_text, fraction_text, passes_more, FlawKind, QuotedForm, StopsBefore, form_opener, HasStrictQuotedFlaw, StrictQuotedFlaw, ClosesForm, IsToken, is_number_front, found_opener, opener_at, front_complete, front_sound, front_not_quoted}
 use Rattle.rl_syntax.proofs.Agreeing.{strict_reads}
 use Rattle.rl_strict.proofs.Stops.{raised}

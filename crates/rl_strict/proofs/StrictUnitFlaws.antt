@@ -56,7 +56,8 @@ bare_none k c e a h =
     ap (λ b. cond b (escape_rest k e) (cond (is_strict_unit k (Itself c)) (Some e) None)) a
     ∙ ap (λ b. cond b (Some e) None) h
 
--- If no valid character or escape begins with a character other than a backslash, the character isn't allowed unescaped.
+-- The first character of a text isn't allowed unescaped if it isn't a backslash and the text begins with no valid character
+-- or escape.
 none_bare : (k : Kind) (c : ℕ) (e : List ℕ) → (c == 92) ≡ false → unit_rest k (c ∷ e) ≡ None
     → is_strict_unit k (Itself c) ≡ false
 unfolding unit_rest
@@ -124,7 +125,7 @@ return_no_letter : (l : Letter) → 13 ≢ letter_text l
 return_no_letter LowerN e = absurd (cc)
 return_no_letter other e = absurd (cc)
 
--- If no escape begins with a backslash and the character after it, the flaw is at this character.
+-- If a backslash and the character `d` begin no escape, the flaw is at `d`.
 after_backslash : (k : Kind) (d : ℕ) (ds : List ℕ) (flaw : FlawKind) → ((e : List ℕ) → unit_rest k (92 ∷ d ∷ e) ≡ None)
     → StrictUnitFlaw k flaw (92 ∷ d ∷ ds) (d ∷ ds) → HasStrictUnitFlaw k (92 ∷ d ∷ ds) (found_flaw flaw (d ∷ ds))
 after_backslash k d ds flaw none has = record {
@@ -225,8 +226,7 @@ strict_escape_spoils k (d ∷ ds) none = cond_both (d == 13 && is_string k) _ _ 
 
 -- ---- a character that isn't allowed unescaped
 
--- If a character literal can't contain an unescaped character, the kind of flaw is the one that the code returns for the
--- character.
+-- For a character that a character literal can't contain unescaped, `character_flaw_of` returns the kind of flaw.
 char_has : (c : ℕ) (cs : List ℕ) → is_strict_unit Char (Itself c) ≡ false → (c == 92) ≡ false
     → StrictUnitFlaw Char (character_flaw_of c) (c ∷ cs) (c ∷ cs)
 char_has c cs p b = zero (c == 0) refl
@@ -282,7 +282,7 @@ bare_return kind s = absurd (cc)
 
 -- ---- the flaw of a character or escape
 
--- If no valid character or escape begins with a character, the flaw is at this character.
+-- If a character begins no valid character or escape, the flaw is at this character.
 at_front : (k : Kind) (c : ℕ) (cs : List ℕ) (flaw : FlawKind) → IsQuotedKind k → ((e : List ℕ) → unit_rest k (c ∷ e)
     ≡ None) → StrictUnitFlaw k flaw (c ∷ cs) (c ∷ cs) → HasStrictUnitFlaw k (c ∷ cs) (found_flaw flaw (c ∷ cs))
 at_front k c cs flaw q none has = record {

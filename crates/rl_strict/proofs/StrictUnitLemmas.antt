@@ -3,15 +3,15 @@ use Rattle.rl_strict.proofs.Names.{◌≡◌, ℕ, ◌||◌, Bool, true, false, 
 use Rattle.std.proofs.Common.{option_map}
 pub use Rattle.rl_lenient.specs.StrictUnits.{BreakEnds as MayEnd}
 
--- The text begins with a character or escape of the kind, and the rest follows it.
+-- `t` is a valid character or escape of a literal of the kind, followed by `r`.
 pub record StrictFront (k : Kind) (t r : List ℕ) : Type 0 where
   pub unit : StrictUnit
   pub is_unit : is_strict_unit k unit ≡ true
   pub may_end : MayEnd unit r
   pub text_is : t ≡ strict_text unit ++ r
 
--- If a text begins with an escape of `syn`'s grammar that is also one of Rust's grammar, it begins with a character or
--- escape of Rust's grammar.
+-- If an escape of `syn`'s grammar is also one of Rust's grammar, a text that begins with the escape begins with an escape of
+-- Rust's grammar.
 escape_front : (k : Kind) (t : List ℕ) (u : QuotedUnit) (r : List ℕ) → Back k u → t ≡ unit_text u ++ r
     → StrictFront k t r
 escape_front k t u r e h = record { unit = e.unit; is_unit = e.is_unit; may_end = no_break_ends e.unit r e.no_break; text_is = h ∙ ap (λ z. z ++ r) e.text_is }
@@ -20,7 +20,7 @@ escape_front k t u r e h = record { unit = e.unit; is_unit = e.is_unit; may_end 
 abbrev is_backslash : ℕ → Bool
 is_backslash c = c == 92
 
--- The text after its first character.
+-- The text without its first character.
 abbrev following : List ℕ → List ℕ
 following [] = []
 following (c ∷ cs) = cs
@@ -55,7 +55,7 @@ line_front k cs r h =
       text_is = ap (λ z. 92 ∷ 10 ∷ z) (run_join is_dropped_blank cs ∙ ap (λ z. run is_dropped_blank cs ++ z) p.1);
     }
 
--- If an optional value has a value after a conversion, it has one before.
+-- If `option_map` returns `Some`, its argument is `Some`.
 mapped_some : (o : Option (List ℕ × List ℕ)) (r : List ℕ) → option_map (λ p. p.1) o ≡ Some r → (p : List ℕ × List ℕ)
     × (o ≡ Some p) × (p.1 ≡ r)
 mapped_some None r h = absurd (cc)

@@ -5,8 +5,8 @@ use Rattle.rl_strict.proofs.StrictUnitLemmas.{StrictFront, unit_rest_complete}
 
 -- ---- escaped line ends before other texts
 
--- Suppose that the first character of `b` fails a test if the first character of `a` does. Then this also holds with the
--- text `xs` before `a` and `b`.
+-- Let the first character of `b` fail a test whenever the first character of `a` fails it. Then the first character of `xs
+-- ++ b` fails the test whenever the first character of `xs ++ a` fails it.
 seam : (test : ℕ → Bool) (xs a b : List ℕ) → (first_passes test a ≡ false → first_passes test b ≡ false)
     → first_passes test (xs ++ a) ≡ false → first_passes test (xs ++ b) ≡ false
 seam test [] a b f h = f h

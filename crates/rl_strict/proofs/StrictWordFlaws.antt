@@ -12,7 +12,7 @@ use Rattle.rl_strict.proofs.WordFlawLemmas.{truth_characters, word_place}
 abbrev pub IsStrictFlaw : (FlawKind → List ℕ → List ℕ → Type 0) → List ℕ → FoundFlaw → Type 0
 IsStrictFlaw says t flaw = Flawed IsToken t flaw.1 (HasKind (says flaw.0) t flaw.1)
 
--- A flaw of a text stays its flaw if its kind and rest are replaced by equal ones.
+-- Replaces the kind of a flaw, and the text that begins at the flaw, by equal ones.
 pub moved : (says : FlawKind → List ℕ → List ℕ → Type 0) (t : List ℕ) (flaw : FoundFlaw) (k : FlawKind) (rest : List ℕ)
     → k ≡ flaw.0 → rest ≡ flaw.1 → IsStrictFlaw says t flaw → IsStrictFlaw says t (k, rest)
 moved says t flaw k rest kind place f = subst (λ z. IsStrictFlaw says t (z, rest)) (sym kind)
@@ -24,7 +24,7 @@ by_truth : (b : Bool) (front more : List ℕ) → truth_text b ≡ front ++ more
     → IsCompletable IsToken front
 by_truth b front more e all = record { ending = more; are_characters = all; is_taken = truth_token (front ++ more) b (sym e) }
 
--- If a word consists of valid characters, the part of the word after any prefix does too.
+-- If a word consists of Unicode scalar values, each end of the word does too.
 left_characters : (front more : List ℕ) → AllByRecursion IsScalar (front ++ more) → AllByRecursion IsScalar more
 left_characters [] more a = a
 left_characters (c ∷ cs) more a = left_characters cs more a.1

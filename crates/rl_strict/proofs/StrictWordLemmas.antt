@@ -1,7 +1,7 @@
--- The suffixes of literals in Rust's grammar are the texts that pass the code's tests.
+-- The suffixes of literals in Rust's grammar are the texts that pass the tests `is_strict_suffix` and `is_number_suffix`.
 use Rattle.rl_strict.proofs.Names.{◌≡◌, ◌≢◌, ℕ, ◌||◌, ◌&&◌, Bool, true, not, ◌==◌, cond, List, [], ◌∷◌, refl, ap, subst, sym, ◌∙◌, inl, inr, and_from, and_parts, both_ways, cases_Bool, eqb-true, not-true, not_from_false, list_all, is_xid_start, is_xid_continue, is_underscore, first_passes, IsStrictSuffix, IsWord, is_white, is_continue, is_start, IsNumberSuffix, is_number_suffix, is_strict_suffix, is_some_text}
 
--- Characters that pass each of two tests pass both tests at once.
+-- If all characters of a text pass two tests, all of them pass the conjunction of the tests.
 pub all_both : (f g : ℕ → Bool) (cs : List ℕ) → list_all f cs ≡ true → list_all g cs ≡ true
     → list_all (λ c. f c && g c) cs ≡ true
 all_both f g [] h k = refl
@@ -10,7 +10,7 @@ all_both f g (c ∷ cs) h k =
     let q = and_parts (g c) (list_all g cs) k in
     and_from (f c && g c) (list_all (λ c. f c && g c) cs) (and_from (f c) (g c) p.0 q.0) (all_both f g cs p.1 q.1)
 
--- Characters that pass two tests at once pass each of them.
+-- If all characters of a text pass the conjunction of two tests, all of them pass each test.
 pub all_apart : (f g : ℕ → Bool) (cs : List ℕ) → list_all (λ c. f c && g c) cs ≡ true → (list_all f cs ≡ true)
     × (list_all g cs ≡ true)
 all_apart f g [] h = (refl, refl)
@@ -20,7 +20,7 @@ all_apart f g (c ∷ cs) h =
     let r = all_apart f g cs p.1 in
     (and_from (f c) (list_all f cs) q.0 r.0, and_from (g c) (list_all g cs) q.1 r.1)
 
--- The first character of an identifier passes the code's test of a suffix's first character.
+-- The first character of an identifier passes the test that `is_strict_suffix` makes of a text's first character.
 word_front : (c : ℕ) (cs : List ℕ) → is_start c ≡ true → c ∷ cs ≢ 95 ∷ []
     → cond (c == 95) (is_some_text cs) (is_start c) ≡ true
 word_front c cs s n = elim (cases_Bool (c == 95)) [
@@ -34,7 +34,7 @@ word_front c cs s n = elim (cases_Bool (c == 95)) [
     more [] n = absurd (n refl)
     more (d ∷ ds) n = refl
 
--- A suffix of a quoted literal passes the code's test of suffixes.
+-- A suffix of a quoted literal passes the test `is_strict_suffix`.
 pub strict_suffix_complete : (x : List ℕ) → IsStrictSuffix x → is_strict_suffix x ≡ true
 unfolding is_strict_suffix
 strict_suffix_complete [] h = refl
@@ -46,7 +46,7 @@ strict_suffix_complete (c ∷ cs) (inr w) =
     (word_front c cs (and_from (c == 95 || is_xid_start c) (not (is_white c)) p.0 q.0) w.not_underscore)
     (all_both is_xid_continue (λ c. not (is_white c)) cs p.1 q.1)
 
--- The text after its first character.
+-- The text without its first character.
 abbrev following : List ℕ → List ℕ
 following [] = []
 following (c ∷ cs) = cs
@@ -63,7 +63,7 @@ word_of c cs s h n =
       no_white = and_from (not (is_white c)) (list_all (λ c. not (is_white c)) cs) p.1 q.1;
     }
 
--- A text that passes the code's test of suffixes is a suffix of a quoted literal.
+-- A text that passes the test `is_strict_suffix` is a suffix of a quoted literal.
 pub strict_suffix_sound : (x : List ℕ) → is_strict_suffix x ≡ true → IsStrictSuffix x
 unfolding is_strict_suffix
 strict_suffix_sound [] h = inl refl
@@ -80,12 +80,12 @@ strict_suffix_sound (c ∷ cs) h =
           inr (word_of c cs start p.1 (λ e. both_ways (c == 95) a (ap (λ z. first_passes is_underscore z) e)))
     ]
 
--- A suffix of a number passes the code's test of number suffixes.
+-- A suffix of a number passes the test `is_number_suffix`.
 pub number_suffix_complete : (x : List ℕ) → IsNumberSuffix x → is_number_suffix x ≡ true
 number_suffix_complete x s = and_from (not (first_passes is_underscore x)) (is_strict_suffix x)
     (not_from_false (first_passes is_underscore x) s.1) (strict_suffix_complete x s.0)
 
--- A text that passes the code's test of number suffixes is a suffix of a number.
+-- A text that passes the test `is_number_suffix` is a suffix of a number.
 pub number_suffix_sound : (x : List ℕ) → is_number_suffix x ≡ true → IsNumberSuffix x
 number_suffix_sound x h =
     let p = and_parts (not (first_passes is_underscore x)) (is_strict_suffix x) h in

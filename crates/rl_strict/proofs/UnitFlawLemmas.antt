@@ -9,8 +9,8 @@ use Rattle.rl_strict.proofs.CodeDigitFlaws.{digits_flaw_at, digits_flaw_is}
 
 -- ---- parsers of the beginning of a text
 
--- The longest prefix of the text that the parser can still accept ends at the flaw, and the flaw's kind describes the error
--- in the text with `before` in front.
+-- The longest prefix of `text` that can be completed so that the parser `reader` accepts it ends at the flaw. The flaw's
+-- kind describes the error in `before ++ text`.
 pub record HasUnitFlaw {V : Type 0} (kind : Kind) (reader : Reader V) (before text : List ℕ) (flaw : FoundFlaw) : Type 0
   where
     pub stops : Stops (Closes reader) (Fails reader) text flaw.1
@@ -20,7 +20,7 @@ at_end : {V : Type 0} {kind : Kind} {reader : Reader V} {before : List ℕ} → 
     → HasUnitFlaw kind reader before [] (found_flaw Unclosed [])
 at_end k = record { stops = record { front = []; text_is = refl; begins = k; stuck = λ c cs e h. absurd (cc) }; has = refl }
 
--- If the parser rejects every text that begins with a character, the flaw is at this character.
+-- If the parser rejects every text that begins with the character `c`, the flaw of such a text is at `c`.
 here : {V : Type 0} {kind : Kind} {reader : Reader V} {before : List ℕ} (c : ℕ) (cs : List ℕ) (flaw : FlawKind)
     → Completes reader → ((e : List ℕ) → reader (c ∷ e) ≡ None) → UnitFlaw kind flaw (before ++ (c ∷ cs)) (c ∷ cs)
     → HasUnitFlaw kind reader before (c ∷ cs) (found_flaw flaw (c ∷ cs))
@@ -34,8 +34,8 @@ here {reader} c cs flaw k none has = record {
   has = has;
 }
 
--- If an outer parser skips a character and converts the value of an inner parser, the flaw of the text after the character
--- is the flaw of the whole text.
+-- Let the parser `outer` skip a character, and convert the value that `inner` parses from the text after the character. The
+-- flaw that `inner` finds is the flaw of the whole text.
 next : {V W : Type 0} {kind : Kind} {before cs : List ℕ} {flaw : FoundFlaw} (inner : Reader V) (outer : Reader W)
     (f : V → W) (c x : ℕ) → c ≡ x → ((u : List ℕ) → outer (x ∷ u) ≡ option_and_then (λ p. given (f p.0) p.1) (inner u))
     → outer (c ∷ cs) ≡ None → (inner cs ≡ None → HasUnitFlaw kind inner (before ++ (x ∷ [])) cs flaw)
@@ -58,8 +58,8 @@ kept : {V : Type 0} (o : Option (V × List ℕ)) → o ≡ option_and_then (λ p
 kept None = refl
 kept (Some p) = refl
 
--- If an outer parser skips a character and returns the result of an inner parser, the flaw of the text after the character
--- is the flaw of the whole text.
+-- Let the parser `outer` skip a character, and return the result of `inner` for the text after the character. The flaw that
+-- `inner` finds is the flaw of the whole text.
 next_same : {V : Type 0} {kind : Kind} {before cs : List ℕ} {flaw : FoundFlaw} (inner outer : Reader V) (c x : ℕ) → c ≡
     x → ((u : List ℕ) → outer (x ∷ u) ≡ inner u) → outer (c ∷ cs) ≡ None → (inner cs ≡ None → HasUnitFlaw kind inner
     (before ++ (x ∷ [])) cs flaw) → HasUnitFlaw kind outer before (c ∷ cs) flaw
@@ -82,7 +82,7 @@ rejected : (b : Bool) (n : ℕ) (r : List ℕ) → number_if b n r ≡ None → 
 rejected true n r h = absurd (cc)
 rejected false n r h = refl
 
--- In a literal of characters, a `\x` escape whose first digit is at most 7 represents a number below 128.
+-- In a character literal or a string, a `\x` escape whose first digit is at most 7 represents a number below 128.
 small_enough : (b : Bool) (v d : ℕ) → (b && ltb 7 v) ≡ false → d < 16 → (not b || ltb (v * 16 + d) 128) ≡ true
 small_enough false v d h digit = refl
 small_enough true v d h digit = lt-ltb (v * 16 + d) 128 (let few : v ≤ 7 = ltb-false 7 v h in omega arith)
@@ -190,8 +190,8 @@ code_has kind v text rest bad has = past (ltb 1114111 v) refl
 abbrev is_part : ℕ → Bool
 is_part c = is_underscore c || is_hex_digit c
 
--- The digits and underscores `ds` after `\u{` represent the number `v`, are `n` digits, and can still become an escape of
--- the kind.
+-- `ds` is the digits and underscores of a `\u{..}` escape so far. They have `n` digits and represent the number `v`. The
+-- kind allows the escape that they begin.
 record Stands (kind : Kind) (ds : List ℕ) (v n : ℕ) : Type 0 where
   pub begins : first_passes is_hex_digit ds ≡ true
   pub each : list_all is_part ds ≡ true
@@ -227,7 +227,8 @@ stands_underscore kind ds v n c s e = record {
 abbrev braced_front : List ℕ → List ℕ
 braced_front ds = 92 ∷ 117 ∷ 123 ∷ ds
 
--- After `\u{` and any digits, if the text `cs` doesn't complete the escape, its flaw is the one that the code returns.
+-- Let `ds` be the digits of a `\u{..}` escape so far. If the text `cs` after them doesn't complete the escape,
+-- `digits_flaw_at` returns the flaw.
 abbrev NextSpoils : Kind → List ℕ → Type 0
 NextSpoils kind cs = (ds : List ℕ) (v n : ℕ) → Stands kind ds v n → coded kind v n cs ≡ None
     → HasUnitFlaw kind (coded kind v n) (braced_front ds) cs (digits_flaw_at kind v n cs)
@@ -350,7 +351,8 @@ unicode_spoils kind (c ∷ cs) u none = cond_both (eqb c 123) _ _
 
 -- ---- the flaw of an escape
 
--- If an escape is invalid, the character after its backslash isn't the letter of an escape whose value the kind allows.
+-- In an invalid escape, the character after the backslash isn't the letter of an escape whose value the kind allows, such as
+-- the `n` of `\n`.
 not_letter : (kind : Kind) (c : ℕ) (cs : List ℕ) (letter : Letter) → escape_at kind (c ∷ cs) ≡ None
     → allows_code kind (letter_value letter) ≡ true → c ≢ letter_text letter
 not_letter kind c cs letter none allowed is =
@@ -494,6 +496,6 @@ byte_has c cs p b = zero (eqb c 0) refl
 
 -- ---- the flaw of a character or escape
 
--- If the kind is a kind of string, the text doesn't begin with the closing quote `"`.
+-- In a string, the text doesn't begin with the closing quote `"`. In a character or byte literal, nothing is required.
 abbrev pub IsOpen : Kind → List ℕ → Type 0
 IsOpen kind t = is_string kind ≡ true → first_passes (λ c. eqb c 34) t ≡ false

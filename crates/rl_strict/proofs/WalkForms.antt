@@ -12,18 +12,18 @@ use Rattle.rl_strict.proofs.StrictRawFlaws.{raw_closed, raw_closes, raw_end_none
 use Rattle.rl_strict.proofs.StrictSuffixFlaws.{Judges}
 use Rattle.rl_strict.proofs.StrictRowLemmas.{quote_stops}
 
--- A flaw that a function call returned: its kind, and the text that begins at it.
+-- Converts a flaw that the code returned to its kind and the text that begins at the flaw.
 abbrev pub flaw_of : FlawAt → FoundFlaw
 flaw_of f = found_flaw f.kind (chars f.rest.now)
 
--- A flaw that a function call returned: its kind, and the text that begins at it. In a file, CR LF is read as LF in this
--- text.
+-- Converts a flaw that the code returned to its kind and the text that begins at the flaw. In a file, CR LF is read as LF in
+-- the text.
 abbrev pub flaw_read : LineEnds → FlawAt → FoundFlaw
 flaw_read how f = found_flaw f.kind (read_of how (chars f.rest.now))
 
 -- ---- the text after the closing delimiter
 
--- If the code finds no flaw after a closing delimiter, the text there is a suffix, also if CR LF is read as LF.
+-- A text after a closing delimiter in which the code finds no flaw is a suffix, also with CR LF read as LF.
 judged_none : (how : LineEnds) (form : QuotedForm) (t : List ℕ) → None ≡ suffix_read_at form t → Judges form (read_of how t) None
 judged_none how form t e = judged_by form (read_of how t) None (sym (suffix_of how form t ∙ ap (option_map (read_flaw how)) (sym e)))
 
@@ -58,8 +58,8 @@ after_closer how form k whole t closing suffix f r q e piece says = record {
       (step_in how closing suffix (chars f.rest.now) q (suffix_in how form suffix (flaw_of f) e));
 }
 
--- If a text begins with a quote, it still does if CR LF is read as LF, and the text after the quote doesn't begin between a
--- CR and an LF.
+-- A text that begins with a quote still begins with the quote after CR LF is read as LF. The text after the quote doesn't
+-- begin between a CR and its LF.
 pub quote_read : (how : LineEnds) (t suffix : List ℕ) (q : ℕ) → t ≡ q ∷ suffix → (q == 13) ≡ false → (read_of how t ≡ q ∷ read_of how suffix)
     × IsRestOf how t suffix
 quote_read how t suffix q e h =
@@ -84,7 +84,7 @@ cooked_bad how k t closing suffix f s run r quote e piece =
     (read_of how t) (read_of how closing) (read_of how suffix) (read_of how (chars f.piece.now))
     (read_of how (chars f.rest.now)) s run q.0 judged is)
 
--- If a text doesn't begin with a quote, it doesn't either if CR LF is read as LF.
+-- If a text doesn't begin with a quote, it doesn't begin with a quote after CR LF is read as LF either.
 unquoted_read : (how : LineEnds) (q : ℕ) (t : List ℕ) → (13 == q) ≡ (10 == q) → (q == q) ≡ true → ((x : List ℕ) → t ≢ q ∷ x)
     → (x : List ℕ) → read_of how t ≢ q ∷ x
 unquoted_read how q t h same none x e = both_ways (first_passes (λ c. c == q) (read_of how t))
@@ -162,7 +162,7 @@ hashes_text how n t rest e = (
   (free_in how) t (replicate n 35) rest e (hashes_free n),
 )
 
--- The hashes of a raw string's closing delimiter don't change if CR LF is read as LF. The suffix follows them.
+-- Reading CR LF as LF in hashes followed by a suffix changes only the suffix.
 closer_text : (how : LineEnds) (n : ℕ) (hashes after suffix : List ℕ) → hashes ≡ replicate n 35 → after ≡ hashes ++ suffix
     → read_of how after ≡ hashes ++ read_of how suffix
 closer_text how n hashes after suffix h e = ap (read_of how) e ∙ free_of how hashes suffix (ap lacks_cr h ∙ hashes_free n)
@@ -180,7 +180,7 @@ raw_good how k n c hashes t closing after suffix s few h at is c_is text flaw = 
     (read_of how closing) (read_of how suffix) c (read_of how after) s few h at is c_is
     (closer_text how n hashes after suffix h text) (judged_none how RawForm suffix flaw)
 
--- If a quote and the hashes follow a raw string's content, they still do if CR LF is read as LF. The suffix follows them.
+-- Reading CR LF as LF in a raw string's closing delimiter and suffix changes only the suffix.
 pub raw_quote : (how : LineEnds) (n c : ℕ) (hashes closing after suffix : List ℕ) → hashes ≡ replicate n 35
     → read_of how closing ≡ c ∷ read_of how after → c ≡ 34 → after ≡ hashes ++ suffix
     → read_of how closing ≡ 34 ∷ (hashes ++ read_of how suffix)
@@ -207,7 +207,8 @@ raw_bad how k n c hashes t closing after suffix f s few h at r is more c_is text
     (read_of how suffix) (read_of how (chars f.piece.now)) (read_of how (chars f.rest.now)) c (read_of how after) s
     few h at is c_is back judged.1 as_read))
 
--- If a text doesn't begin with the closing delimiter of a raw string, it doesn't either if CR LF is read as LF.
+-- If a text doesn't begin with the closing delimiter of a raw string, it doesn't begin with this delimiter after CR LF is
+-- read as LF either.
 pub no_closer_read : (how : LineEnds) (n c : ℕ) (hashes after : List ℕ) → hashes ≡ replicate n 35
     → (c == 34 && begins hashes after) ≡ false → (c == 34 && begins hashes (read_of how after)) ≡ false
 no_closer_read how n c hashes after h e = ap (λ b. c == 34 && b) (closer_of how n hashes after h) ∙ e
@@ -331,7 +332,7 @@ pub opened_text : (t hashes rest opened : List ℕ) (c : ℕ) → t ≡ hashes +
     → t ≡ hashes ++ (34 ∷ opened)
 opened_text t hashes rest opened c text is quote = text ∙ ap (λ z. hashes ++ z) (is ∙ ap (λ z. z ∷ opened) quote)
 
--- If a text is a sequence of plain characters followed by `rest`, the part before `rest` contains only plain characters.
+-- If plain characters precede `rest` in a text, any text `body` before `rest` contains only plain characters.
 pub plain_run : (k : Kind) (t run rest : List ℕ) → t ≡ run ++ rest → list_all (is_plain k) run ≡ true → (body : List ℕ)
     → t ≡ body ++ rest → true ≡ list_all (is_plain k) body
 plain_run k t run rest text each body cut = one_run (is_plain k) body run rest (sym cut ∙ text) each
@@ -410,7 +411,7 @@ no_quote_unit k t closing e none rest other =
 
 -- ---- the content of a raw string
 
--- Whether the code's loop over a raw string stops at a character doesn't change if CR LF is read as LF in the text after the
+-- Reading CR LF as LF in the text after a character doesn't change whether the loop over a raw string's content stops at the
 -- character.
 pub halts_of : (how : LineEnds) (n : ℕ) (k : Kind) (c : ℕ) (hashes after : List ℕ) → hashes ≡ replicate n 35
     → ((c == 34 && begins hashes (read_of how after)) || not (is_raw_character k c))

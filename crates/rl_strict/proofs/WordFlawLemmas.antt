@@ -46,7 +46,7 @@ other_first c cs t f v x r = go r.truth r.text_is
 
 -- ---- common prefixes with the words `true` and `false`
 
--- The common prefix of a text and a word, and the remaining part of each.
+-- `front` is the longest common prefix of the text `t` and the word. `left` is the end of the word after `front`.
 record Common (word t : List ℕ) : Type 0 where
   front : List ℕ
   left : List ℕ
@@ -91,8 +91,8 @@ pub truth_characters : (b : Bool) → AllByRecursion IsScalar (truth_text b)
 truth_characters true = (refl, (refl, (refl, (refl, tt))))
 truth_characters false = (refl, (refl, (refl, (refl, (refl, tt)))))
 
--- The common prefix of the text and the word `true` or `false` begins neither a number nor a quoted literal. Only this word
--- completes it to `true` or `false`.
+-- `k.front` is the common prefix of the text `t` and the word, `true` or `false`. No text that begins with `k.front` has an
+-- opening delimiter, or begins as a number. Only the word completes `k.front` to `true` or `false`.
 record WordFront (b : Bool) (t : List ℕ) (k : Common (truth_text b) t) : Type 0 where
   no_opener : (e : List ℕ) → opener_at (k.front ++ e) ≡ None
   no_number : (e : List ℕ) → first_passes is_number_front (k.front ++ e) ≡ false

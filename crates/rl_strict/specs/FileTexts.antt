@@ -8,9 +8,8 @@ use Rattle.rl_strict.specs.Limits.{ExplainsLimit}
 use Rattle.rl_strict.specs.SignedFlaws.{ExplainsSigned}
 use Rattle.rl_strict.specs.StrictFlaws.{ExplainsStrictly}
 
--- In a file, the byte offset `at` in the text as written is the position of the byte offset `read` in the text that rustc
--- reads, without each CR before an LF. No position is between a CR and its LF: before a CR LF, `at` is the byte offset of
--- the CR.
+-- In a file, the byte offset `at` in the text as written corresponds to the byte offset `read` in the text that rustc reads,
+-- where each CR LF is LF. `at` is never between a CR and its LF: for the LF of a CR LF, `at` is the byte offset of the CR.
 pub record IsPlaceInFile (text : List ℕ) (read at : ℕ) : Type 0 where
   pub front : List ℕ
   pub rest : List ℕ
@@ -41,12 +40,14 @@ pub record ExplainsSignedInFile (text : List ℕ) (flaw : Flaw) : Type 0 where
   pub hi : IsPlaceInFile text read.hi flaw.hi
   pub ordered : flaw.lo ≤ flaw.hi
 
--- The text of a literal in a file has no value. Either it isn't a literal token, with CR LF read as LF, or it is an integer
--- above 128 bits, which contains no CR. A minus and an integer above 128 bits isn't a literal token.
+-- The flaw explains why the text of a literal in a file has no value. Either the text, with CR LF read as LF, isn't a
+-- literal token, or the text is an integer above 128 bits, which contains no CR. A minus and an integer above 128 bits isn't
+-- a literal token.
 abbrev pub ExplainsValueInFile : List ℕ → Flaw → Type 0
 ExplainsValueInFile text flaw = ExplainsInFile text flaw ⊎ (IsToken (lf_text text) × ExplainsLimit text flaw)
 
--- The text of a literal in a file has no value, where a minus before a number is allowed. Either it is neither a literal
--- token nor a minus and a number, with CR LF read as LF, or it is an integer above 128 bits.
+-- The flaw explains why the text of a literal in a file has no value, where a minus before a number is allowed. Either the
+-- text, with CR LF read as LF, is neither a literal token nor a minus and a number, or the text is an integer above 128
+-- bits.
 abbrev pub ExplainsSignedValueInFile : List ℕ → Flaw → Type 0
 ExplainsSignedValueInFile text flaw = ExplainsSignedInFile text flaw ⊎ ExplainsLimit text flaw

@@ -1,5 +1,5 @@
--- The meaning of each kind of flaw in an invalid escape or character of a quoted literal. `text` begins at the escape or
--- character, and `rest` at the flaw.
+-- The meaning of each kind of flaw (`FlawKind`) in an invalid escape or character of a quoted literal. The argument `text`
+-- begins at the escape or character, and `rest` at the flaw.
 use Rattle.std.specs.Prelude.{◌≡◌, ◌≢◌, ℕ, ◌<◌, ◌≤◌, ◌==◌, ◌&&◌, ◌||◌, Bool, not, nat_lt, List, [], codes, ◌∷◌, ◌++◌, length, replicate, IsTrue, IsFalse}
 use Rattle.std.specs.Char.{digit_value}
 use Rattle.std.specs.List.{list_all}
@@ -26,7 +26,7 @@ is_brace c = c == code "}"
 
 -- ---- flaws of escapes and characters
 
--- The rest follows a backslash, and begins with a character that begins no escape.
+-- The text `rest` after a backslash begins with a character that can't follow a backslash, for example `q` in `\q`.
 pub record BeginsNoEscape (kind : Kind) (rest : List ℕ) : Type 0 where
   pub first : ℕ
   pub after : List ℕ
@@ -36,7 +36,8 @@ pub record BeginsNoEscape (kind : Kind) (rest : List ℕ) : Type 0 where
   pub no_u : first ≢ code "u"
   pub no_line_end : IsFalse (is_string kind && is_line_end first)
 
--- The text is `\u{`, then `digits`, which are hexadecimal digits and underscores, and then the rest.
+-- `text` is `\u{`, followed by `digits`, followed by `rest`. `digits` contains only hexadecimal digits and underscores, and
+-- begins with a digit.
 pub record IsBraced (digits text rest : List ℕ) : Type 0 where
   pub begins : Begins is_hex_digit digits
   pub each : IsTrue (list_all (λ c. is_underscore c || is_hex_digit c) digits)
@@ -61,14 +62,15 @@ pub data MissesDigit (text rest : List ℕ) : Type 0 where
       → Begins (λ c. not (is_hex_digit c || is_brace c || is_underscore c)) rest
       → MissesDigit text rest
 
--- The kind of flaw is the reason why a literal of the kind `Kind` can't contain the character with this number.
+-- A literal of the kind can't contain the character with the given code point. The kind of flaw is the reason: the code
+-- point is above 10FFFF, is a surrogate, or is 0 in a C string.
 abbrev pub IsNoCode : Kind → FlawKind → ℕ → Type 0
 IsNoCode kind UnicodeEscapeOutOfRange number = 0x10FFFF < number
 IsNoCode kind Surrogate number = (0xD800 ≤ number) × (number ≤ 0xDFFF)
 IsNoCode kind Nul number = (kind ≡ CStr) × (number ≡ 0)
 IsNoCode kind _ number = ⊥
 
--- The number that the digits of a `\u{..}` escape represent isn't allowed in a literal of the kind. The flaw is at the
+-- The code point that the digits of a `\u{..}` escape represent isn't allowed in a literal of the kind. The flaw is at the
 -- closing brace after up to five digits, or at the sixth digit.
 pub data HasNoCode (kind : Kind) (flaw : FlawKind) (text rest : List ℕ) : Type 0 where
   AtBrace : (digits : List ℕ) → IsBraced digits text rest → digit_count digits ≤ 5
@@ -112,7 +114,8 @@ UnitFlaw kind _ text rest = ⊥
 
 -- ---- flaws of raw strings
 
--- After a raw string's prefix, the text has only hashes before the rest, which begins with neither a hash nor a quote.
+-- The text after a raw string's prefix is hashes followed by `rest`, which begins with neither a hash nor a quote. So the
+-- raw string has no opening quote.
 pub record IsUnopened (text rest : List ℕ) : Type 0 where
   pub hashes : ℕ
   pub text_is : text ≡ replicate hashes (code "#") ++ rest

@@ -5,14 +5,16 @@ use Rattle.std.specs.List.{AllByRecursion}
 use Rattle.rl_syntax.specs.Texts.{byte_len}
 use Rattle.rl_syntax.specs.declared.span.Span.{Span}
 
--- The text can be completed: some ending, perhaps an empty one, makes it a text that satisfies `takes`.
+-- Some ending, perhaps an empty one, completes the text to a text that satisfies the predicate `takes`. For example, `'a`
+-- can be completed to the literal token `'a'`.
 pub record IsCompletable (takes : List ℕ → Type 0) (text : List ℕ) : Type 0 where
   pub ending : List ℕ
   pub are_characters : AllByRecursion IsScalar ending
   pub is_taken : takes (text ++ ending)
 
--- The text is a front and the rest. The front can be completed to a text that satisfies `takes`. With the rest's first
--- character after it, if there is one, it can't be completed.
+-- `text` is a prefix followed by `rest`. Some ending completes the prefix to a text that satisfies the predicate `takes`. No
+-- text that begins with the prefix and the first character of `rest` satisfies `takes`. For example, the prefix of `0b102`
+-- is `0b10` if literal tokens satisfy `takes`.
 pub record StopsBefore (takes : List ℕ → Type 0) (text rest : List ℕ) : Type 0 where
   pub front : List ℕ
   pub text_is : text ≡ front ++ rest
@@ -32,10 +34,10 @@ pub record IsPlaced (takes : List ℕ → Type 0) (text : List ℕ) (lo hi : ℕ
   pub lo_is : lo ≡ byte_len stops.front
   pub hi_is : hi ≡ lo + first_len rest
 
--- If the text is a front followed by the rest, the relation `says` holds between the front and the rest.
+-- If `text` is a prefix followed by `rest`, the relation `says` holds between the prefix and `rest`.
 abbrev pub HasKind : (List ℕ → List ℕ → Type 0) → List ℕ → List ℕ → Type 0
 HasKind says text rest = (front : List ℕ) → text ≡ front ++ rest → says front rest
 
--- The byte offset that is `at` bytes after the beginning of the span, limited to the span's end.
+-- The byte offset `span.lo + at`, or the span's end `span.hi` if `span.lo + at` is greater.
 abbrev pub place_in : Span → ℕ → ℕ
 place_in span at = min (span.lo + at) span.hi

@@ -30,8 +30,8 @@ NoZeroLeadsStrictDigits = (n : ℕ) → 0 < n → IsFalse (begins_char (code "0"
 abbrev pub ZeroIsOneStrictDigit : Type 0
 ZeroIsOneStrictDigit = dec 0 ≡ codes "0"
 
--- A text has at most one flaw that explains why it isn't a literal token: one kind, one piece and one byte range. So `explain`
--- returns the only possible flaw.
+-- A text has at most one flaw that explains why it isn't a literal token: one kind, one byte range, and one range of text to
+-- show. So `explain` returns the only possible flaw.
 abbrev pub ATextHasOneFlaw : Type 0
 ATextHasOneFlaw = (text : List ℕ) → HasOneFlaw text
 
@@ -67,9 +67,9 @@ ABadQuoteIsNoToken =
     (quote : BadQuote) (after : List ℕ) → IsSource (BadQuoteToken quote) after
     → IsToken (bad_quote_text quote) → ⊥
 
--- A literal's text in a file, where rustc reads CR LF as LF, has at most one flaw that explains why it isn't a literal token.
--- Each byte offset in the text as rustc reads it is one byte offset in the file. `read` with `LineEnds::File` returns this
--- flaw.
+-- A literal's text in a file, where rustc reads CR LF as LF, has at most one flaw that explains why it isn't a literal
+-- token. Each byte offset in the text as rustc reads it corresponds to one byte offset in the file. `read` with
+-- `LineEnds::File` returns this flaw.
 abbrev pub ATextInAFileHasOneFlaw : Type 0
 ATextInAFileHasOneFlaw = (text : List ℕ) → IsExplainedOnce ExplainsInFile text
 

@@ -40,12 +40,12 @@ pub record IsFloatBySuffix (text : List ℕ) : Type 0 where
   pub is_float : IsFloatSuffix suffix
   pub text_is : text ≡ sign_text sign ++ (digits ++ suffix)
 
--- The text is a literal token, or a minus and a number. It is an integer above 128 bits, and its suffix doesn't make it a
--- float. The flaw is that of the integer.
+-- The text is a literal token, or a minus and a number, but has no value. It is an integer above 128 bits, and its suffix
+-- doesn't make it a float. The flaw is of the kind `TooLarge`.
 abbrev pub ExplainsLimit : List ℕ → Flaw → Type 0
 ExplainsLimit text flaw = IsSignedToken text × IsLimitFlaw text flaw × (IsFloatBySuffix text → ⊥)
 
--- The text has no value, and the flaw is the reason: the text is neither a literal token nor a minus and a number, or it is
--- an integer above 128 bits.
+-- The flaw explains why the text has no value: the text is neither a literal token nor a minus and a number, or it is an
+-- integer above 128 bits.
 abbrev pub ExplainsValue : List ℕ → Flaw → Type 0
 ExplainsValue text flaw = ExplainsSigned text flaw ⊎ ExplainsLimit text flaw

@@ -1,5 +1,5 @@
--- The text of a literal as it is read: unchanged outside files, and with each CR LF read as LF in a file. Texts are lists of
--- characters.
+-- CR LF in the text of a literal. In a file, the text is read without each CR before an LF. Outside files, the text is read
+-- unchanged. Texts are lists of characters.
 use Rattle.std.specs.Prelude.{◌≡◌, ◌⊎◌, ℕ, ◌==◌, ◌&&◌, Bool, false, true, not, cond, List, [], ◌∷◌, ◌++◌, Some, IsFalse, IsTrue}
 use Rattle.std.specs.Str.{chars}
 use Prim.Native.Char.{code}
@@ -17,7 +17,7 @@ use Rattle.rl_strict.specs.declared.line_ends.LineEnds.{LineEnds}
 use Rattle.rl_strict.specs.declared.line_ends.LineEnds.TheVariants.{Text, File}
 use Rattle.rl_strict.specs.QuotedRead.{StopsIn}
 
--- The character `c` is a CR, and the text after it begins with LF.
+-- The character `c` is a CR, and the text `following`, which comes after `c`, begins with LF.
 abbrev pub is_dropped : ℕ → List ℕ → Bool
 is_dropped c following = c == code "\r" && begins_char (code "\n") following
 
@@ -31,23 +31,24 @@ abbrev pub read_of : LineEnds → List ℕ → List ℕ
 read_of Text text = text
 read_of File text = lf_text text
 
--- In a file, the character `c` is the CR of a CR LF, so it isn't read. The text argument is the text after `c`.
+-- In a file, the character `c` is a CR, and the text `following`, which comes after `c`, begins with LF. So `c` isn't read.
 abbrev pub drops : LineEnds → ℕ → List ℕ → Bool
 drops Text c following = false
 drops File c following = is_dropped c following
 
--- The border between two texts, a front and a rest, isn't between a CR and an LF.
+-- The first text doesn't end with CR, or the second text doesn't begin with LF. So the border between the two adjacent texts
+-- isn't between a CR and its LF.
 abbrev pub is_seam : List ℕ → List ℕ → Bool
 is_seam [] rest = true
 is_seam (c ∷ []) rest = not (is_dropped c rest)
 is_seam (c ∷ d ∷ ds) rest = is_seam (d ∷ ds) rest
 
--- In a file, the border between two texts, a front and a rest, isn't between a CR and an LF.
+-- In a file, the border between two adjacent texts isn't between a CR and its LF. Outside files, any border is allowed.
 abbrev pub is_seam_of : LineEnds → List ℕ → List ℕ → Bool
 is_seam_of Text front rest = true
 is_seam_of File front rest = is_seam front rest
 
--- The rest is an end of the text. In a file it doesn't begin between a CR and an LF.
+-- `text` ends with `rest`. In a file, `rest` doesn't begin between a CR and its LF.
 pub record IsRestOf (ends : LineEnds) (text rest : List ℕ) : Type 0 where
   pub front : List ℕ
   pub text_is : text ≡ front ++ rest
@@ -56,22 +57,24 @@ pub record IsRestOf (ends : LineEnds) (text rest : List ℕ) : Type 0 where
 abbrev pub IsFileRest : List ℕ → List ℕ → Type 0
 IsFileRest text rest = IsRestOf File text rest
 
--- The text `whole` after an opening delimiter isn't the end of a literal of the form. The flaw's kind describes the error in
--- the piece and the rest, with CR LF read as LF in a file. The piece and the rest are ends of `text`, which is the text as
--- written.
+-- The text `whole` after an opening delimiter has a flaw of the kind `flaw`, so `whole` isn't the end of a literal of the
+-- form. The flaw is at `rest`, and the text to show for the flaw begins at `piece`. `piece` and `rest` are ends of `text`,
+-- the text as written. In a file, CR LF in `piece` and `rest` is read as LF before they are compared with `whole`.
 pub record StopsAsRead (ends : LineEnds) (form : QuotedForm) (kind : Kind) (flaw : FlawKind) (whole text piece rest : List ℕ) : Type 0 where
   pub stops : StopsIn form kind flaw whole (read_of ends piece) (read_of ends rest)
   pub piece_in : IsRestOf ends text piece
   pub rest_in : IsRestOf ends text rest
 
--- The flaw is at its piece, where the valid content of a quoted literal ends, or it is after the closing delimiter. If no
--- text follows the valid content, the flaw is the missing closing quote.
+-- The flaw `found` of a quoted literal is in the literal's content or after the closing delimiter. For a flaw in the
+-- content, the text to show begins at `closing`, where the valid content ends. If `closing` is empty, the flaw is the
+-- missing closing quote.
 abbrev pub IsOfStretch : QuotedForm → List ℕ → FlawAt → Type 0
 IsOfStretch form closing found =
     ((found.piece.now ≡ closing) × (chars closing ≡ [] → found.kind ≡ Unclosed))
     ⊎ ((suffix : List ℕ) × (Some (found_flaw found.kind (chars found.rest.now)) ≡ suffix_read_at form suffix))
 
--- The valid content of a character or byte literal: one character or escape if a quote follows it, and no text otherwise.
+-- `text` follows the opening quote of a character or byte literal. If `'` follows the character or escape at the beginning
+-- of `text`, `closing` begins at this `'`. Otherwise `closing` is all of `text`.
 abbrev pub IsGoodUnit : Kind → List ℕ → List ℕ → Type 0
 IsGoodUnit kind text closing =
     ((unit_rest kind text ≡ Some closing) × IsTrue (first_passes is_apostrophe closing))

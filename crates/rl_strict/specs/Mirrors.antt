@@ -1,5 +1,5 @@
--- Mirrors of the code: functions on lists of characters. It is proved that the code returns what these functions return. No
--- public contract mentions these functions.
+-- Executable models of the code: functions on lists of characters. It is proved that the code returns what these functions
+-- return. No public contract mentions these functions.
 
 pub mod StrictAt
 pub mod StrictFlawAt

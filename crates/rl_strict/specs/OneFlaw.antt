@@ -3,7 +3,8 @@ use Rattle.std.specs.Prelude.{◌≡◌, ℕ, List}
 use Rattle.rl_strict.specs.declared.flaws.Flaw.{Flaw}
 use Rattle.rl_strict.specs.StrictFlaws.{ExplainsStrictly}
 
--- At most one flaw satisfies the relation `explains` for the text: one kind, one byte range and one piece.
+-- Two flaws that explain the text by the relation `explains` are equal: they have one kind, one byte range, and one range of
+-- text to show.
 abbrev pub IsExplainedOnce : (List ℕ → Flaw → Type 0) → List ℕ → Type 0
 IsExplainedOnce explains text = (a b : Flaw) → explains text a → explains text b → a ≡ b
 

@@ -7,8 +7,9 @@ use Rattle.rl_strict.specs.Flaws.{StopsBefore}
 use Rattle.rl_strict.specs.StrictFlawKinds.{StrictQuotedFlaw}
 use Rattle.rl_strict.specs.StrictShapes.{ClosesForm}
 
--- The text after the opening delimiter isn't the end of a literal of the form. Its longest prefix that can be completed to
--- such an end is before `rest`. The flaw's kind describes the error in the text from the flaw's piece on.
+-- The text after an opening delimiter isn't the end of a literal of the form. (The end of the string `"a"` is `a"`.) The
+-- flaw is at `rest`: the text before `rest` can be completed to the end of a literal, and no longer prefix can. The text to
+-- show for the flaw begins at `piece`. `flaw` is the kind of flaw.
 pub record StopsIn (form : QuotedForm) (kind : Kind) (flaw : FlawKind) (text piece rest : List ℕ) : Type 0 where
   pub none : ClosesForm form kind text → ⊥
   pub stops : StopsBefore (ClosesForm form kind) text rest

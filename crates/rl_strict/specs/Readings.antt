@@ -23,12 +23,12 @@ use Rattle.rl_strict.specs.StrictShapes.{IsToken}
 
 -- ---- parse results
 
--- The text is a literal token. If the flag is true, it may also be a minus and a number.
+-- The text is a literal token. The flag tells whether the text may also be a minus and a number, such as `-1`.
 abbrev pub IsTokenIf : Bool → List ℕ → Type 0
 IsTokenIf false = IsToken
 IsTokenIf true = IsSignedToken
 
--- The parse result of a literal token. If the flag is true, the text may also be a minus and a number.
+-- The parse result of a literal token. The flag tells whether the text may also be a minus and a number, such as `-1`.
 abbrev pub ReadsOf : Bool → List ℕ → Reading → Type 0
 ReadsOf false text reading = IsStrictReading text reading
 ReadsOf true text reading = IsSignedRead text reading
@@ -37,8 +37,8 @@ ReadsOf true text reading = IsSignedRead text reading
 abbrev pub lf_bytes : List ℕ → List ℕ
 lf_bytes text = encode_utf8_all (lf_text (chars text))
 
--- `read` has the byte offsets of the body in the text as rustc reads it, and `body` the same positions in the text as written.
--- Whether the body is the literal's value isn't known.
+-- The byte offsets in `read` are positions in the text as rustc reads it in a file. The byte offsets in `body` are the same
+-- positions in the text as written. The field `plain` of `body` is `false`, since the body may contain CR LF.
 pub record IsBodyInFile (text : List ℕ) (read body : Body) : Type 0 where
   pub lo : IsPlaceInFile (chars text) read.lo body.lo
   pub hi : IsPlaceInFile (chars text) read.hi body.hi
@@ -65,15 +65,15 @@ plain_of InFile plain = false
 
 -- ---- flaws of a text
 
--- The flaw's kind describes the error in the text. The last two arguments are the text from the flaw's piece on, and the
--- text from the flaw on. If the flag is true, the text may also be a minus and a number.
+-- The kind of flaw describes the error in the text. The last two arguments are ends of the text: the text to show for the
+-- flaw begins at the first one, and the flaw at the second one. The flag tells whether the text may be a minus and a number.
 abbrev pub SaysOf : Bool → FlawKind → List ℕ → List ℕ → List ℕ → Type 0
 SaysOf false kind text piece rest = IsStrictFlawOf kind text piece rest
 SaysOf true kind text piece rest = IsSignedFlawOf kind text piece rest
 
--- The text as it is read isn't a literal token (nor a minus and a number, if the flag is true). In a file, CR LF is read as
--- LF. The text's longest prefix that can be completed ends before the rest. The flaw's kind describes the error in the text
--- from the flaw's piece on. The piece and the rest are ends of the text as written.
+-- With CR LF read as LF in a file, `text` isn't a literal token (nor a minus and a number, if `signed` is true). The flaw is
+-- at `rest`: the text before `rest` can be completed to a valid text, and no longer prefix can. The text to show for the
+-- flaw begins at `piece`. `piece` and `rest` are ends of the text as written.
 pub record IsFlawOf (ends : LineEnds) (signed : Bool) (text : List ℕ) (kind : FlawKind) (piece rest : List ℕ) : Type 0 where
   pub none : IsTokenIf signed (read_of ends text) → ⊥
   pub stops : StopsBefore (IsTokenIf signed) (read_of ends text) (read_of ends rest)
@@ -81,19 +81,20 @@ pub record IsFlawOf (ends : LineEnds) (signed : Bool) (text : List ℕ) (kind : 
   pub piece_in : IsRestOf ends text piece
   pub rest_in : IsRestOf ends text rest
 
--- The rest of the text begins at the byte offset `at`. In a file, the rest doesn't begin between a CR and an LF.
+-- `rest` is an end of `text`, and begins at the byte offset `at`. In a file, `rest` doesn't begin between a CR and its LF.
 pub record IsRestPlace (ends : LineEnds) (text rest : List ℕ) (at : ℕ) : Type 0 where
   pub is_rest : IsRestOf ends text rest
   pub at_is : at ≡ byte_len is_rest.front
 
--- The byte offset `at` is after the first character of the rest, or is the text's end. In a file, a CR LF is one character.
+-- The byte offset `at` in `text` is after the first character of `rest`, or is the text's end if `rest` is empty. In a file,
+-- a CR LF is one character.
 pub record IsPlaceAfter (ends : LineEnds) (text rest : List ℕ) (at : ℕ) : Type 0 where
   pub after : List ℕ
   pub place : IsRestPlace ends text after at
   pub after_is : read_of ends after ≡ drop 1 (read_of ends rest)
 
--- The flaw explains why the text isn't a literal token. If the flag is true, the flaw explains why the text is neither a
--- literal token nor a minus and a number.
+-- The flaw explains why the text isn't a literal token. If the flag allows a minus before a number, the flaw explains why
+-- the text is neither a literal token nor a minus and a number.
 abbrev pub ExplainsOf : LineEnds → Bool → List ℕ → Flaw → Type 0
 ExplainsOf InText false text flaw = ExplainsStrictly text flaw
 ExplainsOf InText true text flaw = ExplainsSigned text flaw
@@ -106,7 +107,7 @@ ExplainsOf InFile true text flaw = ExplainsSignedInFile text flaw
 abbrev pub HasValueOf : LineEnds → List ℕ → Type 0
 HasValueOf ends text = HasReading (read_of ends text) ⊎ IsFloatBySuffix (read_of ends text)
 
--- The flaw explains why the text has no value. If the flag is true, a minus before a number is allowed.
+-- The flaw explains why the text has no value. The flag tells whether a minus before a number is allowed.
 abbrev pub ExplainsValueOf : LineEnds → Bool → List ℕ → Flaw → Type 0
 ExplainsValueOf InText false text flaw = ExplainsStrictly text flaw ⊎ (IsToken text × ExplainsLimit text flaw)
 ExplainsValueOf InText true text flaw = ExplainsValue text flaw

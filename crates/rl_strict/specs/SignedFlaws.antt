@@ -17,8 +17,8 @@ IsSignedToken text =
     IsToken text
     ⊎ ((number : List ℕ) × (text ≡ codes "-" ++ number) × IsTrue (first_passes is_ascii_digit number) × IsToken number)
 
--- No digit follows a minus. The kind of flaw is `UnexpectedEnd` if the text ends there, and `NoNumber` if another character
--- follows.
+-- No digit follows a minus. If the text ends after the minus, the kind of flaw is `UnexpectedEnd`. Otherwise the kind of
+-- flaw is `NoNumber`.
 abbrev pub LacksNumber : FlawKind → List ℕ → Type 0
 LacksNumber NoNumber rest = rest ≢ []
 LacksNumber UnexpectedEnd rest = rest ≡ []
@@ -29,16 +29,16 @@ IsMinusFlawOf kind number rest =
     (IsTrue (first_passes is_ascii_digit number) × HasKind (IsStrictNumberFlaw kind) number rest)
     ⊎ (IsFalse (first_passes is_ascii_digit number) × (number ≡ rest) × LacksNumber kind rest)
 
--- The flaw's kind describes the error in a text that may be a literal token, or a minus and a number. The last two arguments
--- are the text from the flaw's piece on, and the text from the flaw on.
+-- The kind of flaw describes the error in a text where a minus before a number is allowed. The last two arguments are ends
+-- of the text: the text to show for the flaw begins at the first one, and the flaw at the second one.
 abbrev pub IsSignedFlawOf : FlawKind → List ℕ → List ℕ → List ℕ → Type 0
 IsSignedFlawOf kind text piece rest =
     (IsFalse (first_passes (λ c. c == code "-") text) × IsStrictFlawOf kind text piece rest)
     ⊎ ((number : List ℕ) × (text ≡ codes "-" ++ number) × IsMinusFlawOf kind number rest × (piece ≡ text))
 
--- The text is neither a literal token nor a minus and a number. The flaw's range is where the longest prefix ends that can
--- be completed to a literal token or to a minus and a number. The flaw's kind describes the error in the text from the
--- flaw's piece on.
+-- The flaw explains why the text is neither a literal token nor a minus and a number. The flaw's range begins after the
+-- longest prefix that can be completed to a literal token or to a minus and a number. The text to show for the flaw begins
+-- at `piece`.
 pub record ExplainsSigned (text : List ℕ) (flaw : Flaw) : Type 0 where
   pub no_token : IsSignedToken text → ⊥
   pub place : IsPlaced IsSignedToken text flaw.lo flaw.hi

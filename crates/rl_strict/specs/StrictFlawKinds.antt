@@ -1,5 +1,6 @@
 -- The meaning of each kind of flaw in a quoted literal of Rust's grammar. `text` is the text after the opening delimiter, or
--- for a raw string the text that begins with its hashes. `piece` begins at the flaw's piece, and `rest` at the flaw.
+-- for a raw string the text that begins with its hashes. The text to show for the flaw begins at `piece`, and the flaw at
+-- `rest`.
 pub use Rattle.rl_lenient.specs.StrictUnits.{BreakEnds, BreaksEnd, BeginsStrictUnit, BeginsStrictUnits, HasNoStrictUnit}
 use Rattle.std.specs.Prelude.{◌≡◌, ◌≢◌, ◌⊎◌, ℕ, ◌<◌, ◌==◌, ◌&&◌, Bool, true, false, not, nat_lt, List, [], codes, ◌∷◌, ◌++◌, replicate, IsTrue, IsFalse}
 use Rattle.std.specs.List.{list_all}
@@ -19,8 +20,8 @@ use Rattle.rl_strict.specs.FlawKinds.{Begins, IsUnopened, UnitFlaw}
 use Rattle.rl_lenient.specs.Forms.{form_opener, has_form}
 use Rattle.rl_lenient.specs.StrictBytes.{HasNoCarriageReturn}
 
--- The meaning of a kind of flaw in an invalid character or escape. A string can't contain CR, with or without a backslash
--- before it. `UnitFlaw` defines all other kinds.
+-- The meaning of a kind of flaw in an invalid character or escape. `CarriageReturn` means that a string contains a CR, with
+-- or without a backslash before it. `UnitFlaw` defines all other kinds.
 abbrev pub StrictUnitFlaw : Kind → FlawKind → List ℕ → List ℕ → Type 0
 StrictUnitFlaw kind CarriageReturn text rest =
     IsTrue (is_string kind) × ((text ≡ rest) ⊎ (text ≡ codes "\\" ++ rest)) × Begins (λ c. c == code "\r") rest
@@ -33,28 +34,27 @@ abbrev pub form_quote : QuotedForm → ℕ
 form_quote SingleForm = code "'"
 form_quote _ = code "\""
 
--- The form is that of raw strings, which have hashes.
+-- The form is the form of raw strings.
 abbrev pub is_raw_form : QuotedForm → Bool
 is_raw_form RawForm = true
 is_raw_form _ = false
 
--- The text can become a suffix: it is empty, an identifier, or `_` alone.
+-- The text can be completed to a suffix: it is empty, an identifier, or `_` alone.
 abbrev pub is_suffix_front : List ℕ → Bool
 is_suffix_front [] = true
 is_suffix_front (c ∷ cs) = is_start c && list_all is_continue cs
 
--- Whether the rest begins with a character that continues a suffix. The first argument is the beginning of the suffix,
--- before the rest.
+-- Whether a suffix that begins with the first text can continue with the first character of the second text.
 abbrev pub goes_on_with_suffix : List ℕ → List ℕ → Bool
 goes_on_with_suffix [] rest = first_passes is_start rest
 goes_on_with_suffix (c ∷ cs) rest = first_passes is_continue rest
 
--- The text after a raw string's closing delimiter begins with one more hash.
+-- A hash directly follows the closing delimiter of a raw string: `front` is empty, and `rest` begins with the hash.
 abbrev pub IsExtraHash : QuotedForm → List ℕ → List ℕ → Type 0
 IsExtraHash form front rest = IsTrue (is_raw_form form) × (front ≡ []) × Begins is_hash rest
 
--- The text after the closing delimiter has a flaw before the rest. In the order of the equations, the flaws are: one more
--- hash, the quote once more, the suffix `_` alone, and a character that can't continue the suffix.
+-- The text after a closing delimiter is `front` and `rest`, and the flaw is at `rest`. In the order of the equations, the
+-- flaws are: one more hash, one more closing quote, the suffix `_` alone, and a character that can't continue the suffix.
 abbrev pub SuffixFlaw : QuotedForm → FlawKind → List ℕ → List ℕ → Type 0
 SuffixFlaw form ExtraHash front rest = IsExtraHash form front rest
 SuffixFlaw form TextAfterQuote front rest = IsTrue (is_suffix_front front) × Begins (λ c. c == form_quote form) rest
@@ -64,8 +64,8 @@ SuffixFlaw form BadSuffix front rest =
     × IsFalse (first_passes (λ c. c == form_quote form) rest) × (IsExtraHash form front rest → ⊥)
 SuffixFlaw form _ front rest = ⊥
 
--- The text from the piece of a flaw on, for a flaw after the closing delimiter. The piece begins at the closing quote if one
--- more hash or quote follows. For other flaws, the piece begins at the suffix.
+-- The text to show for a flaw after the closing delimiter, up to the end of the text. For one more hash or quote, it begins
+-- at the closing quote. For other flaws, it begins at the suffix.
 abbrev pub suffix_piece : FlawKind → List ℕ → List ℕ → List ℕ
 suffix_piece ExtraHash closing suffix = closing
 suffix_piece TextAfterQuote closing suffix = closing
@@ -73,8 +73,8 @@ suffix_piece _ closing suffix = suffix
 
 -- ---- flaws of raw strings
 
--- The raw string isn't closed before the rest. Each character between its opening quote and the rest is allowed in a raw
--- string of the kind. The text begins at the hashes.
+-- `text` is at most 255 hashes, the opening quote of a raw string, a part of its content, and `rest`. The part of the
+-- content has only characters that a raw string of the kind may contain, and no closing delimiter.
 pub record IsOpen (kind : Kind) (hashes : ℕ) (text rest : List ℕ) : Type 0 where
   pub few : hashes < 256
   pub body : List ℕ
@@ -83,7 +83,7 @@ pub record IsOpen (kind : Kind) (hashes : ℕ) (text rest : List ℕ) : Type 0 w
   pub no_closer : (front after : List ℕ) → body ≢ front ++ (code "\"" ∷ (replicate hashes (code "#") ++ after))
   pub text_is : text ≡ replicate hashes (code "#") ++ (code "\"" ∷ (body ++ rest))
 
--- The raw string isn't closed before the rest. The rest begins with a character that passes the test.
+-- A raw string isn't closed before `rest`. `rest` begins with a character that passes the test `test`.
 abbrev pub IsSpoiledBy : Kind → (ℕ → Bool) → List ℕ → List ℕ → Type 0
 IsSpoiledBy kind test text rest = (hashes : ℕ) × IsOpen kind hashes text rest × Begins test rest
 

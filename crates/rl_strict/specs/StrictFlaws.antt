@@ -9,16 +9,16 @@ use Rattle.rl_strict.specs.StrictFlawKinds.{HasStrictQuotedFlaw}
 use Rattle.rl_strict.specs.StrictNumberFlaws.{IsStrictNumberFlaw, IsStrictWordFlaw}
 use Rattle.rl_strict.specs.StrictShapes.{IsToken}
 
--- The flaw's kind describes the error in the text. The error is at the start of `rest`. If the text isn't a quoted literal,
--- the flaw's piece is all of the text.
+-- The kind of flaw describes the error in `text`. The flaw is at `rest`, and the text to show for the flaw begins at
+-- `piece`. If `text` has no opening delimiter, `piece` is all of `text`.
 abbrev pub IsStrictFlawOf : FlawKind → List ℕ → List ℕ → List ℕ → Type 0
 IsStrictFlawOf kind text piece rest =
     HasStrictQuotedFlaw kind text piece rest
     ⊎ (IsTrue (first_passes is_ascii_digit text) × HasKind (IsStrictNumberFlaw kind) text rest × (piece ≡ text))
     ⊎ (HasKind (IsStrictWordFlaw kind) text rest × (piece ≡ text))
 
--- The flaw explains why the text isn't a literal token. The flaw's range is where the longest prefix ends that can be
--- completed to a literal token. The flaw's kind describes the error in the text from the flaw's piece on.
+-- The flaw explains why the text isn't a literal token. The flaw's range begins after the longest prefix that can be
+-- completed to a literal token. The text to show for the flaw begins at `piece`.
 pub record ExplainsStrictly (text : List ℕ) (flaw : Flaw) : Type 0 where
   pub no_token : IsToken text → ⊥
   pub place : IsPlaced IsToken text flaw.lo flaw.hi

@@ -13,11 +13,12 @@ use Rattle.rl_strict.specs.declared.flaws.FlawKind.TheVariants.{Empty, NotALiter
 use Rattle.rl_strict.specs.FlawKinds.{Begins}
 use Rattle.rl_strict.specs.StrictShapes.{IsToken}
 
--- A character that continues only floats after their whole part: a dot, `e` or `E`.
+-- A character that continues the whole part of a decimal number to a float: a dot, `e` or `E`.
 abbrev pub is_float_mark : ℕ → Bool
 is_float_mark c = c == code "." || is_exponent_letter c
 
--- The front is the prefix of a base other than ten, followed by `run`: digits of the base and underscores.
+-- `front` is the prefix of a base other than ten, such as `0x`, followed by `run`. `run` has only digits of the base and
+-- underscores.
 pub record IsBasedRun (base : Base) (run front : List ℕ) : Type 0 where
   pub not_decimal : base ≢ Decimal
   pub each : IsTrue (list_all (is_run_part (is_digit base)) run)
@@ -27,7 +28,8 @@ pub record IsBasedRun (base : Base) (run front : List ℕ) : Type 0 where
 abbrev pub IsStrictFraction : List ℕ → Type 0
 IsStrictFraction fraction = (fraction ≡ []) ⊎ ((digits : List ℕ) × IsDigits digits × (fraction ≡ code "." ∷ digits))
 
--- The front is a whole part, an optional fraction, the letter of an exponent, an optional sign, and underscores.
+-- `front` is the start of a float up to the first digit of its exponent: a whole part, an optional fraction, `e` or `E`, an
+-- optional sign, and underscores. An example is `1.5e-_`.
 pub record EndsInPower (front : List ℕ) : Type 0 where
   pub whole : List ℕ
   pub fraction : List ℕ
@@ -62,14 +64,14 @@ IsDigitFlaw NoExponentDigit front rest =
     × (power.sign ++ power.underscores ≡ [] → IsFalse (first_passes (λ c. is_power_sign (c ∷ [])) rest))
 IsDigitFlaw kind front rest = ⊥
 
--- The flaw of a number. Either the number's digits are missing or invalid (`IsDigitFlaw`), or the front is a number with an
--- optional suffix, and the character after the front can't continue it.
+-- The flaw of a number: its digits are missing or invalid (`IsDigitFlaw`), or the text before the flaw is a number with an
+-- optional suffix, and the next character can't continue it.
 abbrev pub IsStrictNumberFlaw : FlawKind → List ℕ → List ℕ → Type 0
 IsStrictNumberFlaw BadSuffix front rest =
     IsToken front × (rest ≢ []) × ((kind : FlawKind) → IsDigitFlaw kind front rest → ⊥)
 IsStrictNumberFlaw kind front rest = IsDigitFlaw kind front rest
 
--- The text is a prefix of `true` or `false`, or one of them.
+-- The text is `true`, `false`, or a prefix of `true` or `false`.
 pub record BeginsTruth (text : List ℕ) : Type 0 where
   pub truth : Bool
   pub more : List ℕ

@@ -16,7 +16,7 @@ use Rattle.rl_strict.specs.StrictShapes.{IsToken}
 abbrev pub in_128_bits : ℕ → Option ℕ
 in_128_bits n = if nat_le n limit then Some n else None
 
--- The text is an integer of any size with this suffix. `magnitude` is `None` above 128 bits.
+-- The text is an integer of any size with the suffix `suffix`. `magnitude` is `None` above 128 bits.
 abbrev pub IsIntegerRead : List ℕ → Option ℕ → List ℕ → Type 0
 IsIntegerRead text magnitude suffix = (n : ℕ) × Strict text Int (Digits (dec n)) suffix × (magnitude ≡ in_128_bits n)
 
@@ -34,8 +34,8 @@ abbrev pub IsNumberRead : List ℕ → Number → Type 0
 IsNumberRead text (Integer magnitude suffix) = IsIntegerRead text magnitude (chars suffix.now)
 IsNumberRead text (Float suffix) = IsFloatRead text (chars suffix.now)
 
--- The text isn't a literal token. Its longest prefix that can be completed to a literal token ends before the rest. The
--- flaw's kind describes the error there.
+-- `t` isn't a literal token. The flaw is at `rest`: the text before `rest` can be completed to a literal token, and no
+-- longer prefix can. `k` is the kind of flaw in a number.
 pub record IsStop (t : List ℕ) (k : FlawKind) (rest : List ℕ) : Type 0 where
   pub none : IsToken t → ⊥
   pub stops : StopsBefore IsToken t rest

@@ -15,8 +15,8 @@ use Rattle.rl_strict.specs.StrictFlaws.{IsStrictFlawOf}
 use Rattle.rl_strict.specs.StrictNumbersRead.{IsFloatRead, IsIntegerRead}
 use Rattle.rl_strict.specs.StrictShapes.{IsToken}
 
--- The parse result of a literal token. For a quoted literal it is the result of `parse_literal`, which parses by `syn`'s grammar. For
--- a number it is the magnitude, and the byte offset of the suffix. For `true` and `false` it is the `bool`.
+-- The parse result of a literal token. For a quoted literal it is the result of `parse_literal`, which parses by `syn`'s
+-- grammar. For a number it is the magnitude, and the byte offset of the suffix. For `true` and `false` it is the `bool`.
 abbrev pub IsStrictReading : List ℕ → Reading → Type 0
 IsStrictReading text (Text kind body) =
     IsFound text (record { magnitude = 0; body = body; kind = kind; truth = false; unit = 0 })
@@ -42,20 +42,21 @@ IsMinusRead text reading = ⊥
 abbrev pub IsSignedRead : List ℕ → Reading → Type 0
 IsSignedRead text reading = IsStrictReading text reading ⊎ IsMinusRead text reading
 
--- The parse result of a number, with the byte offset of the number's suffix in a text that ends with the suffix.
+-- Converts a parsed number to a parse result with the byte offset of the number's suffix in `text`. `text` ends with the
+-- suffix.
 abbrev pub placed_in : List ℕ → Number → Reading
 placed_in text (AnInteger magnitude suffix) = Integer magnitude (length text - length suffix.now)
 placed_in text (AFloat suffix) = Float (length text - length suffix.now)
 
--- The text isn't a literal token. Its longest prefix that can be completed to a literal token ends before the rest. The
--- flaw's kind describes the error in the text from the flaw's piece on.
+-- `text` isn't a literal token. The flaw is at `rest`: the text before `rest` can be completed to a literal token, and no
+-- longer prefix can. The text to show for the flaw begins at `piece`. `kind` is the kind of flaw.
 pub record IsFlawAt (text : List ℕ) (kind : FlawKind) (piece rest : List ℕ) : Type 0 where
   pub none : IsToken text → ⊥
   pub stops : StopsBefore IsToken text rest
   pub says : IsStrictFlawOf kind text piece rest
 
--- The text after a minus isn't a number. Its longest prefix that can be completed to a number ends before the rest. The
--- flaw's kind describes the error there.
+-- The minus followed by `text` isn't a negative number. The flaw is at `rest`: the minus and the text before `rest` can be
+-- completed to a negative number, and no longer prefix can. `kind` is the kind of flaw.
 pub record IsMinusStop (text : List ℕ) (kind : FlawKind) (rest : List ℕ) : Type 0 where
   pub none : IsSignedToken (code "-" ∷ text) → ⊥
   pub stops : StopsBefore IsSignedToken (code "-" ∷ text) rest

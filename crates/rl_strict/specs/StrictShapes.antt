@@ -44,7 +44,8 @@ pub record ClosesRaw (kind : Kind) (text : List ℕ) : Type 0 where
   pub closes : ClosesInside kind (replicate hashes (code "#")) rest
   pub text_is : text ≡ replicate hashes (code "#") ++ (code "\"" ∷ rest)
 
--- The text after the opening delimiter of a quoted literal of the form and the kind, up to the literal's end.
+-- The text is the end of a quoted literal of the form and the kind, after the opening delimiter. For example, `a"` is the
+-- end of the string `"a"`.
 abbrev pub ClosesForm : QuotedForm → Kind → List ℕ → Type 0
 ClosesForm CookedForm kind text = ClosesUnits kind text
 ClosesForm SingleForm kind text = ClosesUnits kind text

@@ -66,7 +66,7 @@ pub enum FlawKind {
     TooManyHashes,
     /// A string contains a CR.
     CarriageReturn,
-    /// A second closing quote follows the closing quote and the suffix, if there is one.
+    /// Another closing quote follows the closing quote or the suffix, for example `"a"b"`.
     TextAfterQuote,
     /// A raw string has more hashes after its closing quote than before its opening quote.
     ExtraHash,
@@ -206,12 +206,12 @@ impl std::error::Error for Flaw {}
 #[derive(Clone, Copy)]
 pub struct FlawAt<'t> {
     pub kind: FlawKind,
-    /// The text that begins at the flaw's piece: the escape, character, suffix, number or word to show.
+    /// The text that begins with the text to show: an escape, a character, a suffix, a number or a word.
     pub piece: &'t str,
     pub rest: &'t str,
 }
 
-/// Creates a flaw of the kind `kind` whose range and piece begin where `rest` begins.
+/// Creates a flaw of the kind `kind`. The flaw, and the text to show for it, begin where `rest` begins.
 pub fn make_flaw(kind: FlawKind, rest: &str) -> FlawAt<'_>
     ensures { (result.kind ≡ kind) × (result.rest.now ≡ rest.now) × (result.piece.now ≡ rest.now) }
 {
@@ -223,7 +223,7 @@ pub fn make_flaw(kind: FlawKind, rest: &str) -> FlawAt<'_>
 }
 
 impl<'t> FlawAt<'t> {
-    /// Returns the flaw with the text that begins at its piece replaced by `piece`.
+    /// Returns the flaw with its field `piece` replaced by the argument.
     pub fn with_piece(self, piece: &'t str) -> FlawAt<'t>
         ensures { (result.kind ≡ self.entry.kind) × (result.rest.now ≡ self.entry.rest.now)
             × (result.piece.now ≡ piece.now) }

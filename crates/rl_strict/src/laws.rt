@@ -11,8 +11,8 @@ pub fn strict_digits_represent_their_number()
     ensures zero { ZeroIsOneStrictDigit }
 {}
 
-/// A text has at most one flaw that explains why it isn't a literal token: one kind, one piece and one byte range. So
-/// [`explain`](crate::explain) returns the only possible flaw.
+/// A text has at most one flaw that explains why it isn't a literal token: one kind, one byte range, and one range of text
+/// to show. So [`explain`](crate::explain) returns the only possible flaw.
 pub fn a_text_has_one_flaw()
     ensures { ATextHasOneFlaw }
 {}
@@ -29,9 +29,9 @@ pub fn a_text_has_one_value_flaw()
     ensures { ATextHasOneValueFlaw }
 {}
 
-/// A literal token, with a minus before it if it is a number, parses by `syn`'s grammar or is an integer above 128 bits. So if
-/// a text doesn't parse, [`explain_value`](crate::explain_value) returns a reason, unless the text is a float only by its
-/// suffix ([`is_float_by_suffix`](crate::is_float_by_suffix)).
+/// A literal token, or a minus and a number, parses by `syn`'s grammar or is an integer above 128 bits. So if a text doesn't
+/// parse, [`explain_value`](crate::explain_value) returns a reason, unless the text is a float only by its suffix
+/// ([`is_float_by_suffix`](crate::is_float_by_suffix)).
 pub fn a_strict_literal_is_a_syn_literal_or_above_128_bits()
     ensures either { ATokenReadsOrIsPastTheLimit }
     ensures unread { AnUnreadTokenIsPastTheLimit }
@@ -44,9 +44,9 @@ pub fn a_bad_quote_is_not_a_literal()
     ensures token { ABadQuoteIsNoToken }
 {}
 
-/// A literal's text in a file, where rustc reads CR LF as LF, has at most one flaw that explains why it isn't a literal token.
-/// Each byte offset in the text as rustc reads it is one byte offset in the file. [`read`](crate::read) with `LineEnds::File`
-/// returns this flaw.
+/// A literal's text in a file, where rustc reads CR LF as LF, has at most one flaw that explains why it isn't a literal
+/// token. Each byte offset in the text as rustc reads it corresponds to one byte offset in the file. [`read`](crate::read)
+/// with `LineEnds::File` returns this flaw.
 pub fn a_text_in_a_file_has_one_flaw()
     ensures { ATextInAFileHasOneFlaw }
 {}

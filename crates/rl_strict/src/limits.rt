@@ -38,8 +38,8 @@ pub fn is_float_by_suffix(text: &str) -> bool
     }
 }
 
-/// Returns the flaw of an integer above 128 bits, whose suffix begins at the byte offset `suffix_at`. The piece begins at the
-/// start of `text`.
+/// Returns the flaw of an integer above 128 bits, whose suffix begins at the byte offset `suffix_at`. The text to show for
+/// the flaw begins at the start of `text`.
 pub fn limit_flaw(text: &str, suffix_at: usize) -> Flaw
     requires boundary { IsCharBoundary text.now suffix_at }
     requires past { (past : IsPast (chars text.now)) × (past.suffix ≡ chars (drop suffix_at text.now)) }

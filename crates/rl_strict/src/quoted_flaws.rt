@@ -40,14 +40,14 @@ fn hex_flaw(kind: Kind, text: &str) -> FlawAt<'_>
     }
 }
 
-/// Whether a literal of the kind `kind` can contain the character with the number `code`.
+/// Whether a literal of the kind `kind` can contain the character with the code point `code`.
 fn is_code(kind: Kind, code: u32) -> bool
     ensures { result ≡ is_code kind code }
 {
     char::from_u32(code).is_some() && allows_code(kind, code)
 }
 
-/// Returns the reason why a literal can't contain the character with the number `code`.
+/// Returns the reason why a literal can't contain the character with the code point `code`.
 fn code_flaw(code: u32) -> FlawKind
     ensures { result ≡ code_flaw_of code }
 {
@@ -60,7 +60,8 @@ fn code_flaw(code: u32) -> FlawKind
     }
 }
 
-/// Returns the flaw of the number that the digits of `\u{..}` represent, or the first flaw after the digits.
+/// Returns the flaw of a `\u{..}` escape with the digits `digits`: a flaw of the code point that they represent, or the
+/// first flaw after them.
 fn digits_flaw(kind: Kind, text: &str, digits: CodeDigits) -> FlawAt<'_>
     requires last { IsCharBoundary text.now digits.last }
     requires end { IsCharBoundary text.now digits.end }

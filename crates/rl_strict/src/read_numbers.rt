@@ -81,7 +81,7 @@ fn read_suffix(text: &str) -> Result<&str, Stop<'_>>
     if text.is_empty() {
         return Ok(text);
     }
-    // Most suffixes are ASCII words, and this test is compiled without a call.
+    // Most suffixes are ASCII words, and `is_ascii_word` is inlined.
     if is_ascii_word(text) {
         return Ok(text);
     }
@@ -159,7 +159,7 @@ fn read_fraction(text: &str) -> Result<&str, Stop<'_>>
     }
 }
 
-/// Parses the rest of a decimal number whose whole part is `run`.
+/// Parses a decimal number from the end of its whole part `run` on.
 #[inline(always)]
 #[tactic(auto, using(rl_syntax::proofs::TailLemmas::ok_tail, rl_syntax::proofs::TailLemmas::tail_step, rl_syntax::proofs::TailLemmas::tail_self), unfolding(crate::specs::Mirrors::NumberRead::whole_read_at))]
 fn read_whole(run: DigitRun<'_>) -> Result<Number<'_>, Stop<'_>>
@@ -173,7 +173,7 @@ fn read_whole(run: DigitRun<'_>) -> Result<Number<'_>, Stop<'_>>
     }
 }
 
-/// Whether the text continues a number as only a float does: with a dot, `e` or `E`.
+/// Whether the text begins with a character that only floats have after their whole part: a dot, `e` or `E`.
 pub fn begins_float(text: &str) -> bool
     ensures { result ≡ first_passes is_float_mark (chars text.now) }
 {

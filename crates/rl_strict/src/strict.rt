@@ -31,7 +31,8 @@ pub fn is_raw_character(kind: Kind, c: char) -> bool
     }
 }
 
-/// Returns the text after a raw string's closing delimiter, if the delimiter is `c` and the hashes at the beginning of `after`.
+/// Returns the text after a raw string's closing delimiter. The result is `None` if `c` and the first characters of `after`
+/// aren't the closing delimiter, `"` and the hashes `hashes`.
 pub fn after_closer<'t>(hashes: &str, c: char, after: &'t str) -> Option<&'t str>
     ensures some { IfSome result
         (λ r. (c ≡ code "\"") × (chars after.now ≡ chars hashes.now ++ chars r.now)) }
@@ -45,8 +46,8 @@ pub fn after_closer<'t>(hashes: &str, c: char, after: &'t str) -> Option<&'t str
     }
 }
 
-/// Returns the text after the characters at its beginning that a raw string of the kind `kind` may contain and that aren't a
-/// quote.
+/// Skips all characters at the beginning of the text that a raw string of the kind `kind` may contain, except quotes, and
+/// returns the text after them.
 #[inline(always)]
 pub fn skip_raw_characters(kind: Kind, text: &str) -> &str
     ensures run { (run : List ℕ) × (chars text.now ≡ run ++ chars result.now)

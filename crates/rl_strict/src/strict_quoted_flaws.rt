@@ -77,7 +77,7 @@ pub fn raw_character_flaw(kind: Kind, c: char) -> FlawKind
     }
 }
 
-/// Returns the text after the hashes at its beginning, but skips at most 255 of them.
+/// Skips at most 255 hashes at the beginning of the text, and returns the text after them.
 pub fn skip_allowed_hashes(text: &str) -> &str
     ensures hashes { (n : ℕ) × (n ≤ 255) × (chars text.now ≡ replicate n (code "#") ++ chars result.now)
         × (n < 255 → IsFalse (first_passes is_hash (chars result.now))) }

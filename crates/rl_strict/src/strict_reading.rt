@@ -51,15 +51,16 @@ pub enum Reading {
 /// How a text begins. The first bytes identify most literals, and the function that parses each of them.
 #[derive(Clone, Copy)]
 pub enum Front<'t> {
-    /// The text begins with `"`, and this is the text after it. [`read_string`] parses the text.
+    /// The text begins with `"`, and this field is the text after the `"`. [`read_string`] parses the text.
     Quote(&'t str),
     /// The text is this ASCII character, unescaped, between single quotes, for example `'a'`.
     Bare(u8),
-    /// The text begins with `'`, and this is the text after it. [`read_character`] parses the text.
+    /// The text begins with `'`, and this field is the text after the `'`. [`read_character`] parses the text.
     Apostrophe(&'t str),
     /// The text begins with a digit. [`read_unsigned_number`] parses the text.
     Digit,
-    /// The text begins otherwise. [`read_non_digit_start`] parses the text.
+    /// The text is empty, or begins with a character other than a quote and a digit. [`read_non_digit_start`] parses the
+    /// text.
     Other,
 }
 
@@ -205,8 +206,8 @@ fn read_rare(ends: LineEnds, text: &str) -> Result<Reading, FlawAt<'_>>
     }
 }
 
-/// Parses the text as a literal token. The error is the flaw, with the text that begins at the flaw and the text that begins at
-/// the flaw's piece. The caller converts these texts to byte offsets.
+/// Parses the text as a literal token. The error contains the kind of flaw, the text that begins at the flaw, and the text
+/// that begins with the text to show. The caller converts the two texts to byte offsets.
 #[inline(always)]
 fn read_at(ends: LineEnds, text: &str) -> Result<Reading, FlawAt<'_>>
     ensures reads { IfOk result (IsReadingOf ends false text.now) }
@@ -249,9 +250,9 @@ fn after_minus(signed: bool, text: &str) -> Option<&str>
     if signed { strip_byte(text, b'-') } else { None }
 }
 
-/// Parses the text as a literal token, or as a minus and a number if `signed` is true. The error is the flaw, with
-/// the text that begins at the flaw and the text that begins at the flaw's piece. The caller converts these texts to byte
-/// offsets.
+/// Parses the text as a literal token, or as a minus and a number if `signed` is true. The error contains the kind of flaw,
+/// the text that begins at the flaw, and the text that begins with the text to show. The caller converts the two texts to
+/// byte offsets.
 #[inline(always)]
 fn signed_at(text: &str, ends: LineEnds, signed: bool) -> Result<Reading, FlawAt<'_>>
     ensures reads { IfOk result (IsReadingOf ends signed text.now) }
@@ -270,7 +271,7 @@ fn signed_at(text: &str, ends: LineEnds, signed: bool) -> Result<Reading, FlawAt
     }
 }
 
-/// Returns the text after its first character, or an empty text. In a file a CR LF is one character.
+/// Returns `text` without its first character, or an empty text if `text` is empty. In a file, a CR LF is one character.
 #[tactic(auto, using(rl_syntax::proofs::TailLemmas::tail_step, rl_syntax::proofs::TailLemmas::tail_self))]
 pub fn skip_first_char(ends: LineEnds, text: &str) -> &str
     ensures rest { IsRestOf ends (chars text.now) (chars result.now) }

@@ -37,7 +37,7 @@ cased_value case c =
     low (Some Upper) c a = agree_below_at (λ c. digit_value (upper_case c) == digit_value c) (λ c. true) 128 c refl a
     low (Some Lower) c a = agree_below_at (λ c. digit_value (lower_case c) == digit_value c) (λ c. true) 128 c refl a
 
--- An underscore isn't changed by a change of case.
+-- A change of case doesn't change underscores.
 pub cased_underscore : (case : Option Case) (c : ℕ) → (cased case c == 95) ≡ (c == 95)
 cased_underscore case c =
     elim (cases_lt c 128) [
@@ -144,8 +144,8 @@ scalars_cased case (c ∷ cs) h =
     and_from (scalar (cased case c)) (scalars (map (cased case) cs)) (cased_scalar case c p.0)
     (scalars_cased case cs p.1)
 
--- If the code appends one more character in the given case, the written text is the longer sequence of characters in this
--- case.
+-- The code has written the characters `xs` in the given case. If it then writes the character `c` in this case, it has
+-- written `xs` and `c` in this case.
 pub cased_more : (case : Option Case) (p a b xs : List ℕ) (c : ℕ) → a ≡ p ++ encode_utf8_all (map (cased case) xs) → b
     ≡ a ++ encode_utf8 (cased case c) → b ≡ p ++ encode_utf8_all (map (cased case) (xs ++ (c ∷ [])))
 cased_more case p a b xs c e h =

@@ -1,4 +1,5 @@
--- If the digits of a `\u{..}` escape lose their underscores and leading zeros, they still represent the old number.
+-- If the digits of a `\u{..}` escape lose their underscores and leading zeros, they still represent the old number:
+-- `\u{00_e9}` and `\u{e9}` are equal.
 use Rattle.rl_syntax.proofs.Common.{◌≡◌, ℕ, zero, suc, ◌<◌, ◌≤◌, ◌+◌, ◌*◌, ◌^◌, ◌||◌, ◌&&◌, Bool, true, false, not, ◌==◌, cond, nat_le, List, [], ◌∷◌, ◌++◌, length, map, replicate, refl, sym, ap, ◌∙◌, inl, inr, arith, append_assoc, append-nil, encode_utf8, encode_utf8_all, and_from, and_parts, or_from, eqb-true, cases_lt, agree_below_at, is_ascii_hexdigit, all_scalars, list_all, flat_map, Some, None}
 use Rattle.std.specs.Prelude.{Option}
 use Rattle.std.proofs.lemmas.Bool.{le-leb, leb-true}
@@ -205,7 +206,8 @@ bare_text (d ∷ ds) h =
     ∙ ap (λ b. cond (not b) (d.0 ∷ without_underscores rest) (without_underscores rest)) (not_code d.0 95 p.0 refl)
     ∙ ap (λ z. d.0 ∷ z) (under_bare d.1 (closed ds) ∙ bare_text ds p.1)
 
--- If the first digit of an escape isn't a zero, dropping its leading zeros and underscores only drops the underscores.
+-- If the first digit of a `\u{..}` escape isn't a zero, the fewest digits are all digits, without the underscores between
+-- them.
 other_text : (d : ℕ × ℕ) (ds : List (ℕ × ℕ)) → (d.0 == 48) ≡ false → list_all hex_of (d ∷ ds) ≡ true
     → fewest_digits (d ∷ ds) ≡ map bare_digit (d ∷ ds)
 other_text d [] z h = refl
@@ -217,8 +219,8 @@ is_other c z h = or_from (c == 48) (c == 95) z (not_code c 95 h refl)
 is_pad : (c : ℕ) → (c == 48) ≡ true → is_padding c ≡ true
 is_pad c z = ap (λ b. b || c == 95) z
 
--- If the first digit is a zero, the text after it without leading zeros and underscores is the text of the fewest digits. If
--- no digit remains, a zero is written.
+-- The first digit of a `\u{..}` escape is a zero. If leading zeros and underscores are dropped from the text after this
+-- digit, the text of the fewest digits remains. If no digit remains, a zero is written.
 zero_text : (d : ℕ × ℕ) (ds : List (ℕ × ℕ)) → (d.0 == 48) ≡ true → list_all hex_of ds ≡ true
     → without_underscores (zero_closed (after_run is_padding (closed ds))) ≡ closed (fewest_digits (d ∷ ds))
 zero_text d [] z h = ap (λ c. c ∷ 125 ∷ []) (sym (eqb-true d.0 48 z))
@@ -270,8 +272,8 @@ fewest_is (d ∷ ds) h = go (d.0 == 48) refl
 
 -- ---- the loop that writes the digits
 
--- If the code appends one more character that isn't an underscore, in the given case, the written text is the longer sequence
--- of characters, without underscores and in this case.
+-- The code has written the characters `xs` in the given case, without underscores. If it then writes the character `c` in
+-- this case, it has written `xs` and `c` in this way. The character `c` isn't an underscore.
 pub bare_more : (case : Option Case) (p a b xs : List ℕ) (c : ℕ) → a
     ≡ p ++ encode_utf8_all (map (cased case) (without_underscores xs)) → (c == 95) ≡ false
     → b ≡ a ++ encode_utf8 (cased case c)

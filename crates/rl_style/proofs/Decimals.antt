@@ -1,5 +1,5 @@
--- A new decimal number has the first digit and the suffix of the old one, and a fraction and an exponent if the old one has
--- them. Each text that may follow the old number may also follow the new one.
+-- A new decimal number has the first digit and the suffix of the old one. The new number has a fraction if the old one has
+-- one, and an exponent if the old one has one. Each text that may follow the old number may also follow the new one.
 use Rattle.rl_syntax.proofs.Common.{◌≡◌, ℕ, ◌<◌, inl, inr, Bool, true, false, not, ◌&&◌, ◌||◌, ◌==◌, List, [], ◌∷◌, ◌++◌, replicate, refl, sym, ◌∙◌, ap, subst, arith, nat_tests, lit<, append_assoc, and_parts, list_all, is_ascii_alphabetic, is_ascii_digit}
 use Rattle.rl_syntax.proofs.Basics.{false_unless}
 use Rattle.rl_syntax.specs.Texts.{is_white, first_passes, is_run_part, is_start}
@@ -41,7 +41,8 @@ tail_ends NoLexedFraction NoLexedExponent more u run fraction power = run.ends
 tail_ends (LexedDot ds) NoLexedExponent more u run (begins, digits) power = digits.ends
 tail_ends f (LexedPower letter s n d ds) more u run fraction (il, id, digits) = digits.ends
 
--- If a test fails for `e`, for `E` and for the text after an exponent, it fails for the text that begins with the exponent.
+-- A text consists of an optional exponent, and of the text `u` after it. If `e`, `E` and the first character of `u` fail a
+-- test, the first character of the whole text fails it.
 power_first : (test : ℕ → Bool) (e p : LexedExponent) (u : List ℕ) → SamePower e p → test 101 ≡ false → test 69 ≡ false
     → first_passes test u ≡ false → first_passes test (lexed_exponent_text p ++ u) ≡ false
 power_first test NoLexedExponent NoLexedExponent u same a b h = h

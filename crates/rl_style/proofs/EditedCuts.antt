@@ -18,8 +18,8 @@ use Rattle.rl_style.proofs.WholeSource.{Preamble, preamble}
 
 -- ---- one token after another is rewritten
 
--- The tokens of the new text, after the edits of the old text. Both texts follow the text `lead`. Each token of `lead` that is
--- lexed before the old text is also lexed before the new one.
+-- The tokens of the new text, after the edits of the old text. If the new text replaces the old text after the text `lead`,
+-- the token at the end of `lead` is lexed as before.
 record Made (lead : List ℕ) (at : ℕ) (old new : List ℕ) (cuts : List CutSource) (edits : List (Option (List ℕ)))
     (r : List ℕ) : Type 0 where
   tokens : List CutSource
@@ -27,8 +27,8 @@ record Made (lead : List ℕ) (at : ℕ) (old new : List ℕ) (cuts : List CutSo
   are_cuts : SourcesUpTo at new tokens r
   alike : Alike lead old new
 
--- The token after an edit, in place of an old token. It is a token before the new text `new_after`. The old token follows the
--- text `lead`.
+-- The token that an edit puts in place of an old token, which follows the text `lead`. The text `new_after` follows the new
+-- token. The token at the end of `lead` is lexed as before.
 record Put (lead : List ℕ) (e : Option (List ℕ)) (token : SourceLexeme) (after new_after : List ℕ) : Type 0 where
   new : SourceLexeme
   is_token : IsTokenOf e token new
@@ -36,7 +36,7 @@ record Put (lead : List ℕ) (e : Option (List ℕ)) (token : SourceLexeme) (aft
   proper : IsProper new new_after
   alike : Alike lead (source_text token ++ after) (source_text new ++ new_after)
 
--- If an edit gives a token a new text, the token is a literal, and the new text is this literal in the style. The text `lead`
+-- The edit of a token is `None`, or the token is a literal and the edit is its new text in the style. The text `lead`
 -- precedes the token.
 abbrev IsWritten : Style → List ℕ → SourceLexeme → Option (List ℕ) → Type 0
 IsWritten style lead token None = Unit {0}
@@ -96,8 +96,8 @@ one_more lead e es at w ws front old new after new_after inner r old_is new_is p
           (alike_more lead front (source_text w.token ++ after) (s ++ new_after) p.alike));
     }
 
--- Two definitions state that the new text of a token is in the style: one by the token's offset in the whole text, and one by
--- the text before the token. If the new text satisfies the first definition, it satisfies the second one.
+-- The definition `IsInStyle` uses a token's byte offset in the whole text, and `IsWritten` uses the text before the token. If
+-- an edit satisfies `IsInStyle`, it satisfies `IsWritten`.
 is_written : (style : Style) (from : ℕ) (whole front rest : List ℕ) (w : CutSource) (e : Option (List ℕ))
     → whole ≡ front ++ (source_text w.token ++ rest) → w.at ≡ from + byte_len front → IsInStyle style from whole w e
     → IsWritten style front w.token e

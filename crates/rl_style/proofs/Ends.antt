@@ -1,5 +1,5 @@
--- If a new literal is well formed, and has the kind, the prefix and the suffix of the old one, as `SameEnds` states, each text
--- that may follow the old literal may also follow the new one. Both literals begin alike.
+-- If a new literal has the kind, the prefix and the suffix of the old one (`SameEnds`), each text that may follow the old
+-- literal may also follow the new literal. Both literals begin alike.
 use Rattle.rl_syntax.proofs.Common.{◌≡◌, ◌≢◌, ℕ, inl, inr, Bool, true, false, ◌||◌, ◌==◌, List, [], ◌∷◌, ◌++◌, refl, sym, ◌∙◌, ap, subst, replicate, codes, list_all, is_ascii_digit}
 use Rattle.rl_syntax.specs.Texts.{is_among, is_continue}
 use Rattle.rl_lexer.specs.Lexemes.{BeginsHashedQuote, BodyPart, body_text, CharacterBody, character_body_text, LiteralPrefix, NoPrefix, BytePrefix, CPrefix, Lexeme, QuotedLexeme, RawLexeme, CharacterLexeme, BasedLexeme, DecimalLexeme, LexedFraction, lexed_fraction_text, LexedExponent, lexed_exponent_text, lexeme_text, IsLexeme}
@@ -82,7 +82,7 @@ unraw_front BytePrefix some n body parts x y z = alike [] 98 (114 ∷ raw_rest n
 unraw_front CPrefix some n body parts x y z = alike [] 99 (114 ∷ raw_rest n body x y)
     (34 ∷ (body_text parts ++ 34 ∷ x ++ z)) refl (not_r 99 refl)
 
--- The new literal `m` is a literal before the text `after`, and begins as the old literal `l` does.
+-- Before the text `after`, the new literal `m` is one token, and begins as the old literal `l` does.
 abbrev Keeps : Lexeme → List ℕ → Lexeme → Type 0
 Keeps l after m = IsLexeme m after × SameFront (lexeme_text l ++ after) (lexeme_text m ++ after)
 
@@ -90,8 +90,7 @@ based_row : (letter : ℕ) (digits new after : List ℕ) → list_all is_continu
     → IsLexeme (BasedLexeme letter digits) after → IsLexeme (BasedLexeme letter new) after
 based_row letter digits new after is (l, run) = (l, record { each = is; ends = run.ends })
 
--- Two literals `a` and `b` are equal to `l` and `m`. If `b` is a literal before the text `after` and begins as `a` does, then
--- `m` is a literal before this text and begins as `l` does.
+-- If the relation `Keeps` holds for two literals, it also holds for literals that are equal to them.
 named : (l m a b : Lexeme) (after : List ℕ) → l ≡ a → m ≡ b → Keeps a after b → Keeps l after m
 named l m a b after e f is = subst (λ (z : Lexeme). Keeps z after m) (sym e)
     (subst (λ (z : Lexeme). Keeps a after z) (sym f) is)

@@ -161,8 +161,8 @@ shape_of numeral x (inr (inr a)) = PowerShape
 abbrev pub Groups : ℕ → ℕ → Bool → List ℕ → List ℕ
 Groups size least from_first run = regrouped from_first size least run
 
--- A text consists of digits and underscores, and of a rest that begins with neither. Then the digits at its start are all of
--- these digits and underscores, and the text after them is the rest.
+-- The text `run` consists of digits and underscores, and the text `x` begins with neither. At the start of `run ++ x`, the
+-- digits and underscores are exactly `run`, and `x` follows them.
 digits_past : (run x : List ℕ) → list_all (is_run_part is_ascii_digit) run ≡ true
     → first_passes (is_run_part is_ascii_digit) x ≡ false
     → (digit_run (run ++ x) ≡ run) × (after_run (is_run_part is_ascii_digit) (run ++ x) ≡ x)
@@ -201,7 +201,7 @@ pub at_dot : (f : ℕ → List ℕ) (closes : Bool) (size least : ℕ) (numeral 
     ≡ Groups size least false (flat_map f d) ++ (46 ∷ Closing closes)
 at_dot f closes size least numeral d h e = numeral_at f closes size least numeral d (46 ∷ []) h refl e
 
--- If digits follow the dot, no zero is added.
+-- If digits follow the dot of a float, the style adds no zero.
 dot_some : (f : ℕ → List ℕ) (closes : Bool) (g : List ℕ → List ℕ) (z e : List ℕ) → IsDigits z
     → after_dot closes f g (z ++ e)
     ≡ g (flat_map f (digit_run (z ++ e))) ++ flat_map f (after_run (is_run_part is_ascii_digit) (z ++ e))
@@ -277,7 +277,8 @@ pub record Numeral (numeral x : List ℕ) (shape : FloatShape) : Type 0 where
   pub form : FloatForm numeral x
   pub same_shape : shape_of numeral x form ≡ shape
 
--- Digits that are rewritten and then divided into groups are still a digit followed by digits and underscores.
+-- If a sequence of digits is rewritten, and then divided into groups, the result is still a digit and further digits and
+-- underscores.
 pub row_is : (drops plus : Bool) (digits letter : Option Case) (from_first : Bool) (size least : ℕ) (d : List ℕ)
     → IsDigits d
     → IsDigits (Groups size least from_first (flat_map (becomes drops false plus digits letter) d))

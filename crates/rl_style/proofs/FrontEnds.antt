@@ -25,7 +25,7 @@ last_join [] y ys = refl
 last_join (x ∷ []) y ys = refl
 last_join (x ∷ z ∷ xs) y ys = last_join (z ∷ xs) y ys
 
--- The bytes of a character. The last byte is `#` or `.` if and only if the character is `#` or `.`.
+-- The UTF-8 bytes of the character `c`: `first`, and the others. The last byte is `#` or `.` if and only if the character is.
 record Bytes (c : ℕ) : Type 0 where
   first : ℕ
   more : List ℕ
@@ -60,7 +60,7 @@ ends_so c (d ∷ cs) =
     ∙ sym (ap (λ z. last_byte (encode_utf8 c ++ z)) rest ∙ last_join (encode_utf8 c) b.first (b.more
     ++ encode_utf8_all cs)))
 
--- A nonempty text may precede a quote if and only if its last byte is neither `#` nor `.`.
+-- A nonempty text satisfies `may_precede_quote` if and only if its last byte is neither `#` nor `.`.
 pub ends_by_byte : (t : List ℕ) → IsUtf8 t → 1 ≤ length t
     → may_precede_quote (chars t) ≡ not (is_end (get_or t (length t - 1) 0))
 ends_by_byte t u some = go (chars t) (encodes-chars t u)
@@ -69,7 +69,7 @@ ends_by_byte t u some = go (chars t) (encodes-chars t u)
     go [] e = let n : 0 ≡ length t = ap length e in absurd (omega (arith, n, some))
     go (c ∷ cs) e = ends_so c cs ∙ ap (λ z. not (is_end z)) (ap last_byte e ∙ sym (last_is t))
 
--- An empty text may precede a quote.
+-- The empty text satisfies `may_precede_quote`.
 pub empty_ends : (t : List ℕ) → length t < 1 → true ≡ may_precede_quote (chars t)
 unfolding chars
 empty_ends [] h = refl

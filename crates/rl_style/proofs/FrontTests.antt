@@ -1,4 +1,5 @@
--- Two texts that begin alike up to a literal's first character give equal results in the lexer's tests.
+-- The old and the new text begin alike up to a literal's first character. Each of the lexer's tests has equal results for
+-- both texts.
 use Rattle.rl_syntax.proofs.Common.{◌≡◌, ℕ, ◌<◌, Bool, true, false, not, ◌&&◌, ◌||◌, ◌==◌, cond, List, [], ◌∷◌, ◌++◌, drop, refl, sym, ◌∙◌, ap, subst, inl, inr, append_assoc, arith, nat_tests, or_from, codes, agree_below_at, is_ascii_digit, is_ascii_alphanumeric, is_xid_continue-ascii}
 use Rattle.rl_syntax.specs.Texts.{is_underscore, is_white, is_among, first_passes, begins, is_run_part, is_start, is_continue, begins_char}
 use Rattle.rl_syntax.specs.Classes.{is_hash, after_run}
@@ -81,7 +82,7 @@ new_is_head h k (inr (a, b)) is = ap (λ z. is_among (codes "\"'rbc") k || z) b 
     or_true true = refl
     or_true false = refl
 
--- If two texts begin alike, they also begin alike after one text is put before both.
+-- Two texts that begin alike still begin alike if one text `s` is put before both.
 pub front_more : (s a b : List ℕ) → SameFront a b → SameFront (s ++ a) (s ++ b)
 front_more s a b f = record {
   front = s ++ f.front;
@@ -104,11 +105,11 @@ record Heads (h k : ℕ) (x y : List ℕ) : Type 0 where
   new_is : is_head k ≡ true
   raw : (h == 114) ≡ true → begins_hashed_quote x ≡ begins_hashed_quote y
 
--- A character that can't begin a literal is neither the first character of the old literal nor that of the new one.
+-- A character that can't begin a literal is the first character of neither the old nor the new literal.
 other_heads : (h k n : ℕ) (x y : List ℕ) → Heads h k x y → is_head n ≡ false → ((h == n) ≡ false) × ((k == n) ≡ false)
 other_heads h k n x y s other = (other_head h n s.old_is other, other_head k n s.new_is other)
 
--- A test of texts has equal results for two texts that begin alike.
+-- The test `f` has equal results for any two texts that begin alike.
 abbrev Agrees : (List ℕ → Bool) → Type 0
 Agrees f = (front : List ℕ) (h k : ℕ) (x y : List ℕ) → Heads h k x y → f (front ++ (h ∷ x)) ≡ f (front ++ (k ∷ y))
 
@@ -135,7 +136,7 @@ pub same_first : (test : ℕ → Bool) → OnDigits test → (a b : List ℕ) �
     → first_passes test a ≡ first_passes test b
 same_first test on a b s = both (first_passes test) (first_agrees test on) a b s
 
--- ---- a test of the text after a sequence of characters has one result for the old and the new text
+-- ---- tests of the text after a sequence of characters have equal results for the old and the new text
 
 run_agrees : (run test : ℕ → Bool) (front : List ℕ) (h k : ℕ) (x y : List ℕ) → run h ≡ false → run k ≡ false
     → test h ≡ test k

@@ -51,7 +51,6 @@ bare_all test (c ∷ cs) h =
     go true k more = and_from (test c) (list_all test (without_underscores cs)) k more
     go false k more = more
 
--- If underscores fail a test, each character that is an underscore fails it.
 under_fails : (test : ℕ → Bool) (c : ℕ) → test 95 ≡ false → other c ≡ false → test c ≡ false
 under_fails test c n h = ap test (eq h) ∙ n
   where
@@ -193,7 +192,7 @@ pub row_some : (p test : ℕ → Bool) (run : List ℕ) → p 95 ≡ false → l
 row_some p test run n h = any_left p (spaced test (without_underscores run)) (ending run)
     (spaced_any p test (without_underscores run) n ∙ bare_any p run n ∙ h)
 
--- If a sequence of digits doesn't begin with an underscore, it has its old first character after it is divided into groups.
+-- If a sequence of digits doesn't begin with an underscore, the division into groups doesn't change its first character.
 pub row_first : (test : ℕ → Bool) (c : ℕ) (cs : List ℕ) → (c == 95) ≡ false
     → row_spaced test (c ∷ cs)
     ≡ c ∷ ((mark (test (length (without_underscores cs))) ++ spaced test (without_underscores cs)) ++ ending cs)

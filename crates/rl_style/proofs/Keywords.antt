@@ -8,7 +8,7 @@ pub keyword : (word known : List ℕ) → word ≡ known → list_any (bytes_eq 
 unfolding is_keyword
 keyword word known same h = sym (ap (λ z. list_any (bytes_eq z) keywords) same ∙ h)
 
--- If an identifier differs from each known word, the search among the known words returns `false`.
+-- If an identifier differs from each word of a list, the search for the identifier in the list returns `false`.
 none_of : (word : List ℕ) (known : List (List ℕ)) → AllByRecursion (λ w. word ≢ w) known
     → list_any (bytes_eq word) known ≡ false
 none_of word [] all = refl

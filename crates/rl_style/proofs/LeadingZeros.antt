@@ -65,8 +65,8 @@ first_digit test c h n =
       | inr a ↦ absurd (both_ways (c == 95) (or_parts (c == 48) (c == 95) n).1 a)
     ]
 
--- If zeros and underscores fail a test, a sequence contains a character that passes it if and only if the sequence without its
--- leading zeros does.
+-- If zeros and underscores fail a test, leading zeros don't matter for it: a sequence of digits contains a character that
+-- passes the test if and only if the sequence without its leading zeros does.
 after_any : (test : ℕ → Bool) (run : List ℕ) → test 48 ≡ false → test 95 ≡ false
     → list_any test (after_run is_padding run) ≡ list_any test run
 after_any test [] z u = refl

@@ -1,4 +1,4 @@
--- The lexer ends a literal token according to the text after the token.
+-- The text after a literal token decides where the lexer ends the token.
 use Rattle.rl_syntax.proofs.Common.{◌≡◌, ℕ, ◌<◌, ◌≤◌, suc, ◌⊎◌, inl, inr, Bool, true, false, not, ◌&&◌, ◌||◌, ◌==◌, cond, List, [], ◌∷◌, ◌++◌, length, Option, Some, None, drop, replicate, refl, sym, ◌∙◌, ap, subst, arith, append_assoc, lit<, and_parts, and_from, or_cases, eqb-true, nat_lt, digit_value, list_all, list_any, is_ascii_digit, is_xid_continue, option_map}
 use Rattle.rl_syntax.specs.Texts.{is_underscore, is_white, first_passes, is_run_part, is_start, is_continue, begins_char}
 use Rattle.rl_syntax.specs.Classes.{after_run}
@@ -31,7 +31,7 @@ run_shorter test (c ∷ t) = go (test c) (run_shorter test t)
     go true h = omega (arith, h)
     go false h = omega arith
 
--- The text after a sequence of characters isn't longer than the text that begins with this sequence.
+-- If characters at the start of a text are skipped, the text after them isn't longer than the whole text.
 no_longer : (test : ℕ → Bool) (c : ℕ) (t : List ℕ) → after_run test t ≡ c ∷ t → ⊥
 no_longer test c t e =
     let same : length (after_run test t) ≡ suc (length t) = ap length e in
@@ -136,7 +136,7 @@ not_based d (c ∷ u) h = go (d == 48) (c == 98) (c == 111) (c == 120) h
 letter_taken : (k : ℕ) (t : List ℕ) → is_start k ≡ true → after_suffix (k ∷ t) ≡ k ∷ t → ⊥
 letter_taken k t is h = no_longer is_continue k t (sym (ap (λ b. cond b (after_run is_continue t) (k ∷ t)) is) ∙ h)
 
--- If the lexer ends a decimal number at the start of a text, the text doesn't begin with the letter of a base.
+-- If the lexer's parser of decimal numbers consumes nothing of a text, the text doesn't begin with the letter of a base.
 base_taken : (c : ℕ) (t : List ℕ) → is_base_letter c ≡ true → after_decimal (c ∷ t) ≡ c ∷ t → ⊥
 base_taken c t is h = go (c == 120) (c == 111) refl refl is
   where
@@ -152,7 +152,8 @@ no_base_after : (y : List ℕ) → after_decimal y ≡ y → first_passes is_bas
 no_base_after [] h = refl
 no_base_after (c ∷ t) h = false_unless (is_base_letter c) (λ is. base_taken c t is h)
 
--- Whether the digit `d` and the text `u` after it begin with the prefix of a base, for example `0x`.
+-- Whether a text begins with the prefix of a base, such as `0x`. The text consists of the digit `d` and the text `u` after
+-- it.
 abbrev turns : ℕ → List ℕ → Bool
 turns d u = d == 48 && first_passes is_base_letter u
 
@@ -224,7 +225,7 @@ letter_fails test c lower upper h =
       | inr a ↦ subst (λ (x : ℕ). test x ≡ false) (sym (eqb-true c 69 a)) upper
     ]
 
--- If a sequence of digits and underscores contains a digit, it begins with a digit after its leading underscores.
+-- If a sequence of digits and underscores contains a digit, a digit follows its leading underscores.
 row_digit : (row w : List ℕ) → list_all is_part row ≡ true → list_any is_ascii_digit row ≡ true
     → first_passes is_ascii_digit (after_run is_underscore (row ++ w)) ≡ true
 row_digit [] w each some = absurd (cc)

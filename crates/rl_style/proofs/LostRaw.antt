@@ -163,7 +163,8 @@ lost_stays style front t u c = cooked_stays style (escaped_text c.kind c.raw.ins
 
 -- ---- the text that the code writes for a raw string
 
--- The quote that would close the string keeps its backslash.
+-- In a string with escapes that replaces a raw string, each double quote keeps its backslash, since it would close the
+-- string.
 quote_kept : (style : Style) (k : Kind) (z : Bool) (c : ℕ) → is_string k ≡ true → (c == 34) ≡ true
     → 92 ∷ c ∷ [] ≡ strict_text (restyled style k z (QuoteEscape c))
 quote_kept style k z c s e = go k s

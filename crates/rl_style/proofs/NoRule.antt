@@ -139,7 +139,7 @@ codes_kept : (ds : List (ℕ × ℕ)) → map (cased_digit None) ds ≡ ds
 codes_kept [] = refl
 codes_kept ((a, b) ∷ ds) = ap (λ z. (a, b) ∷ z) (codes_kept ds)
 
--- Without a rule, a numeric escape is unchanged.
+-- In a style without rules, a numeric escape is unchanged.
 escape_kept : (style : Style) (k : Kind) (z : Bool) (n : ℕ) (escape : StrictUnit) → HasNoRule style
     → respelled style k z n escape ≡ escape
 escape_kept style k z n escape r =

@@ -12,8 +12,9 @@ use Rattle.rl_style.specs.declared.style.Case.TheVariants.{Lower, Upper}
 use Rattle.rl_style.specs.Cases.{cased, exponent_letter}
 use Rattle.rl_style.proofs.CaseLemmas.{cased_underscore, cased_value, none_right, twice_cased}
 
--- The new characters for a character of a number. The three flags are true if underscores are dropped, if the number is
--- hexadecimal, and if a plus is dropped. The next arguments are the case of the digits and the case of an exponent's letter.
+-- The new characters for a character of a number. The three flags tell whether underscores are dropped, whether the number is
+-- hexadecimal, and whether a plus is dropped. The next arguments are the case of the digits and the case of an exponent's
+-- letter.
 abbrev pub becomes : Bool → Bool → Bool → Option Case → Option Case → ℕ → List ℕ
 becomes drops hex plus digits letter c =
     cond ((drops && c == 95) || ((not hex && plus) && c == 43)) []
@@ -54,7 +55,7 @@ other_dropped : (b plus : Bool) (digits letter : Option Case) (c : ℕ) → b �
 other_dropped true plus digits letter c h = refl
 other_dropped false plus digits letter c h = absurd (cc)
 
--- A character other than an underscore, a plus, `e` and `E` is unchanged.
+-- In a number that isn't hexadecimal, each character other than an underscore, a plus, `e` and `E` is unchanged.
 pub stays : (drops plus : Bool) (digits letter : Option Case) (c : ℕ) → (c == 95) ≡ false → (c == 43) ≡ false
     → (c == 69) ≡ false → (c == 101) ≡ false → becomes drops false plus digits letter c ≡ c ∷ []
 stays drops plus digits letter c n p l u = other_kept (drops && c == 95) plus digits letter c
@@ -300,8 +301,8 @@ again_hex drops plus digits letter c = go (cases_Bool (drops && c == 95))
         ∙ ap (λ z. z ∷ []) (twice_cased digits c))
         ∙ sym e
 
--- A property holds for each character if it holds for an underscore, for a plus, for `e`, for `E`, and for each other
--- character.
+-- Used to prove a property of all characters: it suffices to prove it for an underscore, for a plus, for `e`, for `E`, and
+-- for each other character.
 pub by_character : (P : ℕ → Type 0) (c : ℕ) → P 95 → P 43 → P 69 → P 101
     → ((c == 95) ≡ false → (c == 43) ≡ false → (c == 69) ≡ false → (c == 101) ≡ false → P c) → P c
 by_character P c under plus upper lower other =

@@ -57,7 +57,7 @@ styled_integer_once style t u w a b =
     ∙ ap (λ z. integer_of style b.int.base b.int.prefix z a.suffix) row
     ∙ ap (integer_of style b.int.base b.int.prefix b.int.run) suffix ∙ sym b.new_is
 
--- An integer isn't both rewritten in a style and kept because its suffix may be mistyped.
+-- The style rewrites an integer, or keeps it because its suffix may be mistyped. An integer can't satisfy both definitions.
 integers_apart : (style : Style) (t u w : List ℕ) → StylesInt style t u → KeepsInt t w → ⊥
 integers_apart style t u w a b =
     let one = one_strict t Int Int a.contents b.contents a.suffix b.suffix a.int b.int in
@@ -83,7 +83,7 @@ styled_float_once style t u w a b =
     ∙ ap (λ z. float_of style z a.suffix) numeral ∙ ap (float_of style b.float.numeral) suffix
     ∙ sym b.new_is
 
--- A float isn't both rewritten in a style and kept because its suffix may be mistyped.
+-- The style rewrites a float, or keeps it because its suffix may be mistyped. A float can't satisfy both definitions.
 floats_apart : (style : Style) (t u w : List ℕ) → StylesFloat style t u → KeepsFloat t w → ⊥
 floats_apart style t u w a b =
     let one = one_strict t Float Float a.contents b.contents a.suffix b.suffix a.float b.float in
@@ -177,7 +177,8 @@ loses_once style front t u w a b =
     let parts = raw_parts_once t a.kind a.contents b.contents a.suffix a.raw s in
     a.new_is ∙ ap (λ i. unraw_text style a.kind i a.suffix) parts.1 ∙ sym new_is
 
--- A raw string doesn't both stay a raw string and lose its `r`.
+-- A raw string stays a raw string in the style, or becomes a string with escapes. A raw string can't satisfy both
+-- definitions.
 never_both : (style : Style) (front t u w : List ℕ) → StaysRaw style front t u → LosesRaw style front t w → ⊥
 never_both style front t u w a b =
     let (s, new_is, loses) = loses_as style front t w a.kind a.contents a.suffix

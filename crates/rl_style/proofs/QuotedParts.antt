@@ -1,4 +1,4 @@
--- If a quoted literal token is parsed, its body and its suffix are those of the parse result.
+-- The parse result of a quoted literal token has the token's body and suffix.
 use Rattle.rl_syntax.proofs.Common.{◌≡◌, ◌≢◌, ℕ, ◌<◌, ◌||◌, Bool, true, false, not, ◌==◌, List, [], ◌∷◌, ◌++◌, length, replicate, Some, None, refl, sym, ap, subst, ◌∙◌, inl, inr, append_assoc, append_cancel_right, both_ways, or_left, or_right, is_ascii_digit, flat_map, list_all}
 use Rattle.std.specs.Str.{chars}
 use Rattle.rl_syntax.proofs.Basics.{apart, hashes_all}

@@ -1,4 +1,4 @@
--- Literal tokens with one kind, value and suffix have equal parse results.
+-- Literal tokens with equal kinds, values and suffixes have equal parse results.
 use Rattle.rl_syntax.proofs.Common.{◌≡◌, ℕ, ◌≤◌, List, subst, sym, ◌∙◌, ap}
 use Rattle.rl_syntax.specs.declared.kind.Kind.{Kind}
 use Rattle.rl_syntax.specs.declared.kind.Kind.TheVariants.{Str, ByteStr, CStr, Byte, Char, Int, Float, Bool as BoolKind}
@@ -20,7 +20,7 @@ same_dec m n e =
     let d : dec m ≡ dec n = cc in
     sym (dec_spells m) ∙ ap (place_value 10) d ∙ dec_spells n
 
--- If an integer token is within 128 bits, each integer token with an equal value is within 128 bits.
+-- Two integer tokens have equal values. If one of the values is within 128 bits, so is the other one.
 within : (t u : List ℕ) (k : Kind) (v : Contents) (x : List ℕ) → Reads t k v x → Strict t k v x → Strict u k v x
     → IsWithinLimit k u
 within t u Int v x r s w = λ sign m y h.

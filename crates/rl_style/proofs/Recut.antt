@@ -130,8 +130,8 @@ token_full (DocBlockToken i) t is = tt
 token_full (BadQuoteToken q) t is = absurd is
 token_full (StrayToken c) t is = absurd is
 
--- The text `t` ends with the text `u`. If another text without white space and comments at its start takes the place of `u`,
--- the lexer still skips the text before `u`.
+-- The text `t` consists of white space and comments, and of the text `u` after them. The lexer skips the white space and
+-- comments before any text that begins with neither.
 abbrev pub SkipsTo : List ℕ → List ℕ → Type 0
 SkipsTo t u = (front : List ℕ) × (t ≡ front ++ u) × ((v : List ℕ) → after_piece v ≡ None → Skipped (front ++ v) v)
 
@@ -145,8 +145,8 @@ skips_to t u full (inr s) = absurd (subst IsFull s.nothing full)
 
 -- ---- the tokens after the replaced literal
 
--- The byte offset of a token is the offset of the text that contains it, plus the number of bytes of this text before the
--- token.
+-- A text begins at the byte offset `at`, and contains a token. The byte offset of the token is `at`, plus the number of bytes
+-- before the token in this text.
 pub offset_of_rest : (at k : ℕ) (t f u : List ℕ) → t ≡ f ++ u → k + byte_len u ≡ at + byte_len t → k ≡ at + byte_len f
 offset_of_rest at k t f u e place = omega (arith, place, ap byte_len e, byte_len-append f u)
 
@@ -174,15 +174,16 @@ shifted at from to t (w ∷ ws) r low (after, skipped, is, place, more) =
 
 -- ---- the tokens of the whole text
 
--- If a text ends with neither a hash nor a dot, its second part ends with neither.
+-- If a text of two parts ends with neither a hash nor a dot, the second part ends with neither.
 may_drop : (a b : List ℕ) → may_precede_quote (a ++ b) ≡ true → may_precede_quote b ≡ true
 may_drop [] b h = h
 may_drop (c ∷ []) [] h = refl
 may_drop (c ∷ []) (d ∷ b) h = h
 may_drop (c ∷ e ∷ a) b h = may_drop (e ∷ a) b h
 
--- Two texts begin alike, up to the `r` of a raw string in the old text and the quote of a string with escapes in the new one.
--- If both follow the text `lead`, neither a hash nor a dot precedes the string.
+-- The old text contains a raw string, and the new text a string with escapes in its place. The text `front` precedes the
+-- string in both texts. The text `lead` precedes the old and the new text. Neither a hash nor a dot directly precedes the
+-- string.
 pub record Unquoted (lead old new : List ℕ) : Type 0 where
   pub front : List ℕ
   pub raw : List ℕ
@@ -191,8 +192,8 @@ pub record Unquoted (lead old new : List ℕ) : Type 0 where
   pub old_is : old ≡ front ++ (114 ∷ raw)
   pub new_is : new ≡ front ++ (34 ∷ quoted)
 
--- The old text `a` and the new text `b` follow the text `lead`. They begin so alike that each token of `lead` before the old
--- text is also a token before the new text.
+-- The old text `a` and the new text `b` begin alike up to a literal's first character, or a raw string loses its `r`
+-- (`Unquoted`). Both follow the text `lead`. The token at the end of `lead` is lexed as before.
 abbrev pub Begun : List ℕ → List ℕ → List ℕ → Type 0
 Begun lead a b = SameFront a b ⊎ Unquoted lead a b
 
@@ -219,8 +220,8 @@ alike_stays lead w a b (inr (inr u)) is =
     subst (λ (z : List ℕ). IsProper w z) (sym u.new_is)
     (unraws_around w u.front u.raw u.quoted (may_drop lead u.front u.may) old)
 
--- In the text `t`, the literal `new` replaces the literal `old`. The new text has the old tokens before and after the literal.
--- The text `t` follows the text `lead`.
+-- The tokens of the text `t` after the literal `new` replaces the literal `old`. All other tokens are lexed as before. The
+-- text `lead` precedes `t`.
 pub record Recut (lead : List ℕ) (at : ℕ) (t : List ℕ) (before after : List CutSource) (old new : Lexeme) (place : ℕ)
     (r : List ℕ) : Type 0 where
   pub front : List ℕ
@@ -231,7 +232,7 @@ pub record Recut (lead : List ℕ) (at : ℕ) (t : List ℕ) (before after : Lis
   pub cuts : SourcesUpTo at (front ++ (lexeme_text new ++ rest)) (before ++ (placed_literal new place
       ∷ moved (place + byte_len (lexeme_text old)) (place + byte_len (lexeme_text new)) after)) r
 
--- Returns the text after the literal `old`, by the tokens of the whole text.
+-- Finds the text after the literal `old` by the tokens of the whole text.
 abbrev pub literal_rest : (at : ℕ) (t : List ℕ) (before after : List CutSource) (old : Lexeme) (place : ℕ) (r : List ℕ)
     → SourcesUpTo at t (before ++ (placed_literal old place ∷ after)) r → List ℕ
 literal_rest at t [] after old place r (rest, skipped, is, place_is, more) = rest
@@ -245,8 +246,8 @@ literal_is at t [] after old place r (rest, skipped, is, place_is, more) = is
 literal_is at t (d ∷ before) after old place r (u, skipped, is, place_is, more) = literal_is (source_end d) u before
     after old place r more
 
--- The literal `new` is a token before the text `rest`, as the literal `old` is. Each token that is lexed before the old
--- literal is also lexed before the new one.
+-- If the literal `new` replaces the literal `old` before the text `rest`, `new` is one token, and the token before the
+-- literal is lexed as before.
 abbrev pub Follows : List ℕ → ℕ → List ℕ → Lexeme → Lexeme → ℕ → List ℕ → Type 0
 Follows lead at t old new place rest =
     IsLexeme new rest
@@ -341,8 +342,8 @@ one_more lead at t d before after old new place r u front sound is text_is here 
       cuts = subst (λ (z : List ℕ). SourcesUpTo at z (d ∷ cuts) r) (sym whole) all;
     }
 
--- If the new literal may replace the old one in the text `t`, it may also replace it in the text `u` after the first token of
--- `t`.
+-- The text `u` follows the first token of the text `t`. A new literal that may replace an old literal in `t` may also replace
+-- this old literal in `u`.
 follows_inner : (lead : List ℕ) (at : ℕ) (t : List ℕ) (d : CutSource) (old new : Lexeme) (place : ℕ)
     (u rest front : List ℕ) → t ≡ front ++ (source_text d.token ++ u) → d.at ≡ at + byte_len front
     → Follows lead at t old new place rest
@@ -386,8 +387,8 @@ ends_follow : (lead : List ℕ) (at : ℕ) (t : List ℕ) (old new : Lexeme) (pl
 ends_follow lead at t old new place rest ends is =
     let (new_is, same) = keeps_its_ends old new rest ends is in (new_is, λ f e k. inr (inl same))
 
--- If a new literal is well formed, and has the kind, the prefix and the suffix of the old one, as `SameEnds` states, it may
--- replace the old one in a text: all other tokens are lexed as before.
+-- If a new literal has the kind, the prefix and the suffix of the old one (`SameEnds`), it may replace the old one in a text:
+-- all other tokens are lexed as before.
 pub recut_ends : (lead : List ℕ) (at : ℕ) (t : List ℕ) (before after : List CutSource) (old new : Lexeme) (place : ℕ)
     (r : List ℕ)
     → SourcesUpTo at t (before ++ (placed_literal old place ∷ after)) r → AllByRecursion IsSound before

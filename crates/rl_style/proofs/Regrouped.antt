@@ -280,7 +280,7 @@ again_grouped drops hex plus digits letter from_first size least run same plain 
         ∙ ap (flat_map f) (row_kept other test run refl)
         ∙ sym (bare_flat drops hex plus digits letter run) ∙ ap without_underscores same
 
-    -- After a second rewriting, the underscores at the end of the sequence are those of `run`, whether or not underscores are
+    -- After `new` is rewritten a second time, it ends with as many underscores as `run`, whether or not underscores are
     -- dropped.
     last : (drops : Bool) → flat_map (becomes drops hex plus digits letter) run ≡ run
         → RowPlain (becomes drops hex plus digits letter) new

@@ -11,14 +11,14 @@ use Rattle.rl_style.specs.Restylable.{GivesLiteral, GivesNone, Here, Behind, Pas
 abbrev pub state : CursorState → Last → ℕ → CallState → RestylableState
 state tokens last end calls = record { tokens = tokens; last = last; end = end; calls = calls }
 
--- The code's variables after a token are those of the cursor's next state: `last`, which describes the token, and `calls`, the
--- position relative to macro calls.
+-- After a token, the code's variables `last` and `calls` are equal to the fields of the cursor's next state. `last` describes
+-- the token, and `calls` is the position relative to macro calls.
 pub record Steps (s : RestylableState) (token : SourceToken) (last : Last) (calls : CallState) : Type 0 where
   pub last_is : last ≡ last_after s.last s.end (source_view token.form) token.lo
   pub calls_are : calls ≡ advance_calls s.calls (source_view token.form) token.text.now
 
--- The next state after a token and the state that the code's values represent are equal. A property of the first state holds
--- for the second one. The lemma `unstepped` is the reverse.
+-- After a token, the code's variables represent the cursor's next state. If a property holds for the next state, the property
+-- also holds for the state that the variables represent. The lemma `unstepped` is the reverse.
 stepped : (P : RestylableState → Type 0) (s : RestylableState) (token : SourceToken) (tokens : CursorState)
     (last : Last)
     (calls : CallState) → Steps s token last calls → P (passed s token tokens) → P (state tokens last token.hi calls)
@@ -34,7 +34,8 @@ unstepped P s token tokens last calls steps h =
     subst (λ (k : CallState). P (state tokens (last_after s.last s.end (source_view token.form) token.lo) token.hi k))
     steps.calls_are (subst (λ (d : Last). P (state tokens d token.hi calls)) steps.last_is h)
 
--- If the next token is a literal, it is the next literal from the state at which the search began.
+-- The search for a literal began at the state `start`, and has passed only other tokens. If the next token is a literal, it
+-- is the next literal after `start`.
 pub literal_here : (was start s : RestylableState) (l : Restylable) (tokens : CursorState) (last : Last)
     (calls : CallState) → start ≡ was → Steps s l.token last calls → TakesSource s.tokens l.token tokens
     → IsLiteralOfSource l.token → l.is_field ≡ is_field s.last l.token.text.now (chars tokens.rest) → l.in_macro
@@ -46,7 +47,8 @@ literal_here was start s l tokens last calls same steps takes is field inside on
     (stepped (GivesLiteral start l) s l.token tokens last calls steps
     (on l (passed s l.token tokens) (Here takes is field inside)))
 
--- If the source has no next token, it has no further literal from the state at which the search began.
+-- The search for a literal began at the state `start`, and has passed only other tokens. If the source has no next token, the
+-- search ends without a literal.
 pub none_here : (was start s : RestylableState) (tokens : CursorState) → start ≡ was
     → BeginsNoSource (chars s.tokens.rest)
     → tokens ≡ s.tokens → ((new : RestylableState) → GivesNone s new → GivesNone start new)
@@ -55,8 +57,8 @@ none_here was start s tokens same none stays on =
     subst (λ (z : RestylableState). GivesNone z (state tokens s.last s.end s.calls)) same
     (subst (λ (t : CursorState). GivesNone start (state t s.last s.end s.calls)) (sym stays) (on s (Stops none)))
 
--- If the next token isn't a literal, the next literal from the state before this token is the next literal from the state
--- after the token.
+-- If the next token isn't a literal, the search can continue after it: the next literal after this token is also the next
+-- literal before it.
 pub literal_behind : (s : RestylableState) (token : SourceToken) (tokens : CursorState) (last : Last)
     (calls : CallState)
     → Steps s token last calls → TakesSource s.tokens token tokens → (IsLiteralOfSource token → ⊥)

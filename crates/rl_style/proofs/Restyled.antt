@@ -1,5 +1,4 @@
--- A rewritten literal is one token if the old literal is one. Each token before the old literal is also lexed before the new
--- one.
+-- A rewritten literal is one token if the old literal is one token. The token before the literal is lexed as before.
 use Rattle.rl_syntax.proofs.Common.{◌≡◌, ℕ, ◌≤◌, ◌⊎◌, nat_lt, digit_value, ◌||◌, inl, inr, Bool, true, false, not, ◌==◌, cond, length, lit<, List, [], ◌∷◌, ◌++◌, Some, refl, sym, ◌∙◌, ap, subst, arith, append_assoc, and_from, and_parts, codes, list_all, list_all-append, is_ascii_digit}
 use Rattle.rl_syntax.specs.Texts.{first_passes, is_among, is_continue, is_run_part, is_start}
 use Rattle.rl_syntax.specs.Classes.{after_run}
@@ -26,15 +25,16 @@ use Rattle.rl_style.proofs.SameIntegers as integers
 use Rattle.rl_style.proofs.SameRaw as raws
 use Rattle.rl_style.proofs.SameUnits as units
 
--- If the old text `t` is a token before the text `y`, the new text `u` is one too. The old and the new text begin alike.
+-- If the old text `t` is a token before the text `y`, the new text `u` is also a token before `y`. The old and the new text
+-- begin alike.
 pub record Replaces (t u y : List ℕ) : Type 0 where
   pub goes : (f : LexemeForm) → lexeme_at (t ++ y) ≡ Some (f, y) → lexeme_at (u ++ y) ≡ Some (f, y)
   pub front : (z : List ℕ) → SameFront (t ++ y) (u ++ z)
 
 -- ---- a rewritten quoted literal is one token
 
--- If the old and the new literal are strings with escapes, and have one kind and one suffix, the new literal may replace the
--- old one.
+-- If the old and the new literal are strings with escapes, and their kinds and suffixes are equal, the new literal may
+-- replace the old one.
 strings_replace : (k : Kind) (t u x y : List ℕ) (v w : Contents) → StringKind k → StrictCooked t k v x
     → StrictCooked u k w x → Replaces t u y
 strings_replace k t u x y v w f a b =
@@ -122,7 +122,8 @@ digits_front t u y z c d m n e g a b = record {
     or_true true = refl
     or_true false = refl
 
--- If the new decimal number ends as a token before the text `y` whenever the old one does, it may replace the old one.
+-- The old text `t` and the new text `u` are decimal numbers, and the text `y` follows. If `u` is one token whenever `t` is
+-- one token, `u` may replace `t`.
 decimals_replace : (t u y : List ℕ) (s : DecimalForm t) (r : DecimalForm u)
     → (after_decimal (s.more ++ y) ≡ y → after_decimal (r.more ++ y) ≡ y) → Replaces t u y
 decimals_replace t u y s r same = record {
@@ -130,7 +131,7 @@ decimals_replace t u y s r same = record {
   front = λ z. digits_front t u y z s.digit r.digit s.more r.more s.text_is r.text_is s.is_digit r.is_digit;
 }
 
--- The text `t` begins with the sequence of digits `run`, and continues with the text `z`.
+-- The text `t` begins with a sequence of digits and underscores, and continues with the text `z`.
 record DigitsThen (run z t : List ℕ) : Type 0 where
   form : DecimalForm t
   rest : List ℕ
@@ -212,8 +213,8 @@ integers_replace t u x y v w a b same = go a.is_front b.is_front
     go (inl f) (inr g) = absurd (not_ten b.prefix b.base g (same ∙ f.1))
     go (inr f) (inl g) = absurd (not_ten a.prefix a.base f (sym same ∙ g.1))
 
--- The text that the lexer leaves after the end of a float with the form `shape`. The text `z` follows the dot, the digits or
--- the exponent with which the float ends.
+-- The text `z` follows a float of the form `shape`, which ends with a dot, with a dot and digits, or with an exponent.
+-- Returns the text that remains after the lexer has read the number.
 abbrev shape_end : FloatShape → List ℕ → List ℕ
 shape_end DotShape z = after_decimal (46 ∷ z)
 shape_end PointShape z = after_suffix (after_lexed_exponent (after_run (is_run_part is_ascii_digit) z))
@@ -261,7 +262,7 @@ float_parts t x v s (inr (inr (d, p, h, k, inr (f, g, e)))) =
     grouped : (r f p x y : List ℕ) → (r ++ (46 ∷ f ++ (p ++ x))) ++ y ≡ r ++ (46 ∷ f ++ (p ++ (x ++ y)))
     grouped r f p x y = simp append_assoc
 
--- If a number that ends with a dot is a token before the text `y`, it is also a token before `y` with a zero after the dot.
+-- If the lexer ends the number `1.` directly before the text `y`, it also ends the number `1.0` directly before `y`.
 dot_closes : (y : List ℕ) → after_decimal (46 ∷ y) ≡ y → shape_end PointShape y ≡ y
 dot_closes y h = go (first_passes (λ d. d == 46 || is_start d) y) h
   where
@@ -295,8 +296,8 @@ floats_replace closes t u x y v w a b same =
 
 -- ---- a raw string that becomes a string with escapes is one token
 
--- If the old text `t` is a token before the text `y`, the new text `u` is one too. Each token of the text `lead` that is lexed
--- before the old text is also lexed before the new one.
+-- If the old text `t` is a token before the text `y`, the new text `u` is also a token before `y`. If `u` replaces `t` after
+-- the text `lead`, the token at the end of `lead` is lexed as before.
 pub record ReplacesAfter (lead t u y : List ℕ) : Type 0 where
   pub goes : (f : LexemeForm) → lexeme_at (t ++ y) ≡ Some (f, y) → lexeme_at (u ++ y) ≡ Some (f, y)
   pub front : (z : List ℕ) → Begun lead (t ++ y) (u ++ z)

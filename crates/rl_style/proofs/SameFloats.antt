@@ -156,7 +156,8 @@ no_separator (Some Underscore) x e = ap (separator_by (Some Underscore)) e
 abbrev pub spelled : List ℕ → List ℕ
 spelled cs = map (λ c. cond (c == 69) 101 c) (filter (λ c. not (c == 95 || c == 43)) cs)
 
--- The new characters of `c`, followed by the new text `a`, represent the value of `c`, followed by the old text `b`.
+-- The old text is the character `c` and the text `b`. The new text is the new form of `c` and the text `a`. The two texts
+-- have equal values.
 abbrev More : Bool → Bool → Option Case → Option Case → List ℕ → List ℕ → ℕ → Type 0
 More drops plus digits letter a b c = spelled (becomes drops false plus digits letter c ++ a) ≡ spelled (c ∷ b)
 
@@ -250,8 +251,8 @@ run_digits (c ∷ cs) = go (is_run_part is_ascii_digit c) refl (run_digits cs)
         more
     go false h more = refl
 
--- If a text is divided into `front` and the text after its leading digits, `front` consists of these digits, and contains no
--- plus.
+-- The text `cs` is divided into `front` and the text after the leading digits of `cs`. So `front` consists of these digits,
+-- and contains no plus.
 pub run_cut : (cs front rest : List ℕ) → cs ≡ front ++ rest → rest ≡ after_run (is_run_part is_ascii_digit) cs
     → (front ≡ digit_run cs) × (list_all (λ c. not (c == 43)) front ≡ true)
 run_cut cs front rest cut is =
@@ -280,8 +281,8 @@ added_none DotShape = refl
 added_none PointShape = refl
 added_none PowerShape = refl
 
--- If the text after a float's whole part gets further digits, for example an added zero, the value of the float gets these
--- digits. Rewriting the whole part doesn't change the value.
+-- The whole part of a float is rewritten, and the text after the whole part gets further digits, for example an added zero.
+-- The new value is the old value with these digits at its end.
 spelled_at : (drops plus : Bool) (digits letter : Option Case) (size least : ℕ) (numeral new d z w extra : List ℕ)
     → new ≡ Groups size least false (flat_map (becomes drops false plus digits letter) d) ++ w → numeral ≡ d ++ z
     → spelled w ≡ spelled z ++ extra → spelled new ≡ spelled numeral ++ extra
@@ -333,7 +334,8 @@ Size style x = size_by style.digit_groups 10 x
 abbrev Least : Style → ℕ
 Least style = least_by style.digit_groups
 
--- Like the old float, the new float has a whole part before its suffix, and a text after the whole part.
+-- The new text of a float before its suffix consists of a whole part of digits and of the text after the whole part
+-- (`Numeral`). The form of the float changes only by an added zero.
 pub kept_numeral : (style : Style) (numeral x : List ℕ) (form : FloatForm numeral x)
     → Numeral (styled_numeral style x numeral) x
     (closed_shape (shape_of (kept_run style x numeral) x (kept_form style numeral x form).form) style.float_zero)
@@ -361,7 +363,7 @@ spelled_kept style x numeral = go (trims_by style.suffix_separator x)
     go true = ap (map (λ c. cond (c == 69) 101 c)) (trimmed_filter (λ c. not (c == 95 || c == 43)) numeral refl)
     go false = refl
 
--- The value of the new float: the old value, and the zero that the style adds to a final dot.
+-- The value of the new float: the old value, and the zero that the style adds to a float that ends with its dot.
 abbrev pub new_digits : Style → (numeral x : List ℕ) → FloatForm numeral x → List ℕ
 new_digits style numeral x form = spelled numeral ++ added (shape_of numeral x form) style.float_zero
 
@@ -397,7 +399,7 @@ written style t u v x s e = record {
   contents = ap Digits (sym (new_spelled style s.numeral x s.form));
 }
 
--- If the style adds no zero to a final dot, the new float has the old value.
+-- If the style adds no zero to floats that end with their dots, the new float has the old value.
 digits_kept : (style : Style) (numeral x : List ℕ) (form : FloatForm numeral x) → style.float_zero ≡ false
     → new_digits style numeral x form ≡ spelled numeral
 digits_kept style numeral x form off = ap (λ b. spelled numeral ++ added (shape_of numeral x form) b) off
@@ -470,7 +472,8 @@ float_number style t u (inl c) = record {
 
 -- ---- if a float is rewritten again, nothing changes
 
--- If a text has no underscores at its end, its last part has none at its end either.
+-- The second part of a text contains a character other than an underscore. If the whole text has no underscores at its end,
+-- the second part has none at its end.
 tail_trims : (a b : List ℕ) → only b ≡ false → IsTrim (a ++ b) → IsTrim b
 tail_trims a b n h = same_tail a (trimmed b) b (sym (trimmed_join a b n) ∙ h)
 

@@ -26,8 +26,8 @@ use Rattle.rl_style.proofs.NumberCharacters.{RowKeeps, RowStays, decimal_by, dig
 abbrev row_of : ℕ → List ℕ → Type 0
 row_of base run = list_all (is_run_part (of_base base)) run ≡ true
 
--- The sequence `kept` consists of digits and underscores, and contains a digit. It represents the number of the sequence
--- `run`, and is a sequence of decimal digits if `run` is.
+-- The sequence `kept` consists of digits and underscores, contains a digit, and represents the number that the sequence `run`
+-- represents. If `run` is a sequence of decimal digits, so is `kept`.
 pub record RowFacts (base : ℕ) (run kept : List ℕ) : Type 0 where
   pub each : row_of base kept
   pub some : list_any (of_base base) kept ≡ true
@@ -299,7 +299,7 @@ zeros_again : (style : Style) (drops : Bool) (base : ℕ) (x run : List ℕ) →
     ≡ flat_map (number_character style drops (base == 16)) (kept_digits style base x run)
 zeros_again style drops base x run each = go (drops_zeros style base x) refl
   where
-    -- The digits of a decimal integer, without leading zeros unless they are all octal.
+    -- The digits of a decimal integer. If one of the digits is 8 or 9, leading zeros are dropped.
     short : List ℕ → List ℕ
     short z = cond (list_any exceeds_octal z) (significant z) z
 

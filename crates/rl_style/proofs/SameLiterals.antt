@@ -24,8 +24,8 @@ same style front t u off (inr (inr (inl (inr a)))) = lost_same style front t u a
 same style front t u off (inr (inr (inr (inl a)))) = cooked_same style t u a
 same style front t u off (inr (inr (inr (inr a)))) = truth_same t u a
 
--- If two literals have one kind, value and suffix, they satisfy `SameNumber`. This weaker relation also allows a zero that the
--- style adds to a float.
+-- If the kinds, values and suffixes of two literals are equal, the literals satisfy `SameNumber`. This weaker relation also
+-- allows a zero that the style adds to a float.
 number_of : (style : Style) (t u : List ℕ) → SameLiteral t u → SameNumber style t u
 number_of style t u c = record {
   kind = c.kind;

@@ -36,7 +36,7 @@ same_opener ByteStr s = refl
 same_opener CStr s = refl
 same_opener kind s = absurd (cc)
 
--- The definition of a raw string joins its parts from the left. Joined from the right, they are the same text.
+-- The parts of a raw string may be joined from the left or from the right: the resulting texts are equal.
 pub raw_joined : (o h i x : List ℕ) → ((((o ++ h) ++ (34 ∷ i)) ++ (34 ∷ h)) ++ x) ≡ o
     ++ (h ++ (34 ∷ (i ++ (34 ∷ (h ++ x)))))
 raw_joined o h i x = simp append_assoc
@@ -59,7 +59,8 @@ pub record Suits (inside : List ℕ) (n : ℕ) : Type 0 where
   pub few : n < 256
   pub first_close : (front rest : List ℕ) → inside ≢ (front ++ (34 ∷ replicate n 35)) ++ rest
 
--- Whether the text begins with a quote. A string with escapes does after its prefix, and a raw string doesn't.
+-- Whether the text begins with a double quote. If the text is a string without its prefix, the string has escapes if and only
+-- if the text begins with a double quote.
 abbrev pub first_quote : List ℕ → Bool
 first_quote t = first_passes (λ c. c == 34) t
 

@@ -124,8 +124,7 @@ quote_allowed Byte us c q h n = itself_at Byte c 34 (second_of (c == 39) (c == 3
 quote_allowed Char us c q h n = itself_at Char c 34 (second_of (c == 39) (c == 34) h n) refl
 quote_allowed kind us c q h n = absurd q
 
--- The new form of an escaped quote: the quote without its backslash, if the rule is set and the quote doesn't close the
--- literal.
+-- The new form of an escaped quote: without its backslash if `b` is true, and unchanged otherwise.
 abbrev quote_unit : Bool → ℕ → StrictUnit
 quote_unit b c = cond b (Itself c) (QuoteEscape c)
 
@@ -217,7 +216,7 @@ follows : (a b : Bool) → a ≡ true → (not a || b) ≡ true → b ≡ true
 follows true b h k = k
 follows false b h k = absurd (cc)
 
--- If a trial of each ASCII character shows that all visible ones pass a test, the visible character `n` passes the test.
+-- Used to prove by trying all ASCII characters that each visible character `n` passes a test.
 visible_test : (test : ℕ → Bool) (n : ℕ) → is_visible n ≡ true
     → ((n < 128) → (not (is_visible n) || test n) ≡ true) → test n ≡ true
 visible_test test n v all = follows (is_visible n) (test n) v (all (visible_low n v))
@@ -241,8 +240,8 @@ visible_allowed Char us n q v = visible_test (λ n. is_strict_unit Char (visible
     low)
 visible_allowed kind us n q v = absurd q
 
--- A property holds for each character that may have an escape with a letter if it holds for LF, CR and TAB, and for NUL in
--- case the character is NUL.
+-- Used to prove a property of each character that gets an escape with a letter. It suffices to prove the property for LF, CR
+-- and TAB, and for NUL in case the character is NUL.
 named_any : (P : ℕ → Type 0) (z : Bool) (n : ℕ) → gets_letter z n ≡ true → P 10 → P 13 → P 9
     → ((n == 0) ≡ true → P 0) → P n
 named_any P z n h a b c d =
@@ -329,7 +328,7 @@ respelled_ends style k z n escape us b h =
     respelled_any (λ u. BlanksEnd (u ∷ us)) style k z n escape
     (λ v. visible_any (λ u. BlanksEnd (u ∷ us)) k n (λ e. b) (λ e. b) b) (λ e. b) h
 
--- A visible character that replaces a numeric escape, perhaps after a backslash, has itself as its value.
+-- A visible character that replaces a numeric escape represents itself, also if a backslash precedes it.
 visible_contents : (k : Kind) (n : ℕ) → is_visible n ≡ true → strict_contents (strict_content_of k) (visible_unit k n)
     ≡ n ∷ []
 visible_contents k n v =
@@ -644,7 +643,7 @@ twice_quote : (b : Bool) (style : Style) (k : Kind) (z : Bool) (c : ℕ) → (c 
 twice_quote true style k z c q e = shown_stays style k z c (quotes_shown c q)
 twice_quote false style k z c q e = ap (λ z. quote_unit z c) (sym e)
 
--- A numeric escape that is rewritten twice is equal to one that is rewritten once.
+-- If a numeric escape is rewritten a second time, it doesn't change.
 twice_respelled : (style : Style) (k : Kind) (z : Bool) (n : ℕ) (escape : StrictUnit) → restyled style k z escape
     ≡ respelled style k z n escape → restyled style k z (respelled style k z n escape) ≡ respelled style k z n escape
 twice_respelled style k z n escape h = go (style.ascii_escapes && is_visible n) (style.named_escapes && gets_letter z n)

@@ -1,4 +1,4 @@
--- A token that is lexed before a literal is also lexed before the rewritten literal.
+-- If a literal is rewritten, the token directly before it is lexed as before.
 use Rattle.rl_syntax.proofs.Common.{◌≡◌, ℕ, inl, inr, Bool, false, ◌&&◌, ◌||◌, ◌==◌, List, [], ◌∷◌, ◌++◌, refl, sym, ◌∙◌, ap, is_ascii_digit}
 use Rattle.rl_syntax.specs.Texts.{first_passes, is_run_part, is_start, is_continue}
 use Rattle.rl_lexer.specs.Lexemes.{is_base_letter, LexedFraction, NoLexedFraction, LexedDot, lexed_fraction_text, LexedExponent, NoLexedExponent, LexedPower, lexed_exponent_text, IsRun, IsLexedSuffix, IsLexedFraction, IsLexedExponent, Lexeme, QuotedLexeme, RawLexeme, CharacterLexeme, BasedLexeme, DecimalLexeme, IdentifierLexeme, DelimiterLexeme, MarkLexeme, IsLexeme}

@@ -149,7 +149,7 @@ zero_trim (c ∷ cs) h = h
 pub significant_trim : (cs : List ℕ) → IsTrim cs → IsTrim (significant cs)
 significant_trim cs h = zero_trim (after_run is_padding cs) (run_trim is_padding cs h)
 
--- A rewritten sequence consists of underscores only if the old one does.
+-- If a rewritten sequence consists only of underscores, the old sequence consists only of underscores too.
 only_mapped : (f : ℕ → List ℕ) (cs : List ℕ) → RowKeeps f cs → only cs ≡ false → only (flat_map f cs) ≡ false
 only_mapped f [] k h = h
 only_mapped f (c ∷ cs) k h =

@@ -1,5 +1,5 @@
--- A text is exactly one sequence of characters and escapes. Each character or escape is rewritten according to the text after
--- it.
+-- A text consists of exactly one sequence of characters and escapes. The new form of each character or escape depends on the
+-- text after it.
 use Rattle.rl_syntax.proofs.Common.{is_ascii_digit, nat_tests, ◌≡◌, ℕ, ◌≤◌, inl, inr, arith, cases_lt, Bool, true, not, List, [], ◌∷◌, ◌++◌, Some, None, refl, sym, ap, subst, ◌∙◌, append_assoc, append-nil, append_cancel_right, and_parts, list_all, flat_map, encode_utf8_all, encodes-append}
 use Rattle.rl_syntax.proofs.Basics.{false_unless}
 use Rattle.rl_lenient.proofs.Names.{Kind, strict_content_of, strict_contents, first_passes, StrictUnit, strict_text, is_strict_unit, unit_value}
@@ -13,7 +13,8 @@ use Rattle.rl_style.proofs.UnitTexts.{alone_of, bytes_of, unit_restyled}
 
 -- ---- the characters and escapes read so far
 
--- The text `t` consists of the character or escape `u`, and then of `us`. The code reads `u` first.
+-- The text `t` consists of the character or escape `u`, and then of the characters and escapes `us`. The code reads `u`
+-- first.
 record FirstIs (k : Kind) (u : StrictUnit) (us : List StrictUnit) (t : List ℕ) : Type 0 where
   value : List ℕ
   value_is : value ≡ strict_contents (strict_content_of k) u
@@ -56,8 +57,8 @@ digit_bytes c = digit_ascii (c ∷ []) ∙ ap is_ascii_digit (elim (cases_lt c 1
   | inr high ↦ (alone_of c).high high ∙ sym ((bytes_of c).high high)
 ])
 
--- The code finds by the text whether the next character or escape represents a digit. The result is that of the definition,
--- which uses the sequence of characters and escapes.
+-- The code and the definition determine whether the next character or escape represents a digit. The code uses the text, and
+-- the definition the sequence of characters and escapes. The two results are equal.
 pub follows_is : (k : Kind) (us : List StrictUnit) (t : List ℕ) → AreUnits k us t
     → digit_follows k us ≡ represents_digit (unit_at k t)
 follows_is k [] t a = sym (ap represents_digit (ap (unit_at k) a.inside_is ∙ unit_nil k))
@@ -65,7 +66,7 @@ follows_is k (u ∷ us) t a =
     let f = first_is k u us t a in
     ap (first_passes is_ascii_digit) (sym f.value_is) ∙ digit_ascii f.value ∙ sym (ap represents_digit f.read)
 
--- If two sequences of characters and escapes have one text, their new texts are equal.
+-- If two sequences of characters and escapes have equal texts, their new texts are equal.
 pub texts_once : (style : Style) (k : Kind) (us vs : List StrictUnit) (t : List ℕ) → AreUnits k us t → AreUnits k vs t
     → flat_map strict_text (restyled_units style k us) ≡ flat_map strict_text (restyled_units style k vs)
 texts_once style k [] [] t a b = refl
@@ -101,7 +102,8 @@ texts_once style k (u ∷ us) (v ∷ vs) t a b =
     ∙ ap (λ t. strict_text (restyled style k z v) ++ t) (texts_once style k us vs (flat_map strict_text us) f.left
     (subst (AreUnits k vs) (sym rest) g.left))
 
--- The new text of the first characters and escapes of a sequence. The characters and escapes `left` follow them.
+-- The new text of the characters and escapes in the first list. The characters and escapes in the list `left` follow them in
+-- the literal.
 abbrev pub text_before : Style → Kind → List StrictUnit → List StrictUnit → List ℕ
 text_before style k [] left = []
 text_before style k (u ∷ us) left =

@@ -1,4 +1,4 @@
--- The code reads the characters and escapes of a text one at a time, and rewrites each by its text.
+-- The code reads the characters and escapes of a text one at a time, and computes the new form of each from its text.
 use Rattle.std.proofs.Common.{length-append}
 use Rattle.rl_syntax.proofs.Common.{not-true, length, ◌+◌, ◌≢◌, drop, eqb-true, ◌≡◌, ℕ, ◌<◌, ◌≤◌, inl, inr, arith, nat_lt, lt-ltb, ltb-true, cases_lt, agree_below_at, ◌||◌, ◌&&◌, Bool, true, false, not, ◌==◌, cond, List, [], ◌∷◌, ◌++◌, map, Some, None, refl, sym, ap, ◌∙◌, append_assoc, append-nil, and_from, and_parts, or_from, list_all, flat_map, map-append, replicate, zero, suc, scalar, encode_utf8_all, ◌/◌, ◌%◌, encodes-append, encodes-chars, IsUtf8}
 use Rattle.std.specs.Prelude.{Option}
@@ -30,7 +30,7 @@ use Rattle.rl_style.proofs.WrittenTexts.{scalars_join}
 
 -- ---- ends of a text, as characters and as bytes
 
--- If the characters of a text are the end of another text's characters, its bytes are the end of the other text's bytes.
+-- If the characters of the text `t` end with the characters of the text `r`, the bytes of `t` end with the bytes of `r`.
 pub tail_of : (t r front : List ℕ) → IsUtf8 t → IsUtf8 r → chars t ≡ front ++ chars r → IsTail t r
 tail_of t r front u v e = record {
   front = encode_utf8_all front;
@@ -73,7 +73,7 @@ alone_of n = record {
       (λ b. let l = ltb-true n 128 b in absurd (omega (arith, l, h))));
 }
 
--- The first byte of a character's UTF-8 bytes is the character if it is ASCII. For other characters, the first byte counts as
+-- For the UTF-8 bytes of an ASCII character, `ascii_in` returns the character. For the bytes of another character, it returns
 -- 128.
 pub bytes_of : (n : ℕ) → IsOf n (ascii_in (encode_utf8_all (n ∷ [])))
 bytes_of n = record {
@@ -93,8 +93,8 @@ held_of Int n = alone_of n
 held_of Float n = alone_of n
 held_of BoolKind n = alone_of n
 
--- The code computes a number from a character: the character if it is ASCII, and 128 otherwise. The definition computes an
--- equal number from the character's value.
+-- The code computes the code point of an ASCII character, or 128 for another character. The definition computes an equal
+-- number from the character's value.
 pub content_ascii : (k : Kind) (n m : ℕ) → m ≡ cond (nat_lt n 128) n 128 → m ≡ ascii_in (content_of k (n ∷ []))
 content_ascii k n m e = go (decodes_to_chars k)
   where
@@ -109,7 +109,8 @@ content_ascii k n m e = go (decodes_to_chars k)
     go true = e
     go false = e ∙ bytes
 
--- A visible character is written after a backslash if it is the closing quote or a backslash. Otherwise it is written alone.
+-- The code writes a visible character: with a backslash before it if it is the closing quote or a backslash, and otherwise
+-- without one.
 visible_is : (a b : Bool) (n : ℕ) → cond (a || b) (92 ∷ n ∷ []) (n ∷ [])
     ≡ strict_text (cond a (QuoteEscape n) (cond b (PlainEscape n) (Itself n)))
 visible_is true b n = refl
@@ -190,7 +191,7 @@ number_is style k z n m text escape of same =
         ap (λ b. number_text style k (cond b n 128) text) e ∙ kept_text style k text ∙ same
         ∙ ap strict_text (sym (kept_escape style k z n escape none unnamed))
 
--- An escape such as `\n` is unchanged. Its letter is neither a quote nor the letter of a numeric escape.
+-- An escape with a letter, such as `\n`, is unchanged: the letter is neither a quote nor the letter of a numeric escape.
 plain_text : (style : Style) (k : Kind) (n c : ℕ) → is_plain_letter c ≡ true → restyled_escape style k n (c ∷ [])
     ≡ 92 ∷ c ∷ []
 plain_text style k n c h =
@@ -241,7 +242,7 @@ row_text case (d ∷ ds) =
     ∙ ap (λ z. (cased case d.0 ∷ z) ++ map (cased case) (flat_map spaced_digit ds)) (underscores case d.1)
     ∙ ap (λ z. (cased case d.0 ∷ replicate d.1 95) ++ z) (row_text case ds)
 
--- If the digits of a `\u{..}` escape and the brace after them are written in one case, only the digits change.
+-- A change of case changes the digits of a `\u{..}` escape, and not the closing brace after them.
 closed_text : (case : Option Case) (ds : List (ℕ × ℕ)) → map (cased case) (flat_map spaced_digit ds ++ (125 ∷ []))
     ≡ flat_map spaced_digit (map (cased_digit case) ds) ++ (125 ∷ [])
 closed_text case ds =
@@ -373,8 +374,8 @@ itself_restyled style k y z c same = go (style.hidden && needs_number c) refl
         ∙ hidden_is style k z c (and_parts style.hidden (needs_number c) e).1
     go false e = refl
 
--- The code and the definition test whether a character is a NUL that may be written as `\0`. The code tests the character's
--- value, and the definition tests the character itself. The two tests have one result.
+-- The code tests by a character's value whether the character is a NUL that may be written as `\0`. The definition tests the
+-- character itself. The two results are equal.
 zero_same : (k : Kind) (z : Bool) (c : ℕ)
     → ((lettered z (ascii_in (strict_content_of k (c ∷ []))) == 0) && c == 0) ≡ (z && c == 0)
 zero_same k z c = go (c == 0) refl
@@ -431,7 +432,7 @@ at_escape : (style : Style) (k : Kind) (n : ℕ) (t cs : List ℕ) → t ≡ 92 
 unfolding restyled_text
 at_escape style k n t cs e = ap (restyled_text style k n) e
 
--- An escaped quote loses its backslash if the rule is set and the quote doesn't close the literal.
+-- If the rule `quote_escapes` is set, an escaped quote that doesn't close the literal loses its backslash.
 quoted_escape : (style : Style) (k : Kind) (n c : ℕ) (cs : List ℕ) → (c == 39 || c == 34) ≡ true
     → restyled_escape style k n (c ∷ cs) ≡ cond (style.quote_escapes && not (c == closer k)) (c ∷ cs) (92 ∷ c ∷ cs)
 quoted_escape style k n c cs q =

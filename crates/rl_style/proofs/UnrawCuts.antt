@@ -7,7 +7,8 @@ use Rattle.rl_style.specs.Recut.{KeepsTheTokensUnraw}
 use Rattle.rl_style.proofs.Ends.{raw_rest, quoted_rest}
 use Rattle.rl_style.proofs.Recut.{Recut, Unquoted, literal_is, literal_rest, recut}
 
--- A raw string and the string with escapes that replaces it begin alike, except for the `r`. Both follow the text `lead`.
+-- The text `lead` before a raw string ends with neither a hash nor a dot. If a string with escapes replaces the raw string,
+-- the old and the new text satisfy `Unquoted`.
 pub unquoted : (lead : List ℕ) (n : ℕ) (body x : List ℕ) (parts : List BodyPart) (after new_after : List ℕ)
     → may_precede_quote lead ≡ true
     → Unquoted lead (lexeme_text (RawLexeme NoPrefix n body x) ++ after)

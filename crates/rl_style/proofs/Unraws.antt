@@ -1,5 +1,5 @@
--- A raw string is replaced by a string with escapes. The tokens before it are lexed as before if the text before it ends with
--- neither a hash nor a dot.
+-- If a string with escapes replaces a raw string, the token before it is lexed as before. The text before the raw string must
+-- end with neither a hash nor a dot.
 use Rattle.rl_syntax.proofs.Common.{◌≡◌, ℕ, inl, inr, Bool, true, false, not, ◌&&◌, ◌||◌, ◌==◌, cond, List, [], ◌∷◌, ◌++◌, drop, refl, sym, ◌∙◌, ap, replicate, append_assoc, lit<, is_ascii_digit, is_xid_continue-ascii}
 use Rattle.rl_syntax.specs.Texts.{is_white, is_underscore, first_passes, is_run_part, is_start, is_continue, begins_char}
 use Rattle.rl_syntax.specs.Classes.{is_hash, after_run}
@@ -72,8 +72,8 @@ after_dot (LexedPower letter sign n d more) s f x y may suffix (il, id, row) h =
 assoc3 : (d e s t : List ℕ) → (d ++ (e ++ s)) ++ t ≡ d ++ (e ++ (s ++ t))
 assoc3 d e s t = simp append_assoc
 
--- If the first character of the old text fails a test, that of the new text fails it too. The texts `d`, `e` and `s` precede
--- both.
+-- The old text contains a raw string, and the new text a string with escapes in its place. If the first character of the old
+-- text fails a test that a quote fails, the first character of the new text fails the test too.
 behind : (test : ℕ → Bool) (d e s f x y : List ℕ) → test 34 ≡ false → first_passes test (d ++ (e ++ (s ++ old f x)))
     ≡ false
     → first_passes test (d ++ (e ++ (s ++ new f y))) ≡ false

@@ -1,5 +1,5 @@
--- If one literal of a source is rewritten, all other tokens are lexed as before. The source's first line isn't an interpreter's
--- line.
+-- If one literal of a source is rewritten, all other tokens are lexed as before. The source must not begin with `#!`, unless
+-- it begins with `#![`.
 use Rattle.rl_syntax.proofs.Common.{◌≡◌, ℕ, ◌+◌, inl, inr, Bool, true, false, not, ◌||◌, ◌==◌, and_parts, both_ways, cond, List, [], ◌∷◌, ◌++◌, refl, sym, ◌∙◌, ap, subst, arith, codes, append_assoc}
 use Rattle.rl_syntax.specs.Texts.{first_passes, begins, begins_char, byte_len, is_white}
 use Rattle.rl_lexer.specs.Lexemes.{Lexeme, lexeme_text}
@@ -14,8 +14,8 @@ use Rattle.rl_style.proofs.Recut.{Alike, Recut, alike_more, recut_ends}
 abbrev is_mark : ℕ → Bool
 is_mark c = c == 65279
 
--- The byte order mark at the start of the text, or nothing, and the source after it. Another source `u` may follow `mark`
--- instead. Then exactly `mark` is dropped, if both sources or neither of them begin with a byte order mark.
+-- The text consists of `mark`, which is a byte order mark or nothing, and of a source. If a source `u` replaces this source,
+-- the text without its byte order mark is `u`. Either both sources begin with a byte order mark, or neither does.
 record Marked (t : List ℕ) : Type 0 where
   pub mark : List ℕ
   pub text_is : t ≡ mark ++ without_byte_order_mark t
@@ -44,7 +44,7 @@ marked (c ∷ t) = go (c == 65279) refl
           goes = λ u e. unmarked u (sym e ∙ ap (first_passes is_mark) same ∙ h);
         }
 
--- The text after `#!` isn't an interpreter's line if it begins with a bracket.
+-- If the text after `#!` begins with `[`, the line isn't an interpreter's line.
 no_line : (l : List ℕ) → begins (codes "[") l ≡ true → ((s : List ℕ) → Skipped l s → begins_char 91 s ≡ false) → ⊥
 no_line [] h none = both_ways false refl h
 no_line (c ∷ x) h none =
@@ -52,7 +52,7 @@ no_line (c ∷ x) h none =
     let here : Skipped (c ∷ x) (c ∷ x) = skipped_none (c ∷ x) (ap is_white e) (ap (λ z. z == 47) e) in
     both_ways (begins_char 91 (c ∷ x)) (none (c ∷ x) here) (ap (λ z. z == 91) e)
 
--- The text, without its byte order mark, doesn't begin with `#!`, or begins with `#![`.
+-- The text of a source without its byte order mark doesn't begin with `#!`, or begins with `#![`.
 abbrev is_code : List ℕ → Bool
 is_code t = not (begins (codes "#!") t) || begins (codes "#![") t
 
@@ -69,7 +69,8 @@ mark_agrees lead a b (inr (inr u)) = ap (first_passes is_mark) u.old_is ∙ go u
     go [] x y = refl
     go (c ∷ f) x y = refl
 
--- If two texts are equal up to an `r` in one and a quote in the other, neither or both begin with an interpreter's line.
+-- Two texts are equal up to an `r` in the first text and a quote in the second one. Either both satisfy `is_code`, or neither
+-- does.
 unquoted_code : (f x y : List ℕ) → is_code (f ++ (114 ∷ x)) ≡ is_code (f ++ (34 ∷ y))
 unquoted_code [] x y = refl
 unquoted_code (c ∷ []) x y = refl
@@ -89,8 +90,8 @@ body_is : (t body : List ℕ) → is_code t ≡ true → IsWithoutLine t body �
 body_is t body h (inl is) = absurd (no_script t body h is)
 body_is t body h (inr is) = is.0
 
--- The text `mark` before the body of a source: its byte order mark, or nothing. It is also the text before each other body `u`
--- that begins as the body does.
+-- A source consists of the text `mark`, which is a byte order mark or nothing, and of its body. If a body `u` begins as this
+-- body does, the source `mark ++ u` has the body `u`.
 pub record Preamble (t body : List ℕ) (at : ℕ) : Type 0 where
   pub mark : List ℕ
   pub text_is : t ≡ mark ++ body

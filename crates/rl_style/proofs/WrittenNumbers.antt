@@ -76,8 +76,8 @@ digits_found t v x i =
 
 -- ---- the bytes that the code writes for a number
 
--- If Unicode scalar values are written before a UTF-8 text, the result is UTF-8. Its characters are these values and then the
--- characters of the text.
+-- If Unicode scalar values are written before a UTF-8 text, the result is UTF-8. The result consists of these values and then
+-- of the characters of the text.
 followed : (m s b : List ℕ) → IsUtf8 s → scalars m ≡ true → b ≡ encode_utf8_all m ++ s → IsUtf8 b
     × (chars b ≡ m ++ chars s)
 followed m s b v h e = text_of b (m ++ chars s) (scalars_join m (chars s) h (scalars-chars s v))
@@ -208,7 +208,7 @@ pub number_utf8 : (style : Style) (front middle suffix new : List ℕ) → IsUtf
     → scalars middle ≡ true → Written style front middle suffix new → IsUtf8 new
 number_utf8 style front middle suffix new u us h e = (number_text style front middle suffix new u us h e).0
 
--- The base and the digits that the code finds in an integer are those of Rust's grammar.
+-- The code finds the base and the digits of an integer that Rust's grammar defines.
 pub digits_cut : (text digits suffix full : List ℕ) (base : ℕ) (v : Contents)
     → ◌≡◌ {A = ℕ × List ℕ} (base, chars digits) (radix_at (chars text))
     → chars digits ≡ chars full ++ chars suffix → (i : StrictInt (chars text) v (chars suffix))
@@ -339,7 +339,8 @@ float_unchanged t new x v f mistyped e =
 
 -- ---- the code writes one part of a number after the other
 
--- If one more part is written, the whole text is still the text written so far and the text that is still to be written.
+-- The whole text consists of the text that is written so far, and of the text that is still to be written. If the code writes
+-- one more part, this still holds.
 pub one_more : (whole taken new one rest : List ℕ) → whole ≡ taken ++ encode_utf8_all (one ++ rest)
     → new ≡ taken ++ encode_utf8_all one → whole ≡ new ++ encode_utf8_all rest
 one_more whole taken new one rest e h =
@@ -347,7 +348,7 @@ one_more whole taken new one rest e h =
     ∙ sym (append_assoc taken (encode_utf8_all one) (encode_utf8_all rest))
     ∙ ap (λ z. z ++ encode_utf8_all rest) (sym h)
 
--- If a digit's group ends, the digit and then an underscore are written.
+-- If a digit is the last digit of its group, the code writes the digit and then an underscore.
 pub digit_marked : (old first new one : List ℕ) (b : Bool) → first ≡ old ++ encode_utf8_all one
     → new ≡ first ++ (95 ∷ []) → b ≡ true → new ≡ old ++ encode_utf8_all (one ++ cond b (95 ∷ []) [])
 digit_marked old first new one b e h is =

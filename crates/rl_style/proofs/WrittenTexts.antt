@@ -13,8 +13,8 @@ scalars_join (c ∷ cs) b h k =
 pub text_of : (b cs : List ℕ) → scalars cs ≡ true → b ≡ encode_utf8_all cs → IsUtf8 b × (chars b ≡ cs)
 text_of b cs h e = ((cs, (h, sym e)), ap chars e ∙ chars-encodes cs h)
 
--- If characters are written between two UTF-8 texts, the result is UTF-8, and its characters are those of the three parts in
--- order.
+-- If characters are written between two UTF-8 texts, the result is UTF-8. The result consists of the characters of the three
+-- parts, in order.
 pub between_texts : (p m s b : List ℕ) → IsUtf8 p → IsUtf8 s → scalars m ≡ true → b ≡ (p ++ encode_utf8_all m) ++ s
     → IsUtf8 b × (chars b ≡ chars p ++ (m ++ chars s))
 between_texts p m s b u v h e =

@@ -23,8 +23,8 @@ opener_is ByteStr h = (refl, refl, refl, refl)
 opener_is CStr h = (refl, refl, refl, refl)
 opener_is kind h = absurd (cc)
 
--- If a raw string becomes a string with escapes, each byte of its content becomes at most four bytes. With the delimiters and
--- the suffix, these are at most four times the bytes of the raw string.
+-- If a raw string becomes a string with escapes, each byte of its content becomes at most four bytes. The whole new text has
+-- at most four times as many bytes as the raw string.
 pub unraw_room : (k : Kind) (t i s : List ℕ) → IsUtf8 t → IsUtf8 i → IsUtf8 s
     → RawParts k (chars t) (chars i) (chars s) → length (opener k) + 4 * length i + 1 + length s ≤ 4 * length t
 unraw_room k t i s ut ui us p =
@@ -78,7 +78,7 @@ unraw_written style k t inside suffix new ui us p w =
 
 -- ---- the code writes one character of a raw string after another
 
--- The new text of the first characters of a raw string. The characters `left` follow them.
+-- The new text of the characters in the first list. The characters in the list `left` follow them in the raw string.
 abbrev pub raw_before : Style → List ℕ → List ℕ → List ℕ
 raw_before style [] left = []
 raw_before style (c ∷ cs) left =

@@ -1,5 +1,5 @@
--- A token may depend on the text after it. If two texts begin alike up to a literal's first character, the tokens before them
--- don't depend on which of the two texts follows. A character is its code.
+-- The lexer may need the text after a token to find the token's end. If two texts begin alike up to a literal's first
+-- character, each token before the first text is also a token before the second text. Characters are code points.
 use Rattle.std.specs.Prelude.{◌≡◌, ◌≢◌, ℕ, ◌⊎◌, Bool, true, false, not, ◌&&◌, ◌||◌, ◌==◌, List, [], ◌∷◌, ◌++◌, codes, IsTrue, ⊤}
 use Rattle.std.specs.Char.{is_ascii_digit}
 use Rattle.std.specs.List.{list_all}
@@ -13,12 +13,14 @@ use Rattle.rl_lexer.specs.Sources.{SourceLexeme, IsProper}
 abbrev pub is_head : ℕ → Bool
 is_head c = is_among (codes "\"'rbc") c || is_ascii_digit c
 
--- The first characters of two literals are equal, or digits. No token before a literal depends on which digit the literal
--- begins with.
+-- Either the first characters of the two literals are equal, or both are decimal digits. No token before a literal depends on
+-- which digit the literal begins with.
 abbrev pub SameHead : ℕ → ℕ → Type 0
 SameHead old new = (old ≡ new) ⊎ (IsTrue (is_ascii_digit old) × IsTrue (is_ascii_digit new))
 
--- The old and the new text begin alike, up to a quote, a digit, or the `r` of a raw string.
+-- The old and the new text begin with the text `front`. In each text, a character that a literal may begin with follows
+-- `front`. The two characters are equal, or both are digits. If they are `r`, hashes and a quote follow in both texts, as in
+-- a raw string.
 pub record SameFront (old new : List ℕ) : Type 0 where
   pub front : List ℕ
   pub head : ℕ
@@ -31,13 +33,13 @@ pub record SameFront (old new : List ℕ) : Type 0 where
   pub old_is : old ≡ front ++ (head ∷ old_rest)
   pub new_is : new ≡ front ++ (new_head ∷ new_rest)
 
--- If two texts begin alike up to a literal's first character, each token before the old text is a token before the new text.
--- Only invalid quotes and stray characters are excepted.
+-- If the old and the new text begin alike up to a literal's first character, each token directly before the old text is also
+-- a token directly before the new text. Invalid quotes and stray characters are excepted.
 abbrev pub StaysAround : Type 0
 StaysAround = (w : SourceLexeme) (old new : List ℕ) → SameFront old new → IsProper w old → IsProper w new
 
--- The old and the new literal are quoted literals with escapes. They have one prefix and one suffix. The new literal has a
--- valid body.
+-- The old and the new literal are quoted literals with escapes. Their prefixes are equal, and so are their suffixes. The new
+-- literal has a valid body.
 pub record SameQuoted (old new : Lexeme) : Type 0 where
   pub prefix : LiteralPrefix
   pub parts : List BodyPart
@@ -47,8 +49,8 @@ pub record SameQuoted (old new : Lexeme) : Type 0 where
   pub old_is : old ≡ QuotedLexeme prefix parts suffix
   pub new_is : new ≡ QuotedLexeme prefix new_parts suffix
 
--- The old and the new literal are raw strings. They have one prefix and one suffix, and may have different numbers of hashes.
--- The new literal has a valid body.
+-- The old and the new literal are raw strings. Their prefixes are equal, and so are their suffixes. Their numbers of hashes
+-- may differ. The new literal has a valid body.
 pub record SameRawString (old new : Lexeme) : Type 0 where
   pub prefix : LiteralPrefix
   pub hashes : ℕ
@@ -60,8 +62,8 @@ pub record SameRawString (old new : Lexeme) : Type 0 where
   pub old_is : old ≡ RawLexeme prefix hashes body suffix
   pub new_is : new ≡ RawLexeme prefix new_hashes new_body suffix
 
--- The old literal is a raw string with the prefix `b` or `c`. The new literal is a string with escapes. It has the prefix and
--- the suffix of the old one, and a valid body.
+-- The old literal is a raw string with the prefix `b` or `c`. The new literal is a string with escapes, which has a valid
+-- body and the old literal's prefix and suffix.
 pub record SameUnraw (old new : Lexeme) : Type 0 where
   pub prefix : LiteralPrefix
   pub has_prefix : prefix ≢ NoPrefix
@@ -73,7 +75,7 @@ pub record SameUnraw (old new : Lexeme) : Type 0 where
   pub old_is : old ≡ RawLexeme prefix hashes body suffix
   pub new_is : new ≡ QuotedLexeme prefix new_parts suffix
 
--- The old and the new literal are characters, or both are bytes. They have one suffix. The new literal has a valid body.
+-- The old and the new literal are characters, or both are bytes. Their suffixes are equal. The new literal has a valid body.
 pub record SameCharacter (old new : Lexeme) : Type 0 where
   pub is_byte : Bool
   pub inside : CharacterBody
@@ -83,7 +85,8 @@ pub record SameCharacter (old new : Lexeme) : Type 0 where
   pub old_is : old ≡ CharacterLexeme is_byte inside suffix
   pub new_is : new ≡ CharacterLexeme is_byte new_inside suffix
 
--- The old and the new literal are integers with one base prefix. The digits include the suffix here.
+-- The old and the new literal are integers with equal base prefixes, as `0xab` and `0xAB`. The digits, which include the
+-- suffix in this definition, may differ.
 pub record SameBased (old new : Lexeme) : Type 0 where
   pub letter : ℕ
   pub digits : List ℕ
@@ -92,8 +95,8 @@ pub record SameBased (old new : Lexeme) : Type 0 where
   pub old_is : old ≡ BasedLexeme letter digits
   pub new_is : new ≡ BasedLexeme letter new_digits
 
--- Both numbers have a fraction, or neither has one. The digits of the two fractions may differ. The new fraction begins with a
--- digit, unless both numbers end with their dot.
+-- Both numbers have a fraction, or neither number has one. The digits of the two fractions may differ. Either the new
+-- fraction begins with a digit, or both numbers end with a dot.
 abbrev pub SameFraction : LexedFraction → LexedFraction → LexedExponent → Type 0
 SameFraction NoLexedFraction NoLexedFraction power = ⊤
 SameFraction (LexedDot digits) (LexedDot new) power =
@@ -109,8 +112,9 @@ SamePower (LexedPower _ _ _ _ _) (LexedPower letter sign n d more) =
     × IsTrue (list_all (is_run_part is_ascii_digit) more)
 SamePower _ _ = ⊥
 
--- The old and the new literal are decimal numbers with one first digit and one suffix. The new one has a fraction and an
--- exponent if the old one has them, and doesn't begin with the prefix of another base.
+-- The old and the new literal are decimal numbers. Their first digits are equal, and so are their suffixes. The new number
+-- has a fraction if and only if the old one has one, and an exponent if and only if the old one has one. The new number
+-- doesn't begin with a base prefix such as `0x`.
 pub record SameDecimal (old new : Lexeme) : Type 0 where
   pub digit : ℕ
   pub more : List ℕ
@@ -128,15 +132,15 @@ pub record SameDecimal (old new : Lexeme) : Type 0 where
   pub old_is : old ≡ DecimalLexeme digit more fraction exponent suffix
   pub new_is : new ≡ DecimalLexeme digit new_more new_fraction new_exponent suffix
 
--- The new literal has the kind, the prefix and the suffix of the old one, and is well formed. Both literals are raw strings,
--- or neither is. But a raw string with the prefix `b` or `c` may become a string with escapes.
+-- The new literal has the old literal's kind, prefix and suffix, and is well formed. Both literals are raw strings, or
+-- neither is. The only exception is a raw string with the prefix `b` or `c`, which may become a string with escapes.
 abbrev pub SameEnds : Lexeme → Lexeme → Type 0
 SameEnds old new =
     SameQuoted old new ⊎ (SameRawString old new ⊎ (SameCharacter old new ⊎ (SameBased old new
     ⊎ (SameDecimal old new ⊎ SameUnraw old new))))
 
--- If a new literal has the ends of the old one (`SameEnds`), it is a literal before each text that may follow the old one, and
--- begins as the old one does. The ends of a literal are its prefix and its suffix.
+-- The new literal has the kind, the prefix and the suffix of the old one (`SameEnds`). If a text may follow the old literal,
+-- it may also follow the new literal. Both literals begin alike.
 abbrev pub KeepsItsEnds : Type 0
 KeepsItsEnds =
     (l m : Lexeme) (after : List ℕ) → SameEnds l m → IsLexeme l after
@@ -148,8 +152,8 @@ may_precede_quote [] = true
 may_precede_quote (c ∷ []) = not (c == code "#" || c == code ".")
 may_precede_quote (c ∷ d ∷ t) = may_precede_quote (d ∷ t)
 
--- A token before a raw string is also a token before a string with escapes, if the text between the token and the string ends
--- with neither a hash nor a dot.
+-- The text between a token and a raw string ends with neither a hash nor a dot. If a string with escapes replaces the raw
+-- string, the token is still lexed as before.
 abbrev pub StaysBeforeQuote : Type 0
 StaysBeforeQuote =
     (w : SourceLexeme) (front raw quoted : List ℕ) → IsTrue (may_precede_quote front)

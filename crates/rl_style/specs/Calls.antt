@@ -1,5 +1,5 @@
--- Whether a token is inside a macro call, a macro's definition or an attribute, according to the tokens before it. An
--- identifier's text is a list of bytes.
+-- Definitions that tell whether a token is inside a macro call, a macro's definition or an attribute. The tokens before the
+-- token decide. The text of an identifier is a list of bytes.
 use Rattle.std.specs.Prelude.{ℕ, ◌+◌, ◌-◌, Bool, true, false, not, ◌&&◌, ◌==◌, nat_lt, List, [], ◌∷◌, codes, if◌then◌else◌}
 use Rattle.std.specs.List.{list_any}
 use Rattle.std.specs.Str.{bytes_eq}
@@ -16,7 +16,7 @@ pub data CallState : Type 0 where
   Outside : CallState
   -- The next token follows an identifier, which may be a macro's name.
   AfterWord : (word : List ℕ) → CallState
-  -- The next token follows a macro's name, `!`, and perhaps identifiers.
+  -- The next token follows a macro's name and `!`, and perhaps identifiers after them, as in `macro_rules! m`.
   AfterBang : CallState
   -- The next token follows `#`, or `#!`.
   AfterHash : CallState
@@ -35,8 +35,8 @@ keywords =
 unfoldable pub is_keyword : List ℕ → Bool
 is_keyword word = list_any (bytes_eq word) keywords
 
--- The position relative to macro calls, after an identifier. After a macro's name and `!`, the identifier is the name of a
--- macro that is being defined.
+-- Returns the position relative to macro calls after one more identifier. After a macro's name and `!`, the identifier is the
+-- name of a macro that is being defined, as in `macro_rules! m`.
 abbrev pub after_word : CallState → List ℕ → CallState
 after_word (Inside depth) word = Inside depth
 after_word AfterBang word = AfterBang
@@ -47,8 +47,8 @@ after_word AfterHash word = AfterWord word
 abbrev pub at_hash : ℕ → CallState
 at_hash mark = if mark == code "#" then AfterHash else Outside
 
--- The position relative to macro calls, after a punctuation character. If `!` follows an identifier that isn't a keyword, the
--- identifier is a macro's name.
+-- Returns the position relative to macro calls after one more punctuation character. If `!` follows an identifier that isn't
+-- a keyword, the identifier is a macro's name.
 abbrev pub after_mark : CallState → ℕ → CallState
 after_mark (Inside depth) mark = Inside depth
 after_mark AfterHash mark = if mark == code "!" then AfterHash else at_hash mark
@@ -56,12 +56,12 @@ after_mark (AfterWord word) mark = if mark == code "!" && not (is_keyword word) 
 after_mark AfterBang mark = at_hash mark
 after_mark Outside mark = at_hash mark
 
--- The depth plus one, or the depth if it is the greatest 64-bit number.
+-- The depth plus one. If the depth is the greatest 64-bit number, the result is this number.
 abbrev pub deeper : ℕ → ℕ
 deeper depth = if nat_lt depth 18446744073709551615 then depth + 1 else depth
 
--- The position relative to macro calls, after an opening bracket. Brackets of any kind nest. Any bracket after a macro's name
--- and `!` begins a macro call, and `[` after `#` begins an attribute.
+-- Returns the position relative to macro calls after one more opening bracket. Brackets of any kind nest. Any bracket after a
+-- macro's name and `!` begins a macro call. The bracket `[` after `#` begins an attribute.
 abbrev pub after_opener : CallState → ℕ → CallState
 after_opener (Inside depth) bracket = Inside (deeper depth)
 after_opener AfterBang bracket = Inside 1
@@ -76,12 +76,13 @@ after_closer _ = Outside
 abbrev pub after_bracket : CallState → ℕ → CallState
 after_bracket s bracket = if is_among (codes "([{") bracket then after_opener s bracket else after_closer s
 
--- The position relative to macro calls, after a literal, a lifetime, a doc comment or a stray character.
+-- Returns the position relative to macro calls after one more token that is a literal, a lifetime, a doc comment or a stray
+-- character.
 abbrev pub after_any_other : CallState → CallState
 after_any_other (Inside depth) = Inside depth
 after_any_other _ = Outside
 
--- The position relative to macro calls, after a token of the given kind. The text of the token is `bytes`.
+-- Returns the position relative to macro calls after one more token, with the given kind and the text `bytes`.
 abbrev pub advance_calls : CallState → SourceKind → List ℕ → CallState
 advance_calls s (PlainKind IdentifierForm) bytes = after_word s bytes
 advance_calls s (PlainKind (DelimiterForm c)) bytes = after_bracket s c
@@ -97,7 +98,7 @@ abbrev pub is_in_call : CallState → Bool
 is_in_call (Inside depth) = true
 is_in_call _ = false
 
--- Converts the code's position relative to macro calls to the position in the definitions.
+-- Converts the code's value of the type `Calls` to the definitions' value of the type `CallState`.
 abbrev pub calls_seen : Calls → CallState
 calls_seen found.Outside = Outside
 calls_seen (found.AfterWord word) = AfterWord word.now

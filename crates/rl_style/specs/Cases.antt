@@ -1,4 +1,4 @@
--- Lower and upper case, and the new characters of rewritten numbers. A character is its code.
+-- Lower and upper case, and the new characters of rewritten numbers. Characters are code points.
 use Rattle.std.specs.Prelude.{ℕ, ◌+◌, ◌-◌, Bool, not, ◌&&◌, ◌||◌, ◌==◌, nat_le, List, [], ◌∷◌, Option, Some, None, codes, true, false, if◌then◌else◌}
 use Prim.Native.Char.{code}
 use Rattle.rl_syntax.specs.Classes.{after_run}
@@ -31,12 +31,12 @@ exponent_letter (Some Lower) c = if c == code "E" then code "e" else c
 exponent_letter (Some Upper) c = if c == code "e" then code "E" else c
 
 -- Whether the style drops the underscores of a number with the given suffix. If the suffix begins with the letter of a base,
--- they are kept, so that `0_b1` doesn't become a binary number.
+-- the underscores are kept: `0_b1` without its underscore is a binary number.
 abbrev pub drops_underscores : Style → List ℕ → Bool
 drops_underscores style suffix = style.underscores && not (first_passes is_base_letter suffix)
 
--- The new characters for one character of a number. They are one character, or none if the character is dropped. `drops` is
--- true if underscores are dropped, and `hex` if the number is hexadecimal.
+-- The new characters for one character of a number: one character, or none if the character is dropped. `drops` is true if
+-- the style drops underscores. `hex` is true if the number is hexadecimal.
 abbrev pub number_character : Style → Bool → Bool → ℕ → List ℕ
 number_character style drops hex c =
     if (drops && c == code "_") || ((not hex && style.exponent_plus) && c == code "+") then []
@@ -47,8 +47,9 @@ abbrev pub trimmed : List ℕ → List ℕ
 trimmed [] = []
 trimmed (c ∷ cs) = if list_all is_underscore (c ∷ cs) then [] else c ∷ trimmed cs
 
--- Whether the style drops the underscores before a number's suffix. A style without a separator keeps them if the suffix
--- begins with the letter of a base, so that the number doesn't become another number.
+-- Whether the style drops the underscores at the end of a number's digits, before the suffix. If the style writes no
+-- separator and the suffix begins with the letter of a base, the underscores are kept: `0_b1` without its underscore is
+-- another number.
 abbrev pub trims_by : Option Separator → List ℕ → Bool
 trims_by None suffix = false
 trims_by (Some Nothing) suffix = not (first_passes is_base_letter suffix)
@@ -79,8 +80,8 @@ or_zero (c ∷ cs) = c ∷ cs
 abbrev pub significant : List ℕ → List ℕ
 significant run = or_zero (after_run is_padding run)
 
--- Whether the style drops the leading zeros of an integer. It drops them only if the integer is decimal, and if its suffix
--- doesn't begin with the letter of a base.
+-- Whether the style drops the leading zeros of an integer. Only a decimal integer loses its leading zeros. An integer whose
+-- suffix begins with the letter of a base (`b`, `o` or `x`) keeps them.
 abbrev pub drops_zeros : Style → ℕ → List ℕ → Bool
 drops_zeros style base suffix = (style.leading_zeros && base == 10) && not (first_passes is_base_letter suffix)
 

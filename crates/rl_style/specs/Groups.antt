@@ -1,4 +1,4 @@
--- Digits in groups, with underscores between the groups. A character is its code.
+-- Digits in groups, with underscores between the groups. Characters are code points.
 use Rattle.std.specs.Prelude.{ℕ, ◌-◌, Bool, true, false, ◌&&◌, ◌==◌, nat_lt, List, [], ◌∷◌, ◌++◌, Option, Some, None, codes, length, if◌then◌else◌}
 use Rattle.std.specs.Char.{is_ascii_digit}
 use Rattle.std.specs.List.{flat_map, list_all}
@@ -18,7 +18,7 @@ base_group groups base =
     else (if base == 8 then groups.octal else (if base == 16 then groups.hexadecimal else groups.decimal))
 
 -- The number of digits in a group, for a number with the given base and suffix. If the suffix begins with the letter of a
--- base, the result is 0, so that `0_b1` doesn't become another number.
+-- base, the result is 0, and `0_b1` keeps its underscore.
 abbrev pub size_by : Option DigitGroups → ℕ → List ℕ → ℕ
 size_by None base suffix = 0
 size_by (Some groups) base suffix = if first_passes is_base_letter suffix then 0 else base_group groups base
@@ -27,19 +27,19 @@ abbrev pub least_by : Option DigitGroups → ℕ
 least_by None = 0
 least_by (Some groups) = groups.least
 
--- Whether an underscore follows a digit. `left` digits follow the digit, of the `count` digits of the number. Groups are
--- counted from the first digit if the first argument is true, and from the last digit otherwise.
+-- Whether the style writes an underscore after a digit of a number. The number has `count` digits, and `left` of them follow
+-- the digit. If the first argument is true, groups are counted from the first digit, and otherwise from the last.
 abbrev pub ends : Bool → ℕ → ℕ → ℕ → Bool
 ends false size count left = is_digit_group_end size left
 ends true size count left = nat_lt 0 left && is_digit_group_end size (count - left)
 
--- The digits, with an underscore after some of them. An underscore follows a digit if the number of digits after the digit
--- passes the test.
+-- The digits, with an underscore after some of them. The function `test` decides for each digit by the number of digits after
+-- it.
 abbrev pub spaced : (ℕ → Bool) → List ℕ → List ℕ
 spaced test [] = []
 spaced test (d ∷ ds) = d ∷ ((if test (length ds) then codes "_" else []) ++ spaced test ds)
 
--- The digits, divided into groups of `size` digits. If there are fewer than `least` digits, they are unchanged.
+-- The digits, divided into groups of `size` digits. Fewer than `least` digits are unchanged.
 abbrev pub in_groups : Bool → ℕ → ℕ → List ℕ → List ℕ
 in_groups from_first size least ds =
     spaced (ends from_first (group_size size least (length ds)) (length ds)) ds
@@ -66,7 +66,7 @@ digit_run [] = []
 digit_run (c ∷ cs) = if is_run_part is_ascii_digit c then c ∷ digit_run cs else []
 
 -- The new form of the text after a float's dot. Its digits are in groups counted from the first digit, and an exponent may
--- follow them. If the text is empty, it becomes a zero if `closes` is true.
+-- follow them. An empty text becomes a zero if `closes` is true.
 abbrev pub after_dot : Bool → (ℕ → List ℕ) → (List ℕ → List ℕ) → List ℕ → List ℕ
 after_dot closes character group [] = if closes then codes "0" else []
 after_dot closes character group (c ∷ cs) =

@@ -6,8 +6,8 @@ use Rattle.rl_syntax.specs.Strict.{Strict}
 use Rattle.rl_style.specs.declared.style.Style.{Style}
 use Rattle.rl_style.specs.Rewriting.{HasNoRule, SameLiteral, SameNumber, Rewrites}
 
--- A rewritten literal has the kind, the value and the suffix of the old literal, if the style doesn't add a zero after a
--- float's dot.
+-- If the style doesn't add a zero after a float's dot, a rewritten literal has the kind, the value and the suffix of the old
+-- literal.
 abbrev pub ARewrittenLiteralIsTheSame : Type 0
 ARewrittenLiteralIsTheSame =
     (style : Style) (front t u : List ℕ) → IsFalse style.float_zero → Rewrites style front t u → SameLiteral t u
@@ -39,19 +39,19 @@ ReadsAlike t u =
     (kind : Kind) (contents : Contents) (suffix : List ℕ)
     → Reads t kind contents suffix → Reads u kind contents suffix
 
--- If the old text is a literal token of Rust's grammar, the new text is one too, and has the kind, the value and the suffix of
--- the old text.
+-- If the old text is a literal token of Rust's grammar, the new text is a literal token too. The new token has the kind, the
+-- value and the suffix of the old one.
 abbrev pub StrictAlike : List ℕ → List ℕ → Type 0
 StrictAlike t u =
     (kind : Kind) (contents : Contents) (suffix : List ℕ)
     → Strict t kind contents suffix → Strict u kind contents suffix
 
--- If two literal tokens have one kind, value and suffix (`SameLiteral`), their parse results by `syn`'s grammar are equal. For an
--- integer above 128 bits, neither token has a parse result.
+-- If two literal tokens have equal kinds, values and suffixes (`SameLiteral`), their parse results by `syn`'s grammar are
+-- equal. For an integer above 128 bits, neither token has a parse result.
 abbrev pub TheSameLiteralReadsAlike : Type 0
 TheSameLiteralReadsAlike = (t u : List ℕ) → SameLiteral t u → ReadsAlike t u
 
--- If two literal tokens have one kind, value and suffix (`SameLiteral`), each kind, value and suffix of the old token by Rust's
--- grammar is also that of the new token.
+-- If two literal tokens have equal kinds, values and suffixes (`SameLiteral`), each parse result of the old token by Rust's
+-- grammar is also a parse result of the new token.
 abbrev pub TheSameLiteralIsStrictAlike : Type 0
 TheSameLiteralIsStrictAlike = (t u : List ℕ) → SameLiteral t u → StrictAlike t u

@@ -16,13 +16,13 @@ use Rattle.rl_style.specs.Cases.{cased, is_padding}
 use Rattle.rl_writing.specs.AsciiStrings.{unicode_escape}
 use Rattle.rl_style.specs.Rewriting.{gets_letter, needs_number, is_visible, letter_of, lower_digit, needs_backslash}
 
--- The list of the optional character: one character, or an empty list for `None`.
+-- Converts an optional character to a list: one character, or none.
 abbrev pub one_or_none : Option ℕ → List ℕ
 one_or_none None = []
 one_or_none (Some c) = c ∷ []
 
--- A rewritten sequence of digits and underscores. An underscore follows a digit if the number of digits after it passes the
--- test. Of the old underscores, only those at the end of the sequence are kept.
+-- A rewritten sequence of digits and underscores. The function `test` decides whether an underscore follows a digit, by the
+-- number of digits after it. Old underscores remain only at the end of the sequence.
 abbrev pub run_placed : (ℕ → List ℕ) → (ℕ → Bool) → List ℕ → List ℕ
 run_placed character test [] = []
 run_placed character test (c ∷ cs) =
@@ -31,7 +31,7 @@ run_placed character test (c ∷ cs) =
     else (character c ++ (if test (length (without_underscores cs)) then codes "_" else []))
     ++ run_placed character test cs
 
--- The text begins with the opening delimiter of a literal of the form and the kind.
+-- The text begins with the opening delimiter of a literal with the given form and kind.
 abbrev pub OpensAs : QuotedForm → Kind → List ℕ → Type 0
 OpensAs form kind text = (rest : List ℕ) × (opener_at text ≡ found_opener form kind rest)
 
@@ -61,17 +61,18 @@ pub record CookedParts (kind : Kind) (text inside suffix : List ℕ) : Type 0 wh
   pub is_suffix : IsStrictSuffix suffix
   pub text_is : text ≡ strict_opener kind ++ (inside ++ (strict_closer kind ++ suffix))
 
--- The first character of a value if it is ASCII, and 128 otherwise.
+-- The first character of a decoded value if it is ASCII, and 128 otherwise.
 abbrev pub ascii_in : List ℕ → ℕ
 ascii_in [] = 128
 ascii_in (n ∷ ns) = if nat_lt n 128 then n else 128
 
--- A visible ASCII character as it is written in a literal of the kind: with a backslash if it needs one.
+-- The text of a visible ASCII character in a literal of the kind. The closing quote and a backslash get a backslash before
+-- them.
 abbrev pub visible_text : Kind → ℕ → List ℕ
 visible_text kind c = if c == closer kind || c == code "\\" then code "\\" ∷ c ∷ [] else c ∷ []
 
--- The text of an escape's digits after the leading zeros and underscores. If it begins with the closing brace, a zero is put
--- before the brace.
+-- Puts a zero before the text if the text begins with `}`. The text is the end of a `\u{..}` escape, after the leading zeros
+-- and underscores. So at least one digit precedes the closing brace.
 abbrev pub zero_closed : List ℕ → List ℕ
 zero_closed [] = []
 zero_closed (c ∷ cs) = if c == code "}" then code "0" ∷ c ∷ cs else c ∷ cs
@@ -81,7 +82,7 @@ fewest_text [] = []
 fewest_text (c ∷ cs) =
     if is_padding c then without_underscores (zero_closed (after_run is_padding cs)) else without_underscores (c ∷ cs)
 
--- The text of a numeric escape with its digits in the style. A `\u{..}` escape has the fewest digits if the style requires
+-- A numeric escape, with its digits rewritten in the style. A `\u{..}` escape gets the fewest digits if the style requires
 -- this.
 abbrev pub digits_text : Style → List ℕ → List ℕ
 digits_text style text =
@@ -100,7 +101,7 @@ number_text style kind n text =
     else (if style.named_escapes && gets_letter true n then code "\\" ∷ letter_of n ∷ []
     else digits_text style text)
 
--- The new form of an escape with the value `n`. The argument is the text of the escape after its backslash.
+-- The new form of an escape with the value `n`. The last argument is the escape's text after the backslash.
 abbrev pub restyled_escape : Style → Kind → ℕ → List ℕ → List ℕ
 restyled_escape style kind n [] = code "\\" ∷ []
 restyled_escape style kind n (c ∷ cs) =
@@ -114,8 +115,7 @@ abbrev pub code_text : ℕ → List ℕ
 code_text c =
     if nat_lt c 128 then code "\\" ∷ code "x" ∷ lower_digit (c / 16) ∷ lower_digit (c % 16) ∷ [] else unicode_escape c
 
--- The new form of an invisible or bidirectional character. If the character is NUL and may be written as `\0`, it is the
--- escape `\0`. Otherwise it is a numeric escape.
+-- The new form of an invisible or bidirectional character: its numeric escape, or `\0` for a NUL that may be written as `\0`.
 abbrev pub hidden_text : Style → Bool → ℕ → List ℕ
 hidden_text style zero c =
     if style.named_escapes && (zero && c == 0) then code "\\" ∷ code "0" ∷ [] else digits_text style (code_text c)

@@ -1,4 +1,4 @@
--- Numbers whose suffix may be mistyped: `2_32` may be meant as `2_i32`. A character is its code.
+-- Numbers whose suffix may be mistyped: `2_32` may be meant as `2_i32`. Characters are code points.
 use Rattle.std.specs.Prelude.{ℕ, Bool, false, ◌&&◌, ◌||◌, ◌==◌, List, [], ◌∷◌}
 use Rattle.std.specs.List.{list_any}
 use Prim.Native.Char.{code}
@@ -17,11 +17,13 @@ abbrev pub ends_with_width : List ℕ → Bool
 ends_with_width [] = false
 ends_with_width (c ∷ cs) = (c == code "_" && is_width cs) || ends_with_width cs
 
--- An integer may have a mistyped suffix if it has no suffix and its text ends with an underscore and a width, as `2_32` does.
+-- The last digits of an integer may be meant as a suffix: the integer has no suffix, and its text ends with an underscore and
+-- a width, as `2_32` does.
 abbrev pub is_mistyped : List ℕ → List ℕ → Bool
 is_mistyped [] text = ends_with_width text
 is_mistyped (c ∷ cs) text = false
 
--- A float may have a mistyped suffix if it has an exponent and no suffix, and its text ends with an underscore and a width.
+-- The last digits of a float may be meant as a suffix: the float has an exponent and no suffix, and its text ends with an
+-- underscore and a width, as `1e5_32` does.
 abbrev pub is_mistyped_float : List ℕ → List ℕ → Bool
 is_mistyped_float suffix text = is_mistyped suffix text && list_any is_exponent_letter text

@@ -6,13 +6,13 @@ use Rattle.rl_lexer.specs.Lexemes.{BodyPart, IsBody, NoPrefix, Lexeme, RawLexeme
 use Rattle.rl_lexer.specs.Sources.{SourceLexeme, PlainToken, BadQuoteToken, StrayToken, CutSource, SourcesUpTo, without_byte_order_mark, IsCutUpTo}
 use Rattle.rl_style.specs.Around.{SameEnds, may_precede_quote}
 
--- The tokens after a replaced literal, which ended at the byte offset `from` and ends at `to` now. Their byte offsets change
--- by the difference.
+-- The tokens after a literal that was replaced. The literal ended at the byte offset `from`, and the new literal ends at
+-- `to`. The difference is added to the byte offset of each token.
 abbrev pub moved : ℕ → ℕ → List CutSource → List CutSource
 moved from to [] = []
 moved from to (w ∷ ws) = record { token = w.token; at = w.at + to - from } ∷ moved from to ws
 
--- The token is neither an invalid quote nor a stray character. No source that rustc accepts contains one of these.
+-- The token is neither an invalid quote nor a stray character. Sources that rustc accepts contain neither.
 abbrev pub IsSoundToken : SourceLexeme → Type 0
 IsSoundToken (BadQuoteToken q) = ⊥
 IsSoundToken (StrayToken c) = ⊥
@@ -24,7 +24,7 @@ IsSound w = IsSoundToken w.token
 abbrev pub placed_literal : Lexeme → ℕ → CutSource
 placed_literal l at = record { token = PlainToken l; at = at }
 
--- The text with the new literal in place of the old one is lexed as before, except for this literal.
+-- If the new literal replaces the old literal in the text, all other tokens are lexed as before.
 pub record IsRecut (at : ℕ) (t : List ℕ) (before after : List CutSource) (old new : Lexeme) (place : ℕ) (r : List ℕ) :
     Type 0 where
   pub front : List ℕ
@@ -42,7 +42,7 @@ KeepsTheTokens =
     → SameEnds old new
     → IsRecut at t before after old new place r
 
--- The source with the new literal in place of the old one is lexed as before, except for this literal.
+-- If the new literal replaces the old literal in the source, all other tokens are lexed as before.
 pub record IsRecutSource (t : List ℕ) (before after : List CutSource) (old new : Lexeme) (place : ℕ) (r : List ℕ) : Type
     0 where
   pub front : List ℕ
@@ -52,20 +52,21 @@ pub record IsRecutSource (t : List ℕ) (before after : List CutSource) (old new
   pub cuts : IsCutUpTo (front ++ (lexeme_text new ++ rest)) (before ++ (placed_literal new place
       ∷ moved (place + byte_len (lexeme_text old)) (place + byte_len (lexeme_text new)) after)) r
 
--- The source begins without `#!`, or with an attribute's `#![`. So its first line isn't an interpreter's line, whatever
--- literals the source contains.
+-- The source doesn't begin with `#!`, or begins with `#![`, an attribute. So its first line isn't an interpreter's line,
+-- whatever literals the source contains.
 abbrev pub begins_with_code : List ℕ → Bool
 begins_with_code t = not (begins (codes "#!") (without_byte_order_mark t)) || begins (codes "#![") (without_byte_order_mark t)
 
--- If one literal of a source is replaced, all other tokens are lexed as before. The source begins without `#!` or with `#![`.
+-- If one literal of a source is replaced, all other tokens are lexed as before. The source must not begin with `#!`, unless
+-- it begins with `#![`.
 abbrev pub KeepsTheSource : Type 0
 KeepsTheSource =
     (t : List ℕ) (before after : List CutSource) (old new : Lexeme) (place : ℕ) (r : List ℕ)
     → IsTrue (begins_with_code t) → IsCutUpTo t (before ++ (placed_literal old place ∷ after)) r
     → AllByRecursion IsSound before → SameEnds old new → IsRecutSource t before after old new place r
 
--- If a raw string without a prefix is replaced by a string with escapes, all other tokens are lexed as before. The text before
--- the string ends with neither a hash nor a dot.
+-- A string with escapes replaces a raw string without the prefix `b` or `c`. If the text before the raw string ends with
+-- neither a hash nor a dot, all other tokens are lexed as before.
 abbrev pub KeepsTheTokensUnraw : Type 0
 KeepsTheTokensUnraw =
     (at : ℕ) (t : List ℕ) (before after : List CutSource) (hashes : ℕ) (body suffix : List ℕ) (parts : List BodyPart)

@@ -1,5 +1,5 @@
--- The literals of a source, with the information whether each may be a field of a tuple, and whether it is inside a macro call.
--- The text of a token is a list of bytes, and the source after the token a list of characters.
+-- The literals of a source. For each literal, the definitions tell whether it may be a field of a tuple, and whether it is
+-- inside a macro call. The text of a token is a list of bytes, and the source after the token a list of characters.
 use Rattle.std.specs.Prelude.{◌≡◌, ℕ, Bool, true, false, cond, not, ◌&&◌, ◌==◌, List, [], ◌∷◌, codes, if◌then◌else◌}
 use Rattle.std.specs.Char.{is_ascii_digit}
 use Rattle.std.specs.Str.{chars}
@@ -26,21 +26,22 @@ abbrev pub is_dot : SourceKind → Bool
 is_dot (PlainKind (MarkForm c)) = c == code "."
 is_dot _ = false
 
--- Describes the last token after one more dot. `joined` is true if the dot directly follows the token before it.
+-- Returns the description of a dot (`Last`), where the argument describes the token before the dot. `joined` is true if that
+-- token directly precedes the dot.
 abbrev pub one_more : Last → Bool → Last
 one_more Dot joined = cond joined Dots Dot
 one_more Dots joined = cond joined Dots Dot
 one_more _ joined = Dot
 
--- A tuple field and its colon may follow this token: `{`, `,`, the `]` that ends an attribute, or a doc comment.
+-- A tuple field and its colon may follow this token: a doc comment, `{`, `,` or `]`. A `]` may end an attribute.
 abbrev pub is_opening : SourceKind → Bool
 is_opening (PlainKind (DelimiterForm c)) = is_among (codes "{]") c
 is_opening (PlainKind (MarkForm c)) = c == code ","
 is_opening DocCommentKind = true
 is_opening _ = false
 
--- Describes the last token after a token of the given kind, which begins at the byte offset `lo`. The token before it ends at
--- `end`.
+-- Returns the description (`Last`) of a token, which has the given kind and begins at the byte offset `lo`. The previous
+-- token ends at the byte offset `end`, and `last` describes it.
 abbrev pub last_after : Last → ℕ → SourceKind → ℕ → Last
 last_after last end kind lo =
     if is_dot kind then one_more last (lo == end) else if is_opening kind then Opening else Other
@@ -54,14 +55,15 @@ abbrev pub begins_one_colon : List ℕ → Bool
 begins_one_colon [] = false
 begins_one_colon (c ∷ t) = c == code ":" && not (begins_char (code ":") t)
 
--- A number between the token `last` and the source `rest` is a field of a tuple. White space and comments at the start of the
--- source aren't part of `rest`.
+-- A number between the token that `last` describes and the source `rest` is a field of a tuple. `rest` begins with neither
+-- white space nor a comment.
 abbrev pub names_field : Last → List ℕ → Bool
 names_field Dot rest = true
 names_field Opening rest = begins_one_colon rest
 names_field _ rest = false
 
--- The literal may be a field of a tuple. It is a number after one dot, or before one colon.
+-- The literal may be a field of a tuple: it is a number that follows one dot, as in `t.0`, or that precedes one colon, as in
+-- `S { 0: x }`.
 abbrev pub is_field : Last → List ℕ → List ℕ → Bool
 is_field last bytes rest = begins_number bytes && names_field last rest
 
@@ -78,7 +80,7 @@ passed s token tokens = record {
 abbrev pub IsLiteralOfSource : SourceToken → Type 0
 IsLiteralOfSource token = IsLiteralText (source_view token.form) (chars token.text.now)
 
--- The next literal of the source. Other tokens may precede it, and white space and comments after it are consumed.
+-- The next literal of the source, and the cursor's state after it. Other tokens may precede the literal.
 pub data GivesLiteral : RestylableState → Restylable → RestylableState → Type 0 where
   Here : {s : RestylableState} → {l : Restylable} → {tokens : CursorState} → TakesSource s.tokens l.token tokens
       → IsLiteralOfSource l.token → l.is_field ≡ is_field s.last l.token.text.now (chars tokens.rest) → l.in_macro

@@ -8,8 +8,8 @@ use Rattle.rl_style.specs.declared.style.Style.{Style}
 use Rattle.rl_style.specs.Recut.{IsRecut, IsRecutSource, IsSound, begins_with_code, placed_literal}
 use Rattle.rl_style.specs.Rewriting.{Rewrites}
 
--- The new text is one token of the old literal's form. With it in place of the old literal, the other tokens are lexed as
--- before.
+-- The new text is one token, with the form of the old literal. If the new text replaces the old literal, the other tokens of
+-- the text are lexed as before.
 pub record IsRestyled (at : ℕ) (t : List ℕ) (before after : List CutSource) (old : Lexeme) (written : List ℕ)
     (place : ℕ) (r : List ℕ) : Type 0 where
   pub new : Lexeme
@@ -17,7 +17,8 @@ pub record IsRestyled (at : ℕ) (t : List ℕ) (before after : List CutSource) 
   pub same_form : form_of new ≡ form_of old
   pub recut : IsRecut at t before after old new place r
 
--- The text before the literal is `front`. The literal is at the byte offset `place`, and the text begins at `at`.
+-- In the text `t`, the text `front` precedes the literal. The text `t` begins at the byte offset `at` of the source, and the
+-- literal at `place`.
 pub record FollowsFront (at : ℕ) (t : List ℕ) (literal : Lexeme) (place : ℕ) (front : List ℕ) : Type 0 where
   pub rest : List ℕ
   pub text_is : t ≡ front ++ (lexeme_text literal ++ rest)
@@ -31,8 +32,8 @@ KeepsTheTokensOfAStyle =
     → AllByRecursion IsSound before → FollowsFront at t old place front
     → Rewrites style front (lexeme_text old) written → IsRestyled at t before after old written place r
 
--- The new text is one token of the old literal's form. With it in place of the old literal, all other tokens of the source are
--- lexed as before.
+-- The new text is one token, with the form of the old literal. If the new text replaces the old literal, the other tokens of
+-- the source are lexed as before.
 pub record IsRestyledSource (t : List ℕ) (before after : List CutSource) (old : Lexeme) (written : List ℕ) (place : ℕ)
     (r : List ℕ) : Type 0 where
   pub new : Lexeme
@@ -40,8 +41,8 @@ pub record IsRestyledSource (t : List ℕ) (before after : List CutSource) (old 
   pub same_form : form_of new ≡ form_of old
   pub recut : IsRecutSource t before after old new place r
 
--- If a literal of a source is rewritten in a style, all other tokens are lexed as before. The source's first line isn't an
--- interpreter's line.
+-- If a literal of a source is rewritten in a style, all other tokens are lexed as before. The source must not begin with
+-- `#!`, unless it begins with `#![`.
 abbrev pub KeepsTheRestyledSource : Type 0
 KeepsTheRestyledSource =
     (style : Style) (t : List ℕ) (before after : List CutSource) (old : Lexeme) (front written : List ℕ) (place : ℕ)
@@ -57,7 +58,8 @@ abbrev pub edited_text : Option (List ℕ) → SourceLexeme → List ℕ
 edited_text None token = source_text token
 edited_text (Some written) token = written
 
--- If some tokens of the old text get new texts, the result is the new text. The old text begins at the byte offset `at`.
+-- The edits change the old text to the new text. There is one edit for each token of the old text: a new text for the token,
+-- or `None`. The old text begins at the byte offset `at`.
 abbrev pub IsEdited : ℕ → List ℕ → List CutSource → List (Option (List ℕ)) → List ℕ → Type 0
 IsEdited at old [] [] new = new ≡ old
 IsEdited at old (w ∷ ws) (e ∷ es) new =
@@ -65,7 +67,7 @@ IsEdited at old (w ∷ ws) (e ∷ es) new =
     × (new ≡ gap ++ (edited_text e w.token ++ new_after)) × IsEdited (source_end w) after ws es new_after
 IsEdited at old _ _ new = ⊥
 
--- If an edit gives a token a new text, the token is a literal and the new text is this literal in the style. The old text
+-- An edit of a token is `None`, or the token is a literal and the edit is its new text in the style. The whole text `t`
 -- begins at the byte offset `at`.
 abbrev pub IsInStyle : Style → ℕ → List ℕ → CutSource → Option (List ℕ) → Type 0
 IsInStyle style at t w None = ⊤
@@ -78,8 +80,8 @@ AreInStyle style at t [] [] = ⊤
 AreInStyle style at t (w ∷ ws) (e ∷ es) = IsInStyle style at t w e × AreInStyle style at t ws es
 AreInStyle style at t _ _ = ⊥
 
--- If an edit gives a token a new text, the new token has this text and the old token's kind. Otherwise the new token is the
--- old one.
+-- After the edit `None`, the new token is the old one. After another edit, the new token has the edit's text and the old
+-- token's kind.
 abbrev pub IsTokenOf : Option (List ℕ) → SourceLexeme → SourceLexeme → Type 0
 IsTokenOf None old new = new ≡ old
 IsTokenOf (Some written) old new = (source_text new ≡ written) × (source_kind new ≡ source_kind old)
@@ -89,8 +91,8 @@ AreTokensOf [] [] [] = ⊤
 AreTokensOf (e ∷ es) (v ∷ vs) (w ∷ ws) = IsTokenOf e v.token w.token × AreTokensOf es vs ws
 AreTokensOf _ _ _ = ⊥
 
--- The lexer splits the new text into as many tokens as the old text. Each token is the old one, or has the new text that an
--- edit gives it.
+-- The lexer splits the new text into as many tokens as the old text. Each token is the old one, or has the new text from its
+-- edit.
 pub record IsCutEdited (at : ℕ) (new : List ℕ) (cuts : List CutSource) (edits : List (Option (List ℕ))) (r : List ℕ) :
     Type 0 where
   pub tokens : List CutSource
@@ -104,16 +106,16 @@ KeepsTheTokensOfEdits =
     → SourcesUpTo at old cuts r → AllByRecursion IsSound cuts → IsEdited at old cuts edits new
     → AreInStyle style at old cuts edits → IsCutEdited at new cuts edits r
 
--- The lexer splits the new source into as many tokens as the old source. Each token is the old one, or has the new text that
--- an edit gives it.
+-- The lexer splits the new source into as many tokens as the old source. Each token is the old one, or has the new text from
+-- its edit.
 pub record IsEditedSource (new : List ℕ) (cuts : List CutSource) (edits : List (Option (List ℕ))) (r : List ℕ) : Type
     0 where
   pub tokens : List CutSource
   pub are_tokens : AreTokensOf edits cuts tokens
   pub are_cuts : IsCutUpTo new tokens r
 
--- If any literals of a source are rewritten in a style, all other tokens are lexed as before. The source's first line isn't an
--- interpreter's line.
+-- If any literals of a source are rewritten in a style, all other tokens are lexed as before. The source must not begin with
+-- `#!`, unless it begins with `#![`.
 abbrev pub KeepsTheEditedSource : Type 0
 KeepsTheEditedSource =
     (style : Style) (old : List ℕ) (cuts : List CutSource) (edits : List (Option (List ℕ))) (new r : List ℕ)

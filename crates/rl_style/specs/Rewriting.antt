@@ -1,5 +1,5 @@
--- Rewritten literals: the new text of a literal token in a style, and the properties that no style changes. A character is its
--- code.
+-- Rewritten literals: the new text of a literal token in a style, and the properties that no style changes. Characters are
+-- code points.
 use Rattle.std.specs.Prelude.{◌≡◌, ◌⊎◌, ℕ, ◌+◌, ◌-◌, ◌/◌, ◌%◌, Bool, true, false, not, ◌&&◌, ◌||◌, ◌==◌, nat_le, nat_lt, List, [], ◌∷◌, ◌++◌, Option, None, map, if◌then◌else◌, IsTrue, IsFalse, codes}
 use Rattle.std.specs.List.{flat_map, list_all, list_any}
 use Prim.Native.Char.{code}
@@ -21,8 +21,7 @@ use Rattle.rl_style.specs.Cases.{cased, drops_underscores, kept_digits, kept_run
 use Rattle.rl_style.specs.Groups.{float_in_groups, grouped_run}
 use Rattle.rl_style.specs.Mistyped.{is_mistyped, is_mistyped_float}
 
--- Both texts are literal tokens of one kind, with one value and one suffix. It is proved that the two texts have equal parse
--- results.
+-- Both texts are literal tokens. Their kinds, values and suffixes are equal. It is proved that their parse results are equal.
 pub record SameLiteral (old new : List ℕ) : Type 0 where
   pub kind : Kind
   pub contents : Contents
@@ -37,7 +36,8 @@ pub record GetsZero (style : Style) (old new : Contents) : Type 0 where
   pub old_is : old ≡ Digits (digits ++ codes ".")
   pub new_is : new ≡ Digits (digits ++ codes ".0")
 
--- Both texts are literal tokens of one kind, with one value and one suffix, except that a float may get a zero after its dot.
+-- Both texts are literal tokens. Their kinds, values and suffixes are equal, except that the style may add a zero after a
+-- float's dot.
 pub record SameNumber (style : Style) (old new : List ℕ) : Type 0 where
   pub kind : Kind
   pub contents : Contents
@@ -66,7 +66,7 @@ pub record StylesInt (style : Style) (old new : List ℕ) : Type 0 where
   pub exact : IsFalse (is_mistyped suffix old)
   pub new_is : new ≡ int.prefix ++ (styled_run style int.base suffix int.run ++ (separator style suffix ++ suffix))
 
--- The old text is an integer whose suffix may be mistyped, and the new text equals it.
+-- The old text is an integer whose suffix may be mistyped, such as `2_32`. The new text equals the old one.
 pub record KeepsInt (old new : List ℕ) : Type 0 where
   pub contents : Contents
   pub suffix : List ℕ
@@ -83,8 +83,8 @@ styled_numeral style suffix numeral =
     float_in_groups style.float_zero (number_character style (drops_underscores style suffix) false)
     (λ from_first. grouped_run from_first style 10 suffix) (kept_run style suffix numeral)
 
--- The old text is a float, and the new text has its rewritten digits and its suffix. The digits are rewritten as those of an
--- integer, except that leading zeros are kept.
+-- The old text is a float. In the new text, the digits are rewritten as in an integer, but leading zeros are kept. The suffix
+-- is unchanged.
 pub record StylesFloat (style : Style) (old new : List ℕ) : Type 0 where
   pub contents : Contents
   pub suffix : List ℕ
@@ -92,7 +92,7 @@ pub record StylesFloat (style : Style) (old new : List ℕ) : Type 0 where
   pub exact : IsFalse (is_mistyped_float suffix old)
   pub new_is : new ≡ styled_numeral style suffix float.numeral ++ (separator style suffix ++ suffix)
 
--- The old text is a float whose suffix may be mistyped, and the new text equals it.
+-- The old text is a float whose suffix may be mistyped, such as `1e5_32`. The new text equals the old one.
 pub record KeepsFloat (old new : List ℕ) : Type 0 where
   pub contents : Contents
   pub suffix : List ℕ
@@ -122,8 +122,8 @@ abbrev pub styled_digits : Style → List (ℕ × ℕ) → List (ℕ × ℕ)
 styled_digits style digits =
     map (cased_digit style.escape_digits) (if style.code_digits then fewest_digits digits else digits)
 
--- The character is visible ASCII, from `!` to `~`. A space isn't visible here, since an escaped line end before it would drop
--- it.
+-- The character is visible ASCII, from `!` to `~`. A space isn't visible here: an escaped line end before the space would
+-- drop it.
 abbrev pub is_visible : ℕ → Bool
 is_visible c = nat_le (code "!") c && nat_le c (code "~")
 
@@ -227,8 +227,8 @@ abbrev pub HasHashes : Bool → Kind → List ℕ → ℕ → ℕ → Type 0
 HasHashes true kind inside old new = HasFewestHashes kind inside new
 HasHashes false kind inside old new = new ≡ old
 
--- A raw string may lose its `r`. The text `front` precedes it. If `front` ends with a hash or a dot, a raw string without the
--- prefix `b` or `c` keeps its `r`.
+-- Whether a raw string after the text `front` may lose its `r`. A raw string without the prefix `b` or `c` keeps its `r` if
+-- `front` ends with a hash or a dot.
 abbrev pub may_lose_r : Kind → List ℕ → Bool
 may_lose_r Str front = may_precede_quote front
 may_lose_r _ front = true
@@ -236,24 +236,24 @@ may_lose_r _ front = true
 abbrev pub needs_backslash : ℕ → Bool
 needs_backslash c = c == code "\"" || c == code "\\"
 
--- The style turns a raw string into a string with escapes. The text `front` precedes it, and `inside` is its content. Either
--- the content needs no escapes, or it contains characters that the style escapes.
+-- Whether the style turns a raw string into a string with escapes. The text `front` before the raw string must allow this
+-- (`may_lose_r`). Either the content `inside` needs no escapes, or it contains characters that the style escapes.
 abbrev pub loses_raw : Style → Kind → List ℕ → List ℕ → Bool
 loses_raw style kind front inside =
     may_lose_r kind front
     && ((style.raw && list_all (λ c. not (needs_backslash c)) inside) || (style.hidden && list_any needs_number inside))
 
--- A character of a raw string, as a character or escape of a string with escapes.
+-- Converts a character of a raw string to a character or escape of a string with escapes. A double quote and a backslash get
+-- a backslash before them.
 abbrev pub raw_unit : ℕ → StrictUnit
 raw_unit c = if c == code "\"" then QuoteEscape c else (if c == code "\\" then PlainEscape c else Itself c)
 
--- The string of the kind with escapes, in the style. It has the value `inside` and the given suffix.
+-- A string with escapes, written in the style. It has the given kind and suffix, and the value `inside`.
 abbrev pub unraw_text : Style → Kind → List ℕ → List ℕ → List ℕ
 unraw_text style kind inside suffix =
     strict_opener kind ++ (restyled_inside style kind (map raw_unit inside) ++ (strict_closer kind ++ suffix))
 
--- The old text is a raw string, and the new text is one too. The new text has the old content and suffix, and the style's
--- number of hashes.
+-- The old and the new text are raw strings with equal contents and suffixes. The new text has the style's number of hashes.
 pub record StaysRaw (style : Style) (front old new : List ℕ) : Type 0 where
   pub kind : Kind
   pub contents : Contents
@@ -264,7 +264,8 @@ pub record StaysRaw (style : Style) (front old new : List ℕ) : Type 0 where
   pub hashes_are : HasHashes style.raw_hashes kind raw.inside raw.hashes hashes
   pub new_is : new ≡ raw_text kind hashes raw.inside ++ suffix
 
--- The old text is a raw string. The new text is a string with escapes that has the old value and suffix, in the style.
+-- The old text is a raw string. The new text is a string with escapes, written in the style, and has the value and the suffix
+-- of the old text.
 pub record LosesRaw (style : Style) (front old new : List ℕ) : Type 0 where
   pub kind : Kind
   pub contents : Contents

@@ -33,7 +33,7 @@ rule_label RawHashes = codes "fewest_hashes"
 rule_label Raw = codes "drop_raw"
 rule_label Hidden = codes "escape_invisible"
 
--- ---- each function returns one field of a style for its own rule, and the field's default for other rules
+-- ---- for its own rule, each function returns the style's field, and for other rules the field's default
 
 abbrev only_hex_digits : Style → Rule → Option Case
 only_hex_digits style HexDigits = style.hex_digits

@@ -1,4 +1,4 @@
-//! Recognizes whether a token is inside a macro call, a `macro_rules!` definition or an attribute.
+//! Finds out whether a token is inside a macro call, a `macro_rules!` definition or an attribute.
 
 ghost use Rattle.std.specs.Prelude.{◌≡◌};
 ghost use Rattle.rl_lexer.specs.Cursors.{form_view};
@@ -14,7 +14,7 @@ pub enum Calls<'t> {
     Outside,
     /// The next token follows the given identifier, which may be a macro's name.
     AfterWord(&'t str),
-    /// The next token follows a macro's name, `!`, and perhaps identifiers.
+    /// The next token follows a macro's name and `!`, and perhaps identifiers after them, as in `macro_rules! m`.
     AfterBang,
     /// The next token follows `#`, or `#!`.
     AfterHash,
@@ -67,7 +67,7 @@ fn is_keyword(word: &str) -> bool
     )
 }
 
-/// Returns `depth + 1`, or `depth` if it is the greatest `usize`.
+/// Returns `depth + 1`. If `depth` is the greatest `usize`, the result is `depth`.
 fn deeper(depth: usize) -> usize
     ensures { result ≡ deeper depth }
 {
@@ -143,7 +143,7 @@ fn after_any_other(calls: Calls<'_>) -> Calls<'_>
     }
 }
 
-/// Returns the position relative to macro calls, after a token of the lexer with the form `form` and the text `text`.
+/// Returns the position relative to macro calls, after a token of the lexer with the given form and text.
 #[inline(always)]
 fn after_lexeme<'t>(calls: Calls<'t>, form: Form, text: &'t str) -> Calls<'t>
     ensures { calls_seen result ≡ advance_calls (calls_seen calls.entry) (PlainKind (form_view form)) text.now }

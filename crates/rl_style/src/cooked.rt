@@ -131,8 +131,8 @@ fn put_visible(out: &mut [u8], at: usize, kind: Kind, byte: u8) -> usize
     put_byte(out, at, byte)
 }
 
-/// Writes the new form of a numeric escape. `byte` is the escape's value if it is ASCII, and 128 otherwise. For a NUL that
-/// isn't written as `\0` it is 128 too.
+/// Writes the new form of a numeric escape. `byte` is the escape's value if it is ASCII, and 128 otherwise. `byte` is also
+/// 128 for a NUL that may not be written as `\0`.
 fn put_number(out: &mut [u8], at: usize, kind: Kind, style: Style, unit: &str, byte: u8) -> usize
     requires room { at + length unit.now ≤ length out.old }
     requires two { 2 ≤ length unit.now }
@@ -186,7 +186,7 @@ fn put_escape(
     put_text(out, at, unit)
 }
 
-/// Writes the new form of an unescaped character or a CR LF.
+/// Writes the new form of an unescaped character, or of a CR LF that is one character.
 fn put_plain(out: &mut [u8], at: usize, kind: Kind, style: Style, unit: &str, byte: u8) -> usize
     requires room { at + 4 * length unit.now ≤ length out.old }
     requires plain { IsFalse (first_passes (λ c. c == code "\\") (chars unit.now)) }
@@ -206,7 +206,7 @@ fn put_plain(out: &mut [u8], at: usize, kind: Kind, style: Style, unit: &str, by
 
 /// Writes the new form of one character or escape: at most four bytes for each byte of its text.
 ///
-/// `byte` is the value if it is ASCII, and 128 otherwise. For a NUL that isn't written as `\0` it is 128 too.
+/// `byte` is the value if it is ASCII, and 128 otherwise. `byte` is also 128 for a NUL that may not be written as `\0`.
 fn put_unit(out: &mut [u8], at: usize, kind: Kind, style: Style, unit: &str, byte: u8) -> usize
     requires room { at + 4 * length unit.now ≤ length out.old }
     requires small { byte ≤ 128 }

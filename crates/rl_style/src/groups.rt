@@ -47,8 +47,8 @@ fn least_digits(style: Style) -> usize
     }
 }
 
-/// Whether an underscore follows a digit. `count` is the number of digits in the sequence, and `left` the number of digits
-/// after the digit. Groups are counted from the first digit if `from_first` is true, and from the last one otherwise.
+/// Whether the style writes an underscore after a digit. The sequence has `count` digits, and `left` of them follow the
+/// digit. Groups are counted from the first digit if `from_first` is true, and from the last one otherwise.
 fn ends(from_first: bool, size: usize, count: usize, left: usize) -> bool
     requires { left ≤ count }
     ensures { result ≡ ends from_first size count left }

@@ -5,8 +5,8 @@ ghost use Rattle.rl_style.specs.Recut.{KeepsTheTokens, KeepsTheTokensUnraw, Keep
 ghost use Rattle.rl_style.specs.Restyled.{KeepsTheTokensOfEdits, KeepsTheEditedSource, KeepsTheTokensOfAStyle, KeepsTheRestyledSource};
 ghost use Rattle.rl_style.specs.Laws.{ARewrittenLiteralIsTheSame, ARewrittenLiteralIsTheSameNumber, ARewrittenTextStays, ALiteralHasOneTextInAStyle, NoRuleChangesNothing, TheSameLiteralReadsAlike, TheSameLiteralIsStrictAlike};
 
-/// A rewritten literal has the kind, the value and the suffix of the old literal, if the style doesn't add a zero after a
-/// float's dot.
+/// If the style doesn't add a zero after a float's dot, a rewritten literal has the kind, the value and the suffix of the old
+/// literal.
 pub fn a_rewritten_literal_is_the_same()
     ensures { ARewrittenLiteralIsTheSame }
 {}
@@ -17,8 +17,8 @@ pub fn a_rewritten_literal_is_the_same_number()
     ensures { ARewrittenLiteralIsTheSameNumber }
 {}
 
-/// Two literals with one kind, one value and one suffix have equal parse results, and either both or neither are valid in Rust.
-/// An integer above 128 bits has no parse result, in either text.
+/// If the kinds, values and suffixes of two literals are equal, their parse results are equal, and both or neither are valid
+/// in Rust. An integer above 128 bits has no parse result by `syn`'s grammar.
 pub fn equal_literals_have_equal_readings()
     ensures reads { TheSameLiteralReadsAlike }
     ensures strict { TheSameLiteralIsStrictAlike }
@@ -39,15 +39,15 @@ pub fn no_rule_changes_nothing()
     ensures { NoRuleChangesNothing }
 {}
 
-/// If the literal after a token is replaced by one that begins as the old literal does, the token before it is lexed as before.
-/// Excepted are invalid quotes and stray characters, which no valid Rust source contains.
+/// If a new literal begins as the old literal does and replaces it, the token before the literal is lexed as before. Invalid
+/// quotes and stray characters, which no valid Rust source contains, are excepted.
 pub fn tokens_before_a_rewritten_literal_stay()
     ensures { StaysAround }
 {}
 
-/// If a literal is replaced by a well-formed literal with its kind, prefix and suffix, the new literal is lexed as one token
-/// before the text that follows the old one. It begins as the old one does. Both are raw strings, or neither is. But a raw
-/// string with the prefix `b` or `c` may become a string with escapes.
+/// A well-formed literal replaces a literal with an equal kind, prefix and suffix. The new literal is one token before each
+/// text that may follow the old one, and begins as the old one does. Both are raw strings, or neither is. The only exception
+/// is a raw string with the prefix `b` or `c`, which may become a string with escapes.
 pub fn new_literals_are_tokens()
     ensures { KeepsItsEnds }
 {}
@@ -57,45 +57,46 @@ pub fn the_tokens_are_kept()
     ensures { KeepsTheTokens }
 {}
 
-/// If one literal of a source is rewritten, all other tokens of the source are lexed as before. The source must begin without
-/// `#!`, or with an attribute's `#![` ([`may_restyle`](crate::may_restyle)). After another `#!`, the literal may hide or show
-/// the end of a comment, which determines whether the first line is an interpreter's line.
+/// If one literal of a source is rewritten, all other tokens of the source are lexed as before. The source must not begin
+/// with `#!`, unless it begins with an attribute's `#![` ([`may_restyle`](crate::may_restyle)). After another `#!`, a
+/// rewritten literal may contain the `*/` of a comment that begins on the first line. Then the first line may no longer be an
+/// interpreter's line.
 pub fn the_tokens_of_a_source_are_kept()
     ensures { KeepsTheSource }
 {}
 
 /// If a literal of a text is rewritten in a style, all other tokens of the text are lexed as before.
-/// [`rewrite_into`](crate::rewrite_into) writes one token of the old form.
+/// [`rewrite_into`](crate::rewrite_into) writes one token, with the form of the old literal.
 pub fn the_tokens_of_a_style_are_kept()
     ensures { KeepsTheTokensOfAStyle }
 {}
 
-/// If a literal of a source is rewritten in a style, all other tokens of the source are lexed as before. The source must begin
-/// without `#!`, or with an attribute's `#![`.
+/// If a literal of a source is rewritten in a style, all other tokens of the source are lexed as before. The source must not
+/// begin with `#!`, unless it begins with an attribute's `#![`.
 pub fn the_tokens_of_a_restyled_source_are_kept()
     ensures { KeepsTheRestyledSource }
 {}
 
-/// If any literals of a text are rewritten in a style, the text is lexed into the old number of tokens, of the old kinds. Each
-/// token is the old one, or has its new text.
+/// If any literals of a text are rewritten in a style, the new text has as many tokens as the old text, and their kinds are
+/// equal. Each token is the old one, or a rewritten literal.
 pub fn the_tokens_of_edits_are_kept()
     ensures { KeepsTheTokensOfEdits }
 {}
 
-/// If any literals of a source are rewritten in a style, the source is lexed into the old number of tokens, of the old kinds.
-/// The source must begin without `#!`, or with an attribute's `#![`.
+/// If any literals of a source are rewritten in a style, the new source has as many tokens as the old source, and their kinds
+/// are equal. The source must not begin with `#!`, unless it begins with an attribute's `#![`.
 pub fn the_tokens_of_an_edited_source_are_kept()
     ensures { KeepsTheEditedSource }
 {}
 
-/// If a raw string is replaced by a string with escapes, the token before it is lexed as before, provided that the text
-/// between the token and the string ends with neither a hash nor a dot.
+/// If a string with escapes replaces a raw string, the token before the string is lexed as before. The text between the token
+/// and the string must end with neither a hash nor a dot.
 pub fn tokens_before_a_replaced_raw_string_stay()
     ensures { StaysBeforeQuote }
 {}
 
-/// If a raw string of a text is replaced by a string with escapes, all other tokens of the text are lexed as before, provided
-/// that neither a hash nor a dot precedes the string.
+/// If a string with escapes replaces a raw string of a text, all other tokens of the text are lexed as before. The text
+/// before the string must end with neither a hash nor a dot.
 pub fn the_tokens_around_a_replaced_raw_string_are_kept()
     ensures { KeepsTheTokensUnraw }
 {}

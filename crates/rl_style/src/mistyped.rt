@@ -51,7 +51,7 @@ fn ends_with_width(text: &str) -> bool
 }
 
 /// Whether the suffix of an integer may be mistyped: `2_32` may be meant as `2_i32`. `text` is the integer's whole text, and
-/// `suffix` its end.
+/// `suffix` its suffix.
 pub(crate) fn is_mistyped(suffix: &str, text: &str) -> bool
     ensures { result ≡ is_mistyped (chars suffix.now) (chars text.now) }
 {
@@ -59,7 +59,7 @@ pub(crate) fn is_mistyped(suffix: &str, text: &str) -> bool
 }
 
 /// Whether the suffix of a float may be mistyped: `1e5_32` may be meant as `1e5_f32`. `text` is the float's whole text, and
-/// `suffix` its end.
+/// `suffix` its suffix.
 pub(crate) fn is_mistyped_float(suffix: &str, text: &str) -> bool
     ensures { result ≡ is_mistyped_float (chars suffix.now) (chars text.now) }
 {

@@ -155,8 +155,8 @@ fn number_style(style: Style, base: u32, suffix: &str) -> Manner
     }
 }
 
-/// Writes the new form of an integer. `text` is its whole text, and `suffix` its end. If the suffix may be mistyped, the new form
-/// is `text`.
+/// Writes the new form of an integer. `text` is its whole text, and `suffix` its suffix. If the suffix may be mistyped, the
+/// new form is `text`.
 fn write_integer(text: &str, suffix: &str, style: Style, out: &mut [u8]) -> usize
     requires following { IsTail text.now suffix.now }
     requires integer { (v : Contents) × StrictInt (chars text.now) v (chars suffix.now) }
@@ -229,8 +229,8 @@ fn put_fraction(out: &mut [u8], at: usize, manner: Manner, rest: &str) -> usize
     }
 }
 
-/// Writes the new form of a float. `text` is its whole text, and `suffix` its end. If the suffix may be mistyped, the new form is
-/// `text`.
+/// Writes the new form of a float. `text` is its whole text, and `suffix` its suffix. If the suffix may be mistyped, the new
+/// form is `text`.
 fn write_float(text: &str, suffix: &str, style: Style, out: &mut [u8]) -> usize
     requires following { IsTail text.now suffix.now }
     requires float { (v : Contents) × StrictFloat (chars text.now) v (chars suffix.now) }

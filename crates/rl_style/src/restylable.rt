@@ -13,17 +13,18 @@ use rl_lexer::{Form, LexError, SourceForm, SourceToken, Sources};
 use rl_syntax::text::{begins_with_char, strip_byte};
 use std::marker::Model;
 
-/// The last token before a number, as far as it shows whether the number is a field of a tuple.
+/// The description of the token before a number. The description tells whether the number may be a field of a tuple, as in
+/// `t.0`.
 #[derive(Clone, Copy)]
 pub(crate) enum Last {
-    /// Another token, or no token.
+    /// No token, or a token after which a number isn't a field.
     Other,
     /// A dot without a dot directly before it. A number after it is a field, as in `t.0`.
     Dot,
     /// A dot directly after another dot.
     Dots,
-    /// A token after which a number is a field if one colon follows the number, as in `S { 0: x }`: `{`, `,`, the `]` that ends
-    /// an attribute, or a doc comment.
+    /// A token after which a number is a field if one colon follows the number, as in `S { 0: x }`: a doc comment, `{`, `,`,
+    /// or `]`, which may end an attribute.
     Opening,
 }
 
@@ -67,7 +68,8 @@ impl<'t> Model for Restylables<'t> {
     ghost view = { λ r. record { tokens = r.tokens; last = r.last; end = r.end; calls = calls_seen r.calls } };
 }
 
-/// Describes the last token after one more dot. `is_joined` is true if the dot directly follows the token before it.
+/// Returns the description of a dot. `last` describes the token before the dot. `is_joined` is true if that token directly
+/// precedes the dot.
 fn one_more(last: Last, is_joined: bool) -> Last
     ensures { result ≡ one_more last is_joined }
 {
@@ -77,7 +79,8 @@ fn one_more(last: Last, is_joined: bool) -> Last
     }
 }
 
-/// Describes the last token after the token `token`, where `last` describes the token before it, which ends at `end`.
+/// Returns the description of the token `token`. `last` describes the token before it, and `end` is the byte offset after
+/// that token.
 fn last_after(last: Last, end: usize, token: SourceToken<'_>) -> Last
     ensures { result ≡ last_after last end (source_view token.entry.form) token.entry.lo }
 {
@@ -99,8 +102,8 @@ fn begins_one_colon(text: &str) -> bool
     }
 }
 
-/// Whether a number is a field of a tuple. `last` describes the token before the number, and `rest` is the text after the
-/// number, without white space and comments at its beginning.
+/// Whether a number is a field of a tuple. `last` describes the token before the number. `rest` is the text after the number,
+/// without the white space and comments at its beginning.
 fn names_field(last: Last, rest: &str) -> bool
     ensures { result ≡ names_field last (chars rest.now) }
 {
@@ -136,8 +139,8 @@ impl<'t> Restylables<'t> {
         }
     }
 
-    /// Returns the next literal: a literal token, valid or not, `true` or `false`. The result is `None` at the end of the
-    /// source and at its first error, which [`Restylables::error`] returns.
+    /// Returns the next literal, valid or invalid. `true` and `false` are literals too. The result is `None` at the end of
+    /// the source and at its first error, which [`Restylables::error`] returns.
     pub fn next(&mut self) -> Option<Restylable<'t>>
         ensures found { IfSome result (λ l. GivesLiteral self.old l self.new) }
         ensures shorter { IfSome result (λ l. length self.new.tokens.rest < length self.old.tokens.rest) }

@@ -83,8 +83,8 @@ fn rewrite_number(text: &str, style: Style, out: &mut [u8]) -> Result<usize, Fla
     }
 }
 
-/// Writes the literal token `text`, rewritten by `style`, to the start of `out`, and returns the number of written bytes. It is
-/// at most four times the length of `text`, plus one.
+/// Writes the literal token `text`, rewritten by `style`, to the start of `out`, and returns the number of written bytes.
+/// This number is at most four times the length of `text`, plus one.
 ///
 /// The literal's kind, value and suffix don't change, except that [`Style::float_zero`] adds a zero to `1.`. Each part for
 /// which the style has no rule is unchanged.

@@ -2,7 +2,7 @@
 use Rattle.rl_syntax.proofs.Common.{◌≡◌, ℕ, ◌<◌, Bool, true, false, not, ◌&&◌, ◌||◌, ◌==◌, ◌∙◌, ap, sym, refl, arith, nat_lt, nat_tests, is_ascii_alphabetic, is_ascii_alphanumeric, is_xid_start-ascii, is_xid_continue-ascii, is_xid_start, is_xid_continue}
 use Rattle.rl_syntax.specs.Texts.{is_white, is_start, is_continue}
 
--- If white space doesn't pass a test, the additional condition that a character isn't white space doesn't change the test.
+-- If no white space passes a test, a character passes the test exactly if it passes the test and isn't white space.
 plain : (b w : Bool) → (b ≡ true → w ≡ false) → (b && not w) ≡ b
 plain true w h = ap not (h refl)
 plain false w h = refl

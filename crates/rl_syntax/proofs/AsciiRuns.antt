@@ -22,7 +22,7 @@ abbrev pub PassesLow : (ℕ → Bool) → Type 0
 PassesLow q = (c : ℕ) → q c ≡ true → c < 128
 
 module _ (q : ℕ → Bool) (low : PassesLow q) where
-  -- If only ASCII characters pass a test, the leading bytes of a text that pass it end where a character ends.
+  -- If only ASCII characters pass a test, the sequence of leading bytes that pass the test ends at a character boundary.
   low_boundary : (bs : List ℕ) (n : ℕ) → IsUtf8 bs → n ≡ prefix_len q bs → IsCharBoundary bs n
   low_boundary bs zero u e = IsCharBoundary-start bs u
   low_boundary bs (suc m) u e =
@@ -32,13 +32,14 @@ module _ (q : ℕ → Bool) (low : PassesLow q) where
       subst (IsCharBoundary bs) next (IsCharBoundary-after_ascii bs m u (omega arith)
       (low (get_or bs m 0) (prefix_len_passes q bs m 0 within)))
 
-  -- If only ASCII characters pass a test, and all bytes of a list pass it, the bytes are ASCII.
+  -- If only ASCII characters pass a test, a list of bytes that pass the test is ASCII.
   low_all : (bs : List ℕ) → list_all q bs ≡ true → IsAscii bs
   low_all [] h i = omega arith
   low_all (b ∷ bs) h zero = low b (and_parts (q b) (list_all q bs) h).0
   low_all (b ∷ bs) h (suc i) = low_all bs (and_parts (q b) (list_all q bs) h).1 i
 
-  -- If only ASCII characters pass a test, and the first byte of a text fails it, so does the first character of the text.
+  -- Only ASCII characters pass a test. If the first byte of a text fails the test, the first character of the text fails it
+  -- too.
   low_head : (cs : List ℕ) → first_passes q (encode_utf8_all cs) ≡ false → first_passes q cs ≡ false
   low_head [] h = refl
   low_head (c ∷ cs) h = go (cases128 c)
@@ -78,8 +79,8 @@ held_low : (word : Bool) → PassesLow (is_run_byte word)
 held_low true = word_low
 held_low false = blank_low
 
--- For an ASCII character, the test `is_run_byte` agrees with the test of the class: that of identifier characters, or that of
--- white space.
+-- For an ASCII character, `is_run_byte` agrees with the test of the class that `word` selects: identifier characters for
+-- `true`, white space for `false`.
 pub held_agrees : (word : Bool) (c : ℕ) → c < 128 → class_test (run_class word) c ≡ is_run_byte word c
 held_agrees true c low = continue_is_plain c low ∙ ascii_xid_continue c low
 held_agrees false c low = agree_below_at is_white is_blank_byte 128 c refl low
@@ -87,7 +88,7 @@ held_agrees false c low = agree_below_at is_white is_blank_byte 128 c refl low
 pub held_cut : (word : Bool) (bs : List ℕ) → IsUtf8 bs → RunCut (is_run_byte word) bs
 held_cut word bs u = low_cut (is_run_byte word) (held_low word) bs u
 
--- If all bytes of `front` are identifier characters (or all are white space), `after_run` skips them.
+-- If `front` consists of ASCII identifier characters, or of ASCII white space, `after_run` skips `front`.
 passed_over : (word : Bool) (front back : List ℕ) → list_all (is_run_byte word) front ≡ true
     → after_run (class_test (run_class word)) (front ++ back) ≡ after_run (class_test (run_class word)) back
 passed_over word [] back h = refl
@@ -106,7 +107,8 @@ run_past word bs rest u e =
     (chars (drop (prefix_len (is_run_byte word) bs) bs)) run.plain
     ∙ ap (λ r. after_run test (chars r)) (sym e)
 
--- The leading identifier characters or white space of a text end at an ASCII byte that fails the test.
+-- If an ASCII character follows the leading ASCII identifier characters of a text, no further identifier character follows
+-- them. The lemma holds for white space too.
 pub run_ended : (word : Bool) (bs rest after : List ℕ) (b : ℕ) → IsUtf8 bs → rest
     ≡ drop (prefix_len (is_run_byte word) bs) bs → chars rest ≡ b ∷ chars after → b < 128 → chars rest
     ≡ after_run (class_test (run_class word)) (chars bs)

@@ -1,4 +1,4 @@
--- A word begins the bytes of a text exactly if it begins the text's characters.
+-- A text's bytes begin with a word exactly if the text's characters begin with it.
 use Rattle.rl_syntax.proofs.Common.{◌≡◌, ℕ, ◌<◌, ◌≤◌, ◌⊎◌, inl, inr, true, ◌&&◌, ◌==◌, List, [], ◌∷◌, ◌++◌, ◌≢◌, ◌+◌, length, drop, Option, Some, None, refl, sym, subst, ◌∙◌, ap, arith, and_parts, nat_tests, nat_lt, list_all, chars, encode_utf8_all, IsUtf8, IsCharBoundary, encodes-chars, encodes-append, chars-append, IsUtf8-drop}
 use Rattle.std.specs.Prelude.{nat_eq, IfSome, IfNone, MatchOption}
 use Rattle.std.specs.List.{starts_with}
@@ -25,7 +25,7 @@ begins_encoded (k ∷ p) (c ∷ cs) low =
     begins_one k p c cs (let q : nat_lt k 128 ≡ true = h.0 in grind (arith, nat_tests)) (begins_encoded p cs h.1)
     (cases128 c)
 
--- An ASCII word begins a text's bytes exactly if it begins the text's characters.
+-- The bytes of a text begin with an ASCII word exactly if the characters of the text begin with the word.
 pub begins_bytes : (p t : List ℕ) → IsUtf8 t → list_all (λ k. nat_lt k 128) p ≡ true → begins p t ≡ begins p (chars t)
 begins_bytes p t is low = ap (begins p) (sym (encodes-chars t is)) ∙ begins_encoded p (chars t) low
 
@@ -38,7 +38,7 @@ starts_begins (k ∷ p) (c ∷ t) = ap (λ b. nat_eq k c && b) (starts_begins p 
     equal_swap : (k c : ℕ) → nat_eq k c ≡ (c == k)
     equal_swap k c = grind (arith, nat_tests)
 
--- ---- the text after a prefix: each lemma takes the postcondition of `strip_prefix`
+-- ---- the text after a prefix, from the postcondition of `strip_prefix`
 
 abbrev StripPrefix : List ℕ → List ℕ → Option (Bor (List ℕ)) → Type 0
 StripPrefix n bs r = MatchOption r (FindsTextPrefix n bs None)

@@ -11,7 +11,7 @@ quotient_small n k h = let e = pow-suc 10 k in omega arith
 one_digit : (n : ℕ) → n < 10 ^ 1 → (n / 10 == 0) ≡ true
 one_digit n h = grind (arith, nat_tests)
 
--- If a number has at most the number of digits that there is room for, more room doesn't change the digits that are written.
+-- If the digits of a number fit into each of two limits on their count, `digits_onto` writes equal digits for both limits.
 pub room : (k j n : ℕ) (acc : List ℕ) → n < 10 ^ suc k → n < 10 ^ suc j → digits_onto (suc k) 10 false n acc
     ≡ digits_onto (suc j) 10 false n acc
 room zero j n acc h l =
@@ -30,11 +30,12 @@ below_power : (n : ℕ) → n < 10 ^ suc n
 below_power zero = omega arith
 below_power (suc n) = let h = below_power n in let e = pow-suc 10 (suc n) in omega arith
 
--- For a number of up to 64 digits, `dec` and `decimal` are equal.
+-- For a number of up to 64 decimal digits, `dec` and std's `decimal` write equal digits. `decimal` writes only the last 64
+-- digits.
 pub dec_is : (n : ℕ) → n < 10 ^ 64 → dec n ≡ decimal n
 unfolding dec digits
 dec_is n h = room n 63 n [] (below_power n) h
 
--- For a number within 128 bits, `dec` and `decimal` are equal.
+-- For a number within 128 bits, `dec` and std's `decimal` write equal digits.
 pub dec_is_decimal : (n : ℕ) → n ≤ limit → dec n ≡ decimal n
 dec_is_decimal n h = dec_is n (omega arith)

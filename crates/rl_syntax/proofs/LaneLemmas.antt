@@ -33,12 +33,12 @@ both_lanes : {X : Type 0} (p q : X → Bool) (v : List X) → zip2 bit_or (map (
 both_lanes p q [] = refl
 both_lanes p q (x ∷ xs) = ap₂ (λ a b. a ∷ b) (lane_or (p x) (q x)) (both_lanes p q xs)
 
--- The bitwise or of the vectors for two tests is the vector for the test that one of the two passes.
+-- The bitwise or of the vectors of two tests is the vector of the disjunction of the tests.
 pub either : {X : Type 0} (p q : X → Bool) (v : List X) {a b : List ℕ} → a ≡ map (λ x. lane (p x)) v → b ≡ map (λ x. lane (q x)) v
     → zip2 bit_or a b ≡ map (λ x. lane (p x || q x)) v
 either p q v e f = ap₂ (zip2 bit_or) e f ∙ both_lanes p q v
 
--- The bitwise and of the vectors for two tests is the vector for the test that both pass.
+-- The bitwise and of the vectors of two tests is the vector of the conjunction of the tests.
 pub both : {X : Type 0} (p q : X → Bool) (v : List X) {a b : List ℕ} → a ≡ map (λ x. lane (p x)) v
     → b ≡ map (λ x. lane (q x)) v → zip2 bit_and a b ≡ map (λ x. lane (p x && q x)) v
 both {X = X} p q v e f = ap₂ (zip2 bit_and) e f ∙ go v
@@ -51,7 +51,8 @@ tops : {X : Type 0} (p : X → Bool) (v : List X) → map (top 7) (map (λ x. la
 tops p [] = refl
 tops p (x ∷ xs) = ap₂ (λ a b. a ∷ b) (lane_top (p x)) (tops p xs)
 
--- The mask of a vector, which a test computed for each element of a list, has the bits of the elements that pass the test.
+-- If a vector contains the results of a test for the elements of a list, its mask has a set bit for each element that passes
+-- the test.
 pub masked : {X : Type 0} (p : X → Bool) (v : List X) {a : List ℕ} → length v ≤ 64 → a ≡ map (λ x. lane (p x)) v
     → mask_l (map (top 7) a) % 2 ^ 64 ≡ mask_l (map p v)
 masked p v few e = ap (λ l. mask_l l % 2 ^ 64) (ap (map (top 7)) e ∙ tops p v)
@@ -103,7 +104,7 @@ module _ {X : Type 0} (p q : X → Bool) (opposite : (x : X) → not (q x) ≡ p
       (prefix_len q (chunk i n d))
   split d i n = ap (prefix_len q) (chunk-drop i n d) ∙ prefix_len-append q (chunk i n d) (drop (i + n) d)
 
-  -- If no byte of a chunk of a list fails a test, the sequence of passing bytes continues after the chunk.
+  -- If no byte of a chunk fails a test, the sequence of passing bytes continues after the chunk.
   pub run_through : (d : List X) (i n : ℕ) → i + n ≤ length d → mask_l (map p (chunk i n d)) ≡ 0
       → prefix_len q (drop i d) ≡ n + prefix_len q (drop (i + n) d)
   run_through d i n room none =
@@ -112,7 +113,7 @@ module _ {X : Type 0} (p q : X → Bool) (opposite : (x : X) → not (q x) ≡ p
       (eq-eqb _ _ (same_run c ∙ leading_from_mask_l p c none))
       ∙ ap (λ k. k + prefix_len q (drop (i + n) d)) (length-chunk i n d room)
 
-  -- The lowest bit of the mask of a chunk is at the first byte of the chunk that fails a test.
+  -- A mask has a set bit for each byte of a chunk that fails a test. Its lowest set bit is at the first byte that fails.
   pub run_stops : (d : List X) (i n : ℕ) → i + n ≤ length d → n ≤ 64 → 0 < mask_l (map p (chunk i n d))
       → prefix_len q (drop i d) ≡ count_trailing_zeros 64 (mask_l (map p (chunk i n d)))
   run_stops d i n room short some =
@@ -121,7 +122,7 @@ module _ {X : Type 0} (p q : X → Bool) (opposite : (x : X) → not (q x) ≡ p
       (ne_eqb _ _ (λ (e : prefix_len q c ≡ length c). omega (arith, all_pass c (sym (same_run c) ∙ e))))
       ∙ same_run c ∙ sym (trailing_mask_l p 64 c (omega (arith, length-chunk i n d room)) some)
 
-  -- If the mask of a chunk isn't 0, its lowest bit is within the chunk.
+  -- If the mask of a chunk isn't 0, its lowest set bit is within the chunk.
   pub stops_within : (d : List X) (i n : ℕ) → i + n ≤ length d → n ≤ 64 → 0 < mask_l (map p (chunk i n d))
       → count_trailing_zeros 64 (mask_l (map p (chunk i n d))) < n
   stops_within d i n room short some =

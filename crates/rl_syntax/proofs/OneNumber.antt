@@ -11,7 +11,7 @@ use Rattle.rl_syntax.proofs.StrictNumbers.{no_part, suffix_no_part, digit_front,
 
 -- ---- signs
 
--- A text can be split into a sign, perhaps none, and a text that begins with a digit in at most one way.
+-- There is at most one way to split a text into a sign, perhaps none, and a text that begins with a digit.
 pub same_sign : (s z : Sign) (a b : List ℕ) → first_passes is_ascii_digit a ≡ true → first_passes is_ascii_digit b
     ≡ true → sign_text s ++ a ≡ sign_text z ++ b → (s ≡ z) × (a ≡ b)
 same_sign NoSign NoSign a b ha hb e = (refl, e)
@@ -73,7 +73,8 @@ int_once t x y s z m n a b =
 
 -- ---- floats
 
--- A sequence of digits and underscores that contains a digit: leading underscores, then a digit, then the rest.
+-- A sequence of digits and underscores, split into its leading underscores, its first digit, and the digits and underscores
+-- after this digit.
 pub record DigitIn (run : List ℕ) : Type 0 where
   pub underscores : List ℕ
   pub digit : ℕ
@@ -115,7 +116,7 @@ sign_cases (c ∷ []) h =
     ]
 sign_cases (c ∷ d ∷ s) h = absurd (cc)
 
--- The text after the letter of an exponent can be split into digits and a suffix in only one way.
+-- There is only one way to split the text after an exponent's letter into the digits of the exponent and a suffix.
 same_power : (us s run vs z sow x y : List ℕ) → list_all is_underscore us ≡ true → is_power_sign s ≡ true
     → list_all (is_run_part (is_digit Decimal)) run ≡ true → list_all is_underscore vs ≡ true → is_power_sign z ≡ true
     → list_all (is_run_part (is_digit Decimal)) sow ≡ true → IsSuffix x → IsSuffix y → (us ++ (s ++ run)) ++ x
@@ -166,7 +167,7 @@ same_power us s run vs z sow x y hu hs hr hv hz hw sx sy e =
       ]
     ]
 
--- A suffix that doesn't begin like an exponent isn't an exponent that is followed by another text.
+-- A suffix that doesn't begin like an exponent can't be split into an exponent and a text after the exponent.
 no_power : (letter : ℕ) (us s run x y : List ℕ) → IsExponent (Power letter us s run) x → IsSuffix y
     → (BeginsExponent y → ⊥) → y ≡ (letter ∷ (us ++ (s ++ run))) ++ x → ⊥
 no_power letter us s run x y p sy none e =

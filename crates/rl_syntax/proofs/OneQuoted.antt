@@ -1,4 +1,4 @@
--- A quoted literal has at most one parse result of each form.
+-- A quoted literal has at most one parse result of each form: with escapes, raw, or as a single character or byte.
 use Rattle.rl_syntax.proofs.Common.{◌≡◌, ℕ, zero, suc, ◌||◌, ◌&&◌, Bool, true, false, not, cond, eqb, List, [], ◌∷◌, ◌++◌, replicate, Option, Some, None, refl, sym, ap, subst, ◌∙◌, inl, inr, append_assoc, list_all, AllByRecursion, list_all-append, eqb-true, and_parts, or_cases}
 use Rattle.std.proofs.lemmas.Bool.{and_left, and_right}
 use Rattle.rl_syntax.specs.declared.kind.Kind.{Kind}

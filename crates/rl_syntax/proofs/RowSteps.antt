@@ -1,4 +1,5 @@
--- One more character at the start of a sequence of characters that pass a test, for loops over the sequence.
+-- If a text begins with a character that passes a test, `after_run` returns an equal result for the text without this
+-- character. Proofs about loops use this for one iteration.
 use Rattle.rl_syntax.proofs.Common.{◌≡◌, ℕ, Bool, true, cond, List, ◌∷◌, sym, ◌∙◌, ap}
 use Rattle.rl_syntax.specs.Classes.{after_run}
 

@@ -4,7 +4,8 @@ use Rattle.std.proofs.Common.{Fits, w8}
 use Rattle.std.proofs.lemmas.Simd.{zip2-map, get_or-chunk}
 use Rattle.rl_syntax.specs.Mirrors.RunsAt.{is_run_byte, ends_run}
 
--- If two vectors are computed from the vector `v`, element by element, so is their combination by an operation on elements.
+-- Combining the vectors of two functions `f` and `g` by the operation `h` gives the vector of `h (f x) (g x)`, for the
+-- elements `x` of `v`.
 pub joined : (h : ℕ → ℕ → ℕ) (f g : ℕ → ℕ) (v : List ℕ) {a b : List ℕ} → a ≡ map f v → b ≡ map g v → zip2 h a b
     ≡ map (λ x. h (f x) (g x)) v
 joined h f g v p q = ap₂ (zip2 h) p q ∙ zip2-map h f g v
@@ -20,7 +21,8 @@ same_tests p q all [] fits = refl
 same_tests p q all (x ∷ xs) fits = ap₂ (λ a b. a ∷ b) (agree_below_at p q 256 x all (fits 0 (omega arith)))
     (same_tests p q all xs (λ k short. fits (suc k) (omega arith)))
 
--- The mask of a vector, which a test computed for each element of a list, has the bits of the elements that pass the test.
+-- If the top bits in a vector are the results of a test for sixteen bytes, the vector's mask has a set bit for each byte
+-- that passes the test.
 pub masked_as : (q : ℕ → Bool) (d : List ℕ) (i n : ℕ) (f : ℕ → ℕ) {z : List ℕ} → i + n ≤ length d → n ≤ 64
     → ((k : ℕ) → Fits w8 (get_or d k 0)) → z ≡ map f (chunk i n d) → agree_below (λ x. top 7 (f x)) q 256 ≡ true
     → mask_l (map (top 7) z) % 2 ^ 64 ≡ mask_l (map q (chunk i n d))

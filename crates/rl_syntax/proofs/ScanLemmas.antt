@@ -1,4 +1,4 @@
--- The leading bytes of a text that pass a test are its leading characters that pass the test.
+-- The leading bytes of a text that pass a test encode the text's leading characters that pass the test.
 use Rattle.rl_syntax.proofs.Common.{◌≡◌, ◌≢◌, ◌==◌, ℕ, suc, ◌+◌, ◌<◌, ◌≤◌, ◌⊎◌, inl, inr, ◌||◌, Bool, true, false, not, cond, List, [], ◌∷◌, ◌++◌, length, take, drop, get_or, refl, sym, ap, subst, ◌∙◌, arith, and_from, and_parts, both_ways, eq-eqb, ltb-true, prefix_len-le-length, take-append-drop, encodes-chars, chars-append, IsUtf8-take, IsUtf8-drop, chars_past_char, encode_ascii, list_all, prefix_len, is_ascii, chars, encode_utf8_all, IsUtf8, IsCharBoundary}
 use Rattle.std.proofs.lemmas.Bool.{cond-false}
 use Rattle.std.proofs.lemmas.List.Sums.{prefix_len_stops}
@@ -81,7 +81,7 @@ module _ (q : ℕ → Bool) (high : PassesHigh q) where
           let (b, bs, same, is, _) = encode_is_high c past in
           absurd (both_ways (q b) (ap (λ x. first_passes q (x ++ encode_utf8_all cs)) (sym same) ∙ h) (high b is))
 
-  -- If all non-ASCII bytes pass a test, the leading bytes that pass it end where a character ends.
+  -- If all non-ASCII bytes pass a test, the sequence of leading bytes that pass the test ends at a character boundary.
   pub run_boundary : (bs : List ℕ) → IsCharBoundary bs (prefix_len q bs)
   run_boundary bs =
       let n = prefix_len q bs in
@@ -96,14 +96,14 @@ module _ (q : ℕ → Bool) (high : PassesHigh q) where
       low : (b : ℕ) → q b ≡ false → b < 128
       low b fails = elim (cases128 b) [ inl is ↦ is | inr past ↦ absurd (both_ways (q b) fails (high b past)) ]
 
-  -- If all non-ASCII bytes pass a test, the leading bytes that pass it encode only characters that pass it.
+  -- If all non-ASCII bytes pass a test, the leading bytes that pass the test encode characters that pass it.
   pub run_plain : (bs : List ℕ) → IsUtf8 bs → list_all q (chars (take (prefix_len q bs) bs)) ≡ true
   run_plain bs u =
       let front = take (prefix_len q bs) bs in
       all_encoded (chars front) (ap (list_all q) (encodes-chars front
       (IsUtf8-take bs (prefix_len q bs) u (run_boundary bs))) ∙ prefix_passes q bs)
 
-  -- If all non-ASCII bytes pass a test, the next character after the leading bytes that pass the test fails it.
+  -- If all non-ASCII bytes pass a test, the character after the leading passing bytes fails the test.
   pub run_stop : (bs : List ℕ) → IsUtf8 bs → first_passes q (chars (drop (prefix_len q bs) bs)) ≡ false
   run_stop bs u =
       let rest = drop (prefix_len q bs) bs in

@@ -157,7 +157,8 @@ without_minus t x Minus m r = (
   refl,
 )
 
--- An ASCII character that no integer literal contains directly after its sign.
+-- The character is ASCII, and isn't a letter, a digit or an underscore. So an integer's prefix and its digits don't contain
+-- the character.
 pub record IsForeign (k : ℕ) : Type 0 where
   pub small : k < 128
   pub no_word : (is_ascii_alphanumeric k || eqb k 95) ≡ false
@@ -463,7 +464,7 @@ signed_float sign t x v f =
 
 -- ---- the laws
 
--- Whether each integer that the text is parsed as is within 128 bits.
+-- In each parse result of the text as an integer, the magnitude is within 128 bits.
 abbrev pub IsWithin : List ℕ → Type 0
 IsWithin t = (sign : Sign) (magnitude : ℕ) (suffix : List ℕ) → IntReads t sign magnitude suffix → magnitude ≤ limit
 

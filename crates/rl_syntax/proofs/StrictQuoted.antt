@@ -18,7 +18,7 @@ abbrev pub MayFollow : StrictUnit → List ℕ → Type 0
 MayFollow (LineBreak blanks) t = IsFalse (first_passes is_blank t)
 MayFollow _ t = ⊤
 
--- The character or escape of `syn`'s grammar with the text and the value of one of Rust's grammar.
+-- A character or escape of `syn`'s grammar that has the text and the value of `s`, a character or escape of Rust's grammar.
 pub record Stands (k : Kind) (s : StrictUnit) : Type 0 where
   pub unit : QuotedUnit
   pub is_unit : IsUnit k unit

@@ -20,7 +20,8 @@ pub some_tail : {I : Type 0} (rest : I → List ℕ) (a b : List ℕ) (r : Optio
 some_tail rest a b None p q = tt
 some_tail rest a b (Some i) p q = tail_step a b (rest i) p q
 
--- If a property holds for the function's result on an option's value, it holds for the value of the mapped option.
+-- If the property `P` holds for `f i`, where `i` is the value of an option, `P` holds for the value that `option_map f`
+-- returns for the option.
 pub mapped : {I J : Type 0} (P : J → Type 0) (f : I → J) (r : Option I) (result : Option J) → result ≡ option_map f r
     → IfSome r (λ i. P (f i)) → IfSome result P
 mapped P f None result e q = subst (λ z. IfSome z P) (sym e) tt
@@ -31,7 +32,7 @@ pub mapped_tail : {I J : Type 0} (rest : J → List ℕ) (f : I → J) (a b : Li
     → IfSome result (λ p. IsTail a (rest p))
 mapped_tail rest f a b r result e p q = some_tail rest a b result p (mapped (λ j. IsTail b (rest j)) f r result e q)
 
--- If a text is split in two, the length of the first part is that of the text minus that of the second part.
+-- If a text is split in two, the length of the first part is the length of the text minus the length of the second part.
 front_len : (bs xs ys : List ℕ) → bs ≡ xs ++ ys → length xs ≡ length bs - length ys
 front_len bs xs ys e = omega (arith, length-append {A = ℕ}, ap length e)
 
@@ -49,7 +50,7 @@ cut_join bs ys b =
     ∙ take-append_seam xs ys in
     b.text_is ∙ ap (λ z. z ++ ys) (sym taken)
 
--- If a text has an end, dropping the part before the end leaves the end.
+-- If a text ends with `ys`, dropping the bytes before `ys` leaves `ys`.
 pub cut_drop : (bs ys : List ℕ) → IsTail bs ys → drop (length bs - length ys) bs ≡ ys
 cut_drop bs ys b =
     let f : List ℕ → List ℕ = λ z. drop (length bs - length ys) z in
@@ -64,7 +65,7 @@ pub cut_chars : (bs xs ys : List ℕ) → IsUtf8 xs → IsTail bs ys → xs ≡ 
     ≡ chars xs ++ chars ys
 cut_chars bs xs ys u b e = ap chars (cut_join bs ys b ∙ ap (λ z. z ++ ys) (sym e)) ∙ chars-append xs ys u
 
--- If one text is shorter than another, so is each end of the shorter text.
+-- If the text `b` is shorter than the text `a`, each end of `b` is shorter than `a`.
 pub nearer : (a b d : List ℕ) → length b < length a → IsTail b d → length d < length a
 nearer a b d s p = omega (arith, s, length-append p.front d, ap length p.text_is)
 

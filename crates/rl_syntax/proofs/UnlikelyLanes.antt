@@ -46,7 +46,8 @@ pub around-length : (p : ℕ) (bs : List ℕ) → length (around p bs) ≡ lengt
 around-length p [] = refl
 around-length p (b ∷ bs) = ap suc (around-length b bs)
 
--- A chunk of a part of a list is a chunk of the whole list, at an offset that is larger by the offset of the part.
+-- If a part of a list begins at the offset `k` of the list, the part's chunk at the offset `j` is the list's chunk at the
+-- offset `k + j`.
 part_of : (j m r k n : ℕ) (bs : List ℕ) → m ≡ j + r → n ≤ r → chunk j n (take m (drop k bs)) ≡ chunk (k + j) n bs
 part_of j m r k n bs is room =
     ap (λ z. take n (drop j (take z (drop k bs)))) is ∙ ap (take n) (drop-take j r (drop k bs))
@@ -65,7 +66,8 @@ same_lanes f g all (x ∷ xs) low = ap₂ (λ a b. a ∷ b)
     (eqb-true (f x) (g x) (agree_below_at (λ c. eqb (f c) (g c)) (λ _. true) 256 x all (low 0 (omega arith))))
     (same_lanes f g all xs (λ k short. low (suc k) (omega arith)))
 
--- A vector for a test of one part of each element can be computed from the list of these parts.
+-- A vector of the test `g`, computed from a list of the values `part x`, is the vector of the test `g (part x)` for the
+-- elements `x`.
 pub lanes_of : {X : Type 0} (g : ℕ → Bool) (part : X → ℕ) (xs : List X) {v z : List ℕ} → map part xs ≡ v
     → z ≡ map (λ c. lane (g c)) v → z ≡ map (λ x. lane (g (part x))) xs
 lanes_of g part xs is lanes = lanes ∙ ap (map (λ c. lane (g c))) (sym is) ∙ map-map (λ c. lane (g c)) part xs
@@ -99,8 +101,8 @@ at_each : (f : Bool → Bool) → for_all f ≡ true → (b : Bool) → f b ≡ 
 at_each f all true = (and_parts (f true) (f false) all).0
 at_each f all false = (and_parts (f true) (f false) all).1
 
--- Whether a letter that may begin the prefix of a literal is followed by a byte that continues the prefix, from tests of this
--- byte.
+-- Whether the byte after the character `c` may follow `c` at the start of a literal, of `true` or of `false`. The other
+-- arguments are tests of that byte: it is a quote, an apostrophe, `r`, `#` or `a`.
 abbrev pub goes_on : ℕ → Bool → Bool → Bool → Bool → Bool → Bool
 goes_on c q t r h a =
     cond (c == 98) (q || t || r) (cond (c == 99) (q || r) (cond (c == 114) (q || h) (cond (c == 116) r
@@ -200,7 +202,8 @@ likely_mask at bs room fits lanes =
 
 -- ---- masks for the test of one byte
 
--- In a mask, a bit is set for exactly those bytes below 64 at which a literal or a comment may begin.
+-- For a byte `c` below 64, bit number `c` of 288090205599039488 is set exactly if a literal or a comment may begin at the
+-- byte `c`.
 pub likely_low : (c : ℕ) → c < 64 → has_bit 288090205599039488 c ≡ (is_likely_mark c || is_likely_head c)
 likely_low c low = agree_below_at (has_bit 288090205599039488) (λ k. is_likely_mark k || is_likely_head k) 64 c refl low
 

@@ -4,7 +4,7 @@ use Rattle.rl_syntax.proofs.LaneLemmas.{run_stops, run_through}
 use Rattle.rl_syntax.proofs.UnlikelyLanes.{around-length}
 use Rattle.rl_syntax.specs.Mirrors.UnlikelyAt.{around, begins_none, first_or, may_begin, may_begin_at, unlikely_after, literal_free_prefix_len}
 
--- Whether neither a literal nor a comment begins at the second byte of a pair, if the first byte of the pair precedes it.
+-- Whether neither a literal nor a comment begins at the second of two adjacent bytes.
 abbrev pub is_past : ℕ × ℕ → Bool
 is_past x = not (may_begin x)
 
@@ -23,8 +23,8 @@ unlikely_run p (c ∷ cs) = ap (λ n. cond (begins_none p c (first_or 0 cs)) (su
     more true n = omega arith
     more false n = refl
 
--- If a part of a leading sequence of elements that pass a test is dropped, the sequence after the part is shorter by the part's
--- length.
+-- If `n` of the leading elements that pass a test are dropped, the number of leading elements that pass it is smaller by
+-- `n`.
 on_from : {X : Type 0} (q : X → Bool) (n : ℕ) (xs : List X) → n ≤ prefix_len q xs → prefix_len q xs
     ≡ n + prefix_len q (drop n xs)
 on_from q zero xs h = omega arith
@@ -39,7 +39,7 @@ on_from q (suc n) (x ∷ xs) h = go (q x) refl h (on_from q n xs)
         omega (arith, here, more (omega arith))
     go false e h more = absurd (omega arith)
 
--- The lowest bit of the mask of sixteen bytes is at the first of these bytes at which a literal or a comment may begin.
+-- The lowest set bit of the mask of sixteen bytes is at the first of these bytes at which a literal or a comment may begin.
 pub first_place : (bs : List ℕ) (at m : ℕ) → at ≤ literal_free_prefix_len bs → at + 16 ≤ length bs
     → m ≡ mask_l (map may_begin_at (chunk at 16 (around 0 bs))) → m ≢ 0 → at + count_trailing_zeros 64 m
     ≡ literal_free_prefix_len bs

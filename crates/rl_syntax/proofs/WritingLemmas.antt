@@ -43,8 +43,8 @@ texts_more k [] c = append-nil (unit_text (written_unit k c))
 texts_more k (x ∷ xs) c = ap (λ z. unit_text (written_unit k x) ++ z) (texts_more k xs c)
     ∙ sym (append_assoc (unit_text (written_unit k x)) (texts (map (written_unit k) xs)) (unit_text (written_unit k c)))
 
--- If the written bytes are the start of a literal up to some character, and the written form of the next character is appended,
--- they are the start of the literal up to the next character.
+-- The bytes `a` are the opening delimiter and the written forms of the characters `xs`. If the written form of `c` is
+-- appended to `a`, the result is the opening delimiter and the written forms of `xs` and `c`.
 pub begun_more : (k : Kind) (a b xs : List ℕ) (c : ℕ) → a ≡ begun k xs → b ≡ a
     ++ encode_utf8_all (unit_text (written_unit k c)) → b ≡ begun k (xs ++ (c ∷ []))
 begun_more k a b xs c e h =
@@ -55,8 +55,8 @@ begun_more k a b xs c e h =
     h ∙ ap (λ z. z ++ encode_utf8_all (unit_text (written_unit k c))) e
     ∙ sym (encodes-append (opener k ++ inner) (unit_text (written_unit k c))) ∙ ap encode_utf8_all all
 
--- If the bytes written after a text `p` are the start of a literal up to some character, and the written form of the next
--- character is appended, they are the start of the literal up to the next character.
+-- The bytes `a` are a text `p`, an opening delimiter and the written forms of the characters `xs`. If the written form of
+-- `c` is appended to `a`, the result is `p`, the opening delimiter and the written forms of `xs` and `c`.
 pub begun_more_after : (k : Kind) (p a b xs : List ℕ) (c : ℕ) → a ≡ p ++ begun k xs → b ≡ a
     ++ encode_utf8_all (unit_text (written_unit k c)) → b ≡ p ++ begun k (xs ++ (c ∷ []))
 begun_more_after k p a b xs c e h =
@@ -68,12 +68,14 @@ begun_more_after k p a b xs c e h =
 pub begun_front : (k : Kind) (p a b xs : List ℕ) → a ≡ p ++ begun k xs → b ≡ a → take (length p) b ≡ p
 begun_front k p a b xs e same = ap (take (length p)) (same ∙ e) ∙ take-append_seam p (begun k xs)
 
--- If the encoding of characters is appended to a text, the characters are appended to the text's characters.
+-- If the UTF-8 encoding of some characters is appended to a text, these characters are appended to the characters of the
+-- text.
 appended : (p b w : List ℕ) → IsUtf8 p → IsUtf8 b → b ≡ p ++ encode_utf8_all w → chars b ≡ chars p ++ w
 appended p b w u v e = sym (chars_from_encodes (chars p ++ w) b v
     (encodes-append (chars p) w ∙ ap (λ z. z ++ encode_utf8_all w) (encodes-chars p u) ∙ sym e))
 
--- If a literal is written after a text, the bytes with the closing delimiter are the text and then the whole literal.
+-- Bytes are a text, an opening delimiter and the written forms of a value's characters. With the closing delimiter appended,
+-- they are the text and the literal that is written for the value.
 pub begun_whole_after : (k : Kind) (p a b xs ys : List ℕ) → a ≡ p ++ begun k xs → b ≡ a ++ encode_utf8 (closer k) → xs
     ≡ ys → IsUtf8 p → IsUtf8 b → chars b ≡ chars p ++ written_text k ys
 begun_whole_after k p a b xs ys e h same u v =
@@ -87,7 +89,8 @@ begun_whole_after k p a b xs ys e h same u v =
     ∙ append_assoc p (begun k xs) (encode_utf8 (closer k)) ∙ ap (λ z. p ++ z) (sym all))
     ∙ ap (λ z. chars p ++ written_text k z) same
 
--- After the closing delimiter is written, the written bytes are the whole literal.
+-- Bytes are an opening delimiter and the written forms of a value's characters. With the closing delimiter appended, they
+-- are the literal that is written for the value.
 pub begun_whole : (k : Kind) (a b xs ys : List ℕ) → a ≡ begun k xs → b ≡ a ++ encode_utf8 (closer k) → xs ≡ ys
     → IsUtf8 b → chars b ≡ written_text k ys
 begun_whole k a b xs ys e h same u = begun_whole_after k [] a b xs ys e h same IsUtf8-nil u

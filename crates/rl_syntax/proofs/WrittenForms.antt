@@ -1,4 +1,4 @@
--- The text that is written for a value is the value's written form.
+-- The literal that is written for a value has the properties that callers rely on (`IsWrittenForm`).
 use Rattle.rl_syntax.proofs.Common.{◌≡◌, ℕ, suc, ◌<◌, ◌&&◌, true, not, eqb, List, [], ◌∷◌, length, refl, sym, subst, get_or, arith, nat_lt, list_all, and_from, and_parts, lt-ltb}
 use Rattle.rl_syntax.specs.declared.kind.Kind.{Kind}
 use Rattle.rl_syntax.specs.declared.kind.Kind.TheVariants.{ByteStr, CStr, Byte}
@@ -8,7 +8,8 @@ use Rattle.rl_syntax.specs.Written.{written_text, IsWrittenForm}
 use Rattle.rl_syntax.specs.Agreeing.{has_no_zero, IsQuotedValue, AreBytesOf}
 use Rattle.rl_syntax.proofs.WrittenLaws.{written_reads, written_strict}
 
--- The text that is written for a value is the literal that the definition `IsWrittenForm` describes.
+-- The literal that is written for a value has the property `IsWrittenForm`: by both grammars it has that value and no
+-- suffix.
 pub written_form : (k : Kind) (v t : List ℕ) → IsQuotedValue k v → t ≡ written_text k v → IsWrittenForm k v t
 written_form k v t h e = record {
   text_is = e;
@@ -29,7 +30,8 @@ both_tests (c ∷ v) h n =
     let q = and_parts _ _ n in
     and_from _ _ (and_from _ _ p.0 q.0) (both_tests v p.1 q.1)
 
--- If bytes can be the value of a literal of the kind, they are a value that a literal of the kind can represent.
+-- Bytes that a literal of the kind can have as its value (`AreBytesOf`) are a value of a quoted literal of the kind
+-- (`IsQuotedValue`).
 pub bytes_value : (k : Kind) (v : List ℕ) → AreBytesOf k v → list_all (λ c. nat_lt c 256) v ≡ true → IsQuotedValue k v
 bytes_value ByteStr v h b = b
 bytes_value Byte v h b = (h, b)

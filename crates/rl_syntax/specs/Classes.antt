@@ -1,4 +1,4 @@
--- The test of each class of characters, and the text after its leading characters that pass a test.
+-- Tests of the characters of each class, and the text after the leading characters that pass a test.
 use Rattle.std.specs.Prelude.{ℕ, Bool, not, ◌==◌, List, [], ◌∷◌, cond}
 use Rattle.std.specs.Char.{is_ascii, is_ascii_digit}
 use Rattle.unicode_ident.specs.Ident.{is_xid_continue}
@@ -24,7 +24,7 @@ class_test Unquoted = λ c. not (c == code "\"")
 class_test Ascii = is_ascii
 class_test NonNul = λ c. not (c == 0)
 
--- The text after its longest prefix of characters that pass the test.
+-- The text without its leading characters that pass the test: `ab` for `12ab` and a test for digits.
 abbrev pub after_run : (ℕ → Bool) → List ℕ → List ℕ
 after_run test [] = []
 after_run test (c ∷ t) = cond (test c) (after_run test t) (c ∷ t)

@@ -18,7 +18,7 @@ ATextHasOneReading =
     (t : List ℕ) (k l : Kind) (v w : Contents) (x y : List ℕ)
     → Reads t k v x → Reads t l w y → (k ≡ l) × (v ≡ w) × (x ≡ y)
 
--- By Rust's grammar, a text is a literal with one kind, one value and one suffix, if it is one at all.
+-- By Rust's grammar, a text has at most one parse result: one kind, one value and one suffix.
 abbrev pub ATextIsStrictInOneWay : Type 0
 ATextIsStrictInOneWay =
     (t : List ℕ) (k l : Kind) (v w : Contents) (x y : List ℕ)
@@ -42,8 +42,8 @@ AStrictTextReads =
     (t : List ℕ) (k : Kind) (v : Contents) (x : List ℕ)
     → Strict t k v x → IsWithinLimit k t → Reads t k v x
 
--- By `syn`'s grammar, a minus directly before a number of Rust's grammar is a number too. The digits of its value begin
--- with `-`, and its suffix is that of the number. An integer must be within 128 bits.
+-- By `syn`'s grammar, a number of Rust's grammar with a minus directly before it is a number too. The digits of its value
+-- begin with `-`, and its suffix is the suffix of the number without the minus. An integer must be within 128 bits.
 abbrev pub AStrictNumberReadsAfterAMinus : Type 0
 AStrictNumberReadsAfterAMinus =
     (t : List ℕ) (k : Kind) (ds x : List ℕ)

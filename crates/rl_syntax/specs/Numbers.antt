@@ -41,8 +41,8 @@ sign_text Minus = codes "-"
 abbrev pub begins_base : List ℕ → Bool
 begins_base t = begins (prefix Binary) t || begins (prefix Octal) t || begins (prefix Hexadecimal) t
 
--- The text that may follow the prefix of a base. Base ten has no prefix: its text begins with a digit, and not with the
--- prefix of another base.
+-- The text may follow the prefix of a base. Any text may follow `0b`, `0o` and `0x`. Base ten has no prefix: its text begins
+-- with a digit, and not with `0b`, `0o` or `0x`.
 abbrev pub IsAfterPrefix : Base → List ℕ → Type 0
 IsAfterPrefix Decimal t = IsTrue (first_passes is_ascii_digit t) × IsFalse (begins_base t)
 IsAfterPrefix _ t = ⊤
@@ -67,8 +67,8 @@ pub record IsExponentSuffix (x : List ℕ) : Type 0 where
   pub is_rest : (rest ≡ []) ⊎ IsTrue (xid_ok rest)
   pub text_is : x ≡ letter ∷ (run ++ rest)
 
--- The base allows the suffix: after a decimal integer it isn't an exponent, and after a hexadecimal one it doesn't
--- begin with a digit.
+-- The base allows the suffix. A decimal integer's suffix isn't an exponent, and a hexadecimal integer's suffix doesn't begin
+-- with a hexadecimal digit.
 abbrev pub AllowsSuffix : Base → List ℕ → Type 0
 AllowsSuffix Decimal x = IsExponentSuffix x → ⊥
 AllowsSuffix Hexadecimal x = IsFalse (first_passes (is_digit Hexadecimal) x)
@@ -118,8 +118,8 @@ is_power_sign [] = true
 is_power_sign (c ∷ []) = c == code "+" || c == code "-"
 is_power_sign _ = false
 
--- The text begins like an exponent: `e` or `E`, underscores, a digit, and any text. The suffix of a number without an
--- exponent doesn't begin so.
+-- The text begins like an exponent: `e` or `E`, underscores, a digit, and any text. If a number has no exponent, its suffix
+-- doesn't begin like one.
 pub record BeginsExponent (x : List ℕ) : Type 0 where
   pub letter : ℕ
   pub underscores : List ℕ
@@ -153,7 +153,7 @@ pub record FloatReads (text numeral suffix : List ℕ) : Type 0 where
       numeral ≡ sign_text sign ++ (whole ++ (fraction_text fraction ++ exponent_text exponent))
   pub text_is : text ≡ numeral ++ suffix
 
--- The digits of a float's value: the text before its suffix without `_` and `+`, and with `e` for `E`.
+-- The digits of a float's value. They are the text before the float's suffix, without `_` and `+`, and with `e` for `E`.
 abbrev pub float_digits : List ℕ → List ℕ
 float_digits numeral =
     map (λ c. if c == code "E" then code "e" else c)

@@ -115,7 +115,7 @@ is_plain Byte c =
     && not (c == code "'" || c == code "\\" || c == code "\n" || c == code "\r" || c == code "\t")
 is_plain _ c = false
 
--- Whether a literal of the kind may contain a character or byte with the given number. Only a C string excludes a number, which
+-- Whether the value of a literal of the kind may contain the given code point or byte. Only a C string excludes one, which
 -- is 0.
 abbrev pub allows_code : Kind → ℕ → Bool
 allows_code CStr n = not (n == 0)
@@ -126,8 +126,9 @@ abbrev pub is_raw : Kind → ℕ → Bool
 is_raw ByteStr c = nat_lt c 128
 is_raw kind c = allows_code kind c
 
--- Whether the escape `\xHH` in a literal of the kind may have the given number: below 128 in a literal of characters, and not 0
--- in a C string. `allows_unicode_escapes` says whether literals of the kind may contain escapes `\u{..}`.
+-- Whether a literal of the kind may contain the escape `\xHH` whose two digits represent the given number. The number is
+-- below 128 in a literal of characters, and isn't 0 in a C string. `allows_unicode_escapes` is the condition for escapes
+-- `\u{..}`.
 abbrev pub may_be_hex : Kind → ℕ → Bool
 may_be_hex kind n = allows_code kind n && (not (decodes_to_chars kind) || nat_lt n 128)
 
@@ -158,7 +159,8 @@ texts us = flat_map unit_text us
 abbrev pub values : Kind → List QuotedUnit → List ℕ
 values kind us = flat_map (unit_value kind) us
 
--- If the unit is an escaped line end, no white space follows it: it includes all white space after it.
+-- The text `after` may follow the unit, which is a character or an escape. An escaped line end includes all white space
+-- after it, so white space can't follow an escaped line end.
 abbrev pub EndsBefore : QuotedUnit → List ℕ → Type 0
 EndsBefore (Continuation line_end run) after = IsFalse (first_passes is_blank after)
 EndsBefore _ after = ⊤

@@ -99,7 +99,7 @@ HasNoReading text =
 abbrev pub HasNoTruth : List ℕ → Type 0
 HasNoTruth text = (contents : Contents) (suffix : List ℕ) → ReadsBool text contents suffix → ⊥
 
--- The text is parsed as a literal of the kind. For `None`, it isn't a literal.
+-- The text is parsed as a literal of the kind. If the kind is `None`, the text isn't a literal.
 abbrev pub IsReadAs : Option Kind → List ℕ → Type 0
 IsReadAs (Some kind) text = ReadsAs kind text
 IsReadAs None text = HasNoReading text

@@ -10,11 +10,11 @@ nowhere = record { file = 0; lo = 0; hi = 0 }
 abbrev pub entry_at : List Span → ℕ → Span
 entry_at table at = slice_index_or table (min at (length table - 1)) nowhere
 
--- The span in a file that the bytes of a text's span come from. The table has an entry for each byte of the text, which
--- is a span in the file.
+-- The span in a file that corresponds to a span of a text. The table has an entry for each byte of the text: the span in the
+-- file that the byte comes from.
 --
--- The result begins where the entry of the first byte begins, and ends where that of the last byte ends. For an empty
--- span it is empty, and begins where the next byte's entry begins.
+-- The result begins where the entry of the first byte begins, and ends where the entry of the last byte ends. For an empty
+-- span the result is empty, and begins where the entry of the byte at `lo` begins.
 abbrev pub mapped_by : List Span → Span → Span
 mapped_by table span = record {
   file = (entry_at table span.lo).file;

@@ -62,8 +62,8 @@ abbrev pub plain_value_in : List (ℕ × ℕ) → ℕ → List ℕ
 plain_value_in [] c = []
 plain_value_in (e ∷ es) c = if e.0 == c then e.1 ∷ [] else plain_value_in es c
 
--- The value of a character or escape. In C string literals, `as_kind` encodes characters as UTF-8 bytes. In other literals, it
--- returns the characters unchanged.
+-- The value of a character or escape. In C string literals, `as_kind` encodes characters as UTF-8 bytes. In other literals,
+-- `as_kind` returns the characters unchanged.
 abbrev pub strict_contents : (List ℕ → List ℕ) → StrictUnit → List ℕ
 strict_contents as_kind (Itself c) = as_kind (c ∷ [])
 strict_contents as_kind (QuoteEscape c) = c ∷ []

@@ -14,8 +14,8 @@ use Prim.Native.Char.{code}
 abbrev pub is_white : ℕ → Bool
 is_white c = is_whitespace c || c == 0x200e || c == 0x200f
 
--- Whether a text is an identifier, and so a suffix of the lenient grammar. The text `_` is one too. White space isn't excluded
--- separately.
+-- Whether a text is an identifier, which the lenient grammar accepts as a suffix. The text `_` counts as an identifier.
+-- White space isn't excluded separately.
 abbrev pub xid_ok : List ℕ → Bool
 xid_ok [] = false
 xid_ok (c ∷ cs) = (c == code "_" || is_xid_start c) && list_all is_xid_continue cs
@@ -65,8 +65,8 @@ pub record SpannedText : Type 0 where
   pub text : List ℕ
   pub span : Span
 
--- Whether a character may begin an identifier token (the Rust Reference, chapter Identifiers). `is_continue` says whether it may
--- continue one.
+-- Whether a character may begin an identifier token (the Rust Reference, chapter Identifiers). `is_continue` is the test of
+-- characters that may continue an identifier token.
 abbrev pub is_start : ℕ → Bool
 is_start c = (c == code "_" || is_xid_start c) && not (is_white c)
 

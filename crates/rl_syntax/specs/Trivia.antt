@@ -44,8 +44,8 @@ is_comment_block inside =
     || (begins_char (code "*") inside
     && not (begins_char (code "/") (drop 1 inside) || begins_char (code "*") (drop 1 inside))))
 
--- One piece of the text that is dropped between tokens: a white space character, a plain line comment with its LF, or a
--- plain block comment.
+-- A part of the text that is dropped between tokens: a white space character, a plain line comment with its LF, or a plain
+-- block comment.
 pub data TriviaPiece : Type 0 where
   White : (c : ℕ) → TriviaPiece
   Line : (body : List ℕ) → TriviaPiece
@@ -56,7 +56,7 @@ trivia_piece_text (White c) = c ∷ []
 trivia_piece_text (Line body) = code "/" ∷ code "/" ∷ body ++ code "\n" ∷ []
 trivia_piece_text (Block inside) = code "/" ∷ code "*" ∷ inside_text inside
 
--- The text that may follow the `//` of a plain line comment, up to its LF.
+-- The text can be the part of a plain line comment between its `//` and its LF.
 pub record IsLineBody (body : List ℕ) : Type 0 where
   pub plain : IsTrue (is_comment_line body)
   pub one_line : IsTrue (list_all (λ c. not (c == code "\n")) body)

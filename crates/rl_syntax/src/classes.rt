@@ -59,7 +59,7 @@ fn is_in_class(class: CharClass, c: char) -> bool
     }
 }
 
-/// Returns the text after its longest prefix of characters of the class `class`.
+/// Returns the text after its leading characters of the class `class`.
 ///
 /// The function is inlined, so `class` is a constant in each caller. It reads single bytes up to the first non-ASCII
 /// character, and characters from there on.
@@ -88,7 +88,8 @@ pub fn skip_hashes(text: &str) -> &str
     skip_class(CharClass::Hash, text)
 }
 
-/// Returns the class of characters that `WORD` selects: identifier characters if `WORD` is `true`, else white space.
+/// Returns the class of characters that `WORD` selects: identifier characters if `WORD` is `true`, white space if
+/// `WORD` is `false`.
 #[inline(always)]
 fn run_class<const WORD: bool>() -> CharClass
     ensures { result ≡ run_class WORD }
@@ -100,7 +101,8 @@ fn run_class<const WORD: bool>() -> CharClass
     }
 }
 
-/// Returns the text after its longest prefix of identifier characters, if `WORD` is `true`, or of white space.
+/// Returns the text after its leading characters of one class: identifier characters if `WORD` is `true`, white space
+/// if `WORD` is `false`.
 ///
 /// Sixteen bytes are tested at once, up to the first non-ASCII character.
 #[inline(always)]
@@ -156,7 +158,7 @@ fn begins_nonblank(text: &str) -> bool
     }
 }
 
-/// Returns the text after the white space at its start, sixteen bytes at a time.
+/// Returns the text after the white space at its start. Sixteen bytes are tested at once.
 ///
 /// [`skip_white`] calls it for more white space than one space, and for non-ASCII text.
 #[inline(never)]
@@ -168,7 +170,7 @@ fn skip_white_run(text: &str) -> &str
     skip_run::<false>(text)
 }
 
-/// Returns the text after its longest prefix of characters of the class `class`, tested one character at a time.
+/// Returns the text after its leading characters of the class `class`, tested one character at a time.
 #[inline(never)]
 fn skip_wide_class(class: CharClass, text: &str) -> &str
     ensures rest { chars result.now ≡ after_run (class_test class) (chars text.now) }

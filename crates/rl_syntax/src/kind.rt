@@ -5,9 +5,9 @@ ghost use Rattle.rl_syntax.specs.Quoted.{decodes_to_chars, is_string, opener};
 ghost use Rattle.rl_syntax.specs.Words.{kind_name, kind_shown, kind_word};
 ghost use Rattle.rl_syntax.specs.Written.{closer};
 
-// The constants whose names end with `_OPENER` are the opening texts of quoted literals, prefix and quote.
-// `Kind::opener` returns one of them for a kind. The lexer uses the constants, because the compiler makes a test of a
-// text's start from a constant, but not from the result of a call.
+// The constants whose names end with `_OPENER` are the opening texts of quoted literals: prefix and quote, as `b"`.
+// `Kind::opener` returns the constant of a kind. The lexer compares the start of a text with the constants, since the
+// compiler specializes a comparison for a constant, but not for the result of a call.
 pub const STR_OPENER: &str = "\"";
 
 pub const BYTE_STR_OPENER: &str = "b\"";

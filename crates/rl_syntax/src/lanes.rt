@@ -15,8 +15,9 @@ use std::simd::prelude::*;
 /// The number of bytes that a search tests at once.
 const LANES: usize = 16;
 
-/// Returns a bit for each of the sixteen bytes from the offset `at` on. A bit is set where the byte is no ASCII
-/// identifier character, if `WORD` is `true`, or no ASCII white space.
+/// Returns a bit for each of the sixteen bytes from the offset `at` on. If `WORD` is `true`, the bit of each byte that
+/// isn't an ASCII identifier character is set. If `WORD` is `false`, the bit of each byte that isn't ASCII white space
+/// is set.
 #[inline(always)]
 fn ends_among<const WORD: bool>(bytes: &[u8], at: usize) -> u64
     requires { at + LANES ≤ length bytes.now }
@@ -46,7 +47,8 @@ pub fn is_ascii_id_continue(byte: u8) -> bool
     byte.is_ascii_alphanumeric() || byte == b'_'
 }
 
-/// Whether `byte` is an ASCII identifier character, if `WORD` is `true`, or ASCII white space.
+/// If `WORD` is `true`, returns whether `byte` is an ASCII identifier character. If `WORD` is `false`, returns whether
+/// `byte` is ASCII white space.
 #[inline(always)]
 fn is_run_byte<const WORD: bool>(byte: u8) -> bool
     ensures { result ≡ is_run_byte WORD byte }
@@ -58,8 +60,9 @@ fn is_run_byte<const WORD: bool>(byte: u8) -> bool
     }
 }
 
-/// Returns the byte offset where a sequence that begins at `from` ends, tested byte by byte. The sequence is one of
-/// ASCII identifier characters, if `WORD` is `true`, or of ASCII white space.
+/// Returns the byte offset where the sequence of bytes that begins at `from` ends, tested byte by byte. If `WORD` is
+/// `true`, the sequence consists of ASCII identifier characters. If `WORD` is `false`, the sequence consists of ASCII
+/// white space.
 #[inline(never)]
 fn run_end_by_byte<const WORD: bool>(bytes: &[u8], from: usize) -> usize
     requires { from ≤ length bytes.now }
@@ -72,8 +75,9 @@ fn run_end_by_byte<const WORD: bool>(bytes: &[u8], from: usize) -> usize
     at
 }
 
-/// Returns the byte offset where a sequence that begins at `from` ends. The sequence is one of ASCII identifier
-/// characters, if `WORD` is `true`, or of ASCII white space. Sixteen bytes are tested at once while sixteen are left.
+/// Returns the byte offset where the sequence of bytes that begins at `from` ends. If `WORD` is `true`, the sequence
+/// consists of ASCII identifier characters. If `WORD` is `false`, the sequence consists of ASCII white space. Sixteen
+/// bytes are tested at once while sixteen are left.
 #[inline(never)]
 fn run_end<const WORD: bool>(bytes: &[u8], from: usize) -> usize
     requires { from ≤ length bytes.now }
@@ -90,7 +94,8 @@ fn run_end<const WORD: bool>(bytes: &[u8], from: usize) -> usize
     run_end_by_byte::<WORD>(bytes, at)
 }
 
-/// Returns the number of leading bytes that are ASCII identifier characters, if `WORD` is `true`, or ASCII white space.
+/// Returns the number of leading bytes of one class: ASCII identifier characters if `WORD` is `true`, ASCII white
+/// space if `WORD` is `false`.
 ///
 /// The first sixteen bytes are tested at once, and most sequences end there.
 #[inline(always)]

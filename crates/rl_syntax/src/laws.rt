@@ -7,7 +7,7 @@ pub fn a_text_has_one_reading()
     ensures { ATextHasOneReading }
 {}
 
-/// By Rust's grammar, a text is a literal with one kind, one value and one suffix, if it is one at all.
+/// By Rust's grammar, a text has at most one parse result: one kind, one value and one suffix.
 pub fn a_text_has_one_strict_reading()
     ensures { ATextIsStrictInOneWay }
 {}
@@ -28,8 +28,9 @@ pub fn a_strict_literal_is_a_syn_literal()
     ensures { AStrictTextReads }
 {}
 
-/// By `syn`'s grammar, a minus directly before a number of Rust's grammar is a number too. The digits of its value
-/// begin with `-`, and its suffix is that of the number. An integer must be within 128 bits.
+/// By `syn`'s grammar, a number of Rust's grammar with a minus directly before it is a number too. The digits of its
+/// value begin with `-`, and its suffix is the suffix of the number without the minus. An integer must be within 128
+/// bits.
 pub fn a_negated_strict_number_is_a_syn_literal()
     ensures { AStrictNumberReadsAfterAMinus }
 {}
@@ -55,8 +56,8 @@ pub fn both_grammars_agree()
     ensures { BothGrammarsAgree }
 {}
 
-/// Two parse results of a text are equal as records of a kind, a value and a suffix, whether each is by `syn`'s or by
-/// Rust's grammar.
+/// Two parse results of a text are equal records of a kind, a value and a suffix. Each of the two may be by `syn`'s or
+/// by Rust's grammar.
 pub fn readings_of_a_text_are_equal()
     ensures readings { ReadingsOfATextAreOne }
     ensures strict { StrictReadingsOfATextAreOne }

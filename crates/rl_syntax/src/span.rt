@@ -80,11 +80,12 @@ impl Span {
         self.hi
     }
 
-    /// Returns the span in a file that the bytes of this span of a text come from. `table` has an entry for each byte
-    /// of the text: the span in a file that the byte comes from.
+    /// Converts this span of a text to a span in a file. `table[i]` is the span in the file that the text's byte at
+    /// the offset `i` comes from. For example, the text is the value of `"\x41b"`, and `table[0]` is the span of
+    /// `\x41`.
     ///
-    /// The result begins where the table's entry for the first byte begins, and ends where the entry for the last byte
-    /// ends. The result for an empty span is empty, and begins where the entry for the byte at `lo` begins. For an
+    /// The result begins where the span of the byte at `lo` begins, and ends where the span of the last byte, at `hi -
+    /// 1`, ends. For an empty span the result is empty, and begins where the span of the byte at `lo` begins. For an
     /// offset outside the table, the table's last entry is used.
     pub fn mapped_by(self, table: &[Span]) -> Span
         ensures { result ≡ mapped_by table.now self }

@@ -1,5 +1,5 @@
--- A lemma about the flat form of a token that the cursor over a text returns. A flat form is a token with its span, in
--- a list in which each delimiter is an element of its own.
+-- A lemma about a token that the cursor over a text returns. In a flat list of tokens, the token is the same element as
+-- the lexed token of the definitions that describes it.
 use Rattle.rl_syntax.proofs.Common.{◌≡◌, ℕ, ◌∙◌, ap, encode_utf8_all}
 use Rattle.rl_lexer.specs.Lexemes.{lexeme_text}
 use Rattle.rl_lexer.specs.Cursors.{form_view, IsBorrowedToken}
@@ -8,7 +8,7 @@ use Rattle.rl_lexer.specs.Cuts.{LexedToken, end_of}
 use Rattle.rl_tokens.specs.Lexing.{flat_form, flat_token}
 use Rattle.rl_lexer.specs.declared.cursor.Lexeme.{Lexeme as Borrowed}
 
--- A token that the cursor returns and the lexed token that describes it have equal flat forms.
+-- In a flat list of tokens, a token that the cursor returns is the same element as the lexed token that describes it.
 pub flat_borrowed : (file : ℕ) (l : Borrowed) (w : LexedToken) → IsBorrowedToken l w → flat_token file w
     ≡ flat_form (form_view l.form) l.text.now (record { file = file; lo = l.lo; hi = l.hi })
 flat_borrowed file l w is =

@@ -4,8 +4,8 @@ use Rattle.std.specs.List.{position_from, position}
 use Rattle.std.proofs.lemmas.Iterator.Adapters.{position_from-zero}
 use Rattle.rl_syntax.specs.Agreeing.{is_zero, has_no_zero}
 
--- If the search for a zero in a list of bytes finds none, the list contains no zero. The search may count the bytes
--- from any number.
+-- If the search for a zero in a list of bytes finds none, the list contains no zero. The count of the bytes may begin
+-- at any number.
 none_from : (i : ℕ) (xs : List ℕ) → position_from is_zero i xs ≡ None → has_no_zero xs ≡ true
 none_from i [] h = refl
 none_from i (x ∷ xs) h = go (is_zero x) h (λ k. none_from (i + 1) xs k)

@@ -1,4 +1,4 @@
--- Two results of lexing the same text have the same tokens, up to the first error.
+-- Two lexings of the same text have the same tokens, up to the first error.
 use Rattle.rl_syntax.proofs.Common.{◌≡◌, ℕ, ◌+◌, List, [], ◌∷◌, ◌++◌, map, Option, Some, None, refl, sym, ◌∙◌, ap, subst, arith, option_and_then, encode_utf8_all, none-some}
 use Rattle.rl_lexer.specs.Skipping.{Skipped}
 use Rattle.rl_lexer.specs.Lexemes.{Lexeme, lexeme_text, IsLexeme, LexemeForm, form_of}
@@ -10,8 +10,8 @@ use Rattle.rl_lexer.proofs.Comments.{same_Some}
 use Rattle.rl_lexer.proofs.Pieces.{one_rest}
 use Rattle.rl_lexer.proofs.LexemeFronts.{lexeme_at-past, one_front}
 
--- A condition on the open groups `groups` and a text `r`: no token can follow. The text begins with no token, or with a
--- delimiter that can't be added to the open groups.
+-- Lexing can't continue with the text `r` while the groups `groups` are open. The text begins with no token, or with a
+-- delimiter that is an error there.
 abbrev pub IsStuck : List OpenGroup → List ℕ → Type 0
 IsStuck groups r = (l : Lexeme) (after : List ℕ) (at : ℕ) → IsLexeme l after → r ≡ lexeme_text l ++ after
     → after_lexeme groups l at ≡ None
@@ -66,7 +66,7 @@ same_tail : (groups : List OpenGroup) (v w : LexedToken) (x y : List ℕ) → Sa
 same_tail groups v w x y same = ap (λ f. after_form groups f v.at) same.form
     ∙ ap (λ n. after_form groups (form_of w.lexeme) n) same.at
 
--- If a list of tokens can be added to the open groups, its first token can be added to them.
+-- If `open_groups` accepts a list of tokens, it accepts the list's first token, and then the other tokens.
 opened : (o : Option (List OpenGroup)) (ws : List LexedToken) (h : List OpenGroup)
     → option_and_then (λ g. open_groups g ws) o ≡ Some h → (g : List OpenGroup) × (o ≡ Some g)
     × (open_groups g ws ≡ Some h)

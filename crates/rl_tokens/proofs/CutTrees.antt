@@ -1,4 +1,4 @@
--- The literal and identifier tokens among the token trees of a text have the texts with which they were lexed.
+-- Lemmas: the text of a literal or identifier token among the token trees of a text is the text that was lexed.
 use Rattle.rl_syntax.proofs.Common.{◌≡◌, ℕ, Bool, true, false, List, [], ◌∷◌, ◌++◌, map, inl, inr, refl, sym, ◌∙◌, ap, subst, ⊤, if◌then◌else◌, AllByRecursion, chars, encode_utf8_all, scalar}
 use Rattle.std.proofs.Math.Utf8.{scalars}
 use Rattle.std.proofs.lemmas.Str.{chars-encodes}
@@ -17,8 +17,8 @@ pub record IsTokenOf (text : List ℕ) (token : SpannedText) : Type 0 where
   pub bytes : token.text ≡ encode_utf8_all text
   pub characters : chars token.text ≡ text
 
--- A condition on the tokens of a text: the text of a literal token is the text of a literal that the lexer finds in
--- some text. An identifier token may have any text.
+-- A condition on the tokens of a text: the text of a literal token is one that the lexer finds as a literal token. An
+-- identifier token may have any text.
 abbrev pub IsCutToken : SpannedText → Type 0
 IsCutToken token = (text : List ℕ) × IsLexedLiteral text × IsTokenOf text token
 

@@ -1,4 +1,4 @@
--- No token can follow at the position of a lexing error, and a position has at most one kind of error.
+-- Lexing can't continue at the position of a lexing error, and a position has at most one kind of error.
 use Rattle.rl_syntax.proofs.Common.{◌≡◌, ◌≢◌, ℕ, Bool, true, false, not, ◌&&◌, ◌||◌, ◌==◌, cond, List, [], ◌∷◌, ◌++◌, length, Option, Some, None, refl, sym, ◌∙◌, ap, subst, lit<, and_parts, or_parts, none-some, codes, nat_lt, if◌then◌else◌}
 use Rattle.rl_lexer.specs.declared.lex_error.LexKind.{LexKind}
 use Rattle.rl_lexer.specs.declared.lex_error.LexKind.TheVariants.{DocComment, UnclosedComment, UnclosedQuote, Lifetime, RawIdentifier, StrayCharacter, UnmatchedClose, UnclosedGroup, TooDeep, Memory}
@@ -84,7 +84,8 @@ block_slash (c ∷ d ∷ t) h = slash_and c d t (two (c == 47) (d == 47) (d == 4
     two true false true h = (refl, refl)
     two true false false h = absurd (cc)
 
--- No token can follow if the text begins with a delimiter that can't be added to the open groups.
+-- If a text begins with a delimiter that is an error while the groups `groups` are open, lexing can't continue with the
+-- text.
 delimiter_stuck : (groups : List OpenGroup) (c : ℕ) (t : List ℕ) → is_among delimiters c ≡ true
     → ((at : ℕ) → after_form groups (DelimiterForm c) at ≡ None) → IsStuck groups (c ∷ t)
 delimiter_stuck groups c t is none l after at is_l same =
@@ -130,7 +131,7 @@ deep_stuck groups r h n =
 pub nothing_stuck : (groups : List OpenGroup) (r : List ℕ) → r ≡ [] → IsStuck groups r
 nothing_stuck groups r nil = stuck_unless groups r (ap lexeme_at nil)
 
--- No token can follow at the position of a lexing error.
+-- Lexing can't continue at the position of a lexing error.
 pub error_stuck : (k : LexKind) (groups : List OpenGroup) (r : List ℕ) → ErrorAt k groups r → IsStuck groups r
 error_stuck DocComment groups r h = stuck_unless groups r (slash_none r (doc_slash r h))
 error_stuck UnclosedComment groups r (h, other) = stuck_unless groups r (slash_none r (block_slash r h))
@@ -143,7 +144,8 @@ error_stuck UnclosedGroup groups r (nil, some) = nothing_stuck groups r nil
 error_stuck TooDeep groups r (h, n) = deep_stuck groups r h n
 error_stuck Memory groups r h = absurd h
 
--- The remaining text at a lexing error determines the kind of the error.
+-- The kind of a lexing error is determined by the remaining text. If a lexeme begins the remaining text, the form of
+-- the lexeme determines the kind.
 abbrev kind_by_form : LexemeForm → LexKind
 kind_by_form (DelimiterForm c) = if is_opener c then TooDeep else UnmatchedClose
 kind_by_form _ = StrayCharacter
@@ -281,7 +283,7 @@ error_kind_at UnclosedGroup groups r (nil, some) = sym (ap (λ x. kind_at (lexem
 error_kind_at TooDeep groups r (h, n) = deep_kind r h
 error_kind_at Memory groups r h = absurd h
 
--- An empty text has no lexing error if no group is open.
+-- If no group is open, an empty text has no lexing error.
 pub no_error : (k : LexKind) → ErrorAt k [] [] → ⊥
 no_error DocComment h = absurd (cc)
 no_error UnclosedComment (h, _) = absurd (cc)

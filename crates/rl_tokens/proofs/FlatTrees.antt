@@ -1,17 +1,18 @@
--- Two lists of token trees with the same flat form are equal.
+-- Two lists of token trees are equal if their flat lists of tokens are equal. In a flat list each delimiter of a group
+-- is an element of its own.
 use Rattle.rl_syntax.proofs.Common.{◌≡◌, List, [], ◌∷◌, ◌++◌, refl, sym, ◌∙◌, ap, append_assoc}
 use Rattle.rl_syntax.specs.declared.span.Span.{Span}
 use Rattle.rl_tokens.specs.declared.token.Delimiter.{Delimiter}
 use Rattle.rl_tokens.specs.Trees.{Tree, Trees, GroupTree, IdentTree, PunctTree, LiteralTree, NoTrees, MoreTrees, inside_of, FlatToken, Opening, Closing, FlatIdent, FlatPunct, FlatLiteral, opener_span, closer_span, flat, flat_inside, flat_trees}
 
--- A condition on a list of flat tokens: the list is empty, or begins with a closing delimiter. So a list of token trees
--- ends before these tokens.
+-- A condition on a flat list of tokens under which no token tree begins the list: the list is empty, or begins with a
+-- closing delimiter.
 abbrev EndsLevel : List FlatToken → Type 0
 EndsLevel [] = Unit {0}
 EndsLevel (Closing d s ∷ fs) = Unit {0}
 EndsLevel _ = ⊥
 
--- A list of flat tokens that is empty or begins with a closing delimiter doesn't begin with the flat form of a token
+-- If a flat list of tokens is empty or begins with a closing delimiter, it doesn't begin with the tokens of a token
 -- tree.
 not_end : (t : Tree) (fs xs : List FlatToken) → EndsLevel xs → xs ≡ flat t ++ fs → ⊥
 not_end t fs [] ends e = head_some t fs e
@@ -39,7 +40,8 @@ same_span s r a b =
     ∙ ap (λ x. let k : Span = record { file = r.file; lo = x; hi = s.hi } in k) los
     ∙ ap (λ x. let k : Span = record { file = r.file; lo = r.lo; hi = x } in k) his
 
--- The flat tokens after a group's opening delimiter are those inside the group, the closing delimiter, and those after the group.
+-- The flat list of the tokens after a group's opening delimiter consists of the tokens inside the group, the closing
+-- delimiter, and the tokens after the group.
 group_rest : (inside : Trees) (d : Delimiter) (s : Span) (ts : Trees) (xs : List FlatToken)
     → ((flat_inside inside ++ (Closing d (closer_span s) ∷ [])) ++ flat_inside ts) ++ xs ≡ flat_inside inside
     ++ (Closing d (closer_span s) ∷ (flat_inside ts ++ xs))
@@ -108,7 +110,7 @@ flat_same (MoreTrees (GroupTree d inside s) ts) (MoreTrees (IdentTree j) us) xs 
 flat_same (MoreTrees (GroupTree d inside s) ts) (MoreTrees (PunctTree j) us) xs ys p q e = absurd (cc)
 flat_same (MoreTrees (GroupTree d inside s) ts) (MoreTrees (LiteralTree j) us) xs ys p q e = absurd (cc)
 
--- If the insides of two groups are equal, the lists of token trees from which they are built are equal.
+-- If `inside_of` converts two lists of token trees to equal results, the two lists are equal.
 inside_same : (xs ys : List Tree) → inside_of xs ≡ inside_of ys → xs ≡ ys
 inside_same [] [] e = refl
 inside_same [] (y ∷ ys) e = absurd (cc)

@@ -66,7 +66,7 @@ token_fits {l = l} t =
     subst (λ (f : LexemeForm). IsFitting f l.text.now l.lo l.hi) t.is_cut.form_is
     (fits w.lexeme t.after l.text.now l.lo l.hi t.is_lexeme (sym t.is_cut.chars_are) t.is_cut.bytes_are len)
 
--- If the lexer's loop adds one more token, its invariant holds again.
+-- The invariant of the lexer's loop holds after one more token is added.
 pub has_more : {A : Type 0} (text : List ℕ) (from to : CursorState) (file : ℕ) (old new : TreeBuilder A) (l : Borrowed)
     → from.text ≡ text → HasCut text from.rest file old → TakesNext from l to
     → TakesToken old new (form_view l.form) l.text.now l.lo l.hi → HasCut text to.rest file new

@@ -13,7 +13,8 @@ use Rattle.rl_lexer.proofs.LexemeFronts.{start_ascii}
 use Rattle.rl_lexer.specs.Mirrors.LexemeAt.{begins_hashed_quote, begins_exponent, after_sign, begins_otherwise}
 use Rattle.rl_syntax.specs.Classes.{is_hash, after_run}
 
--- A test of characters that no separator passes: it fails for white space and for the slash.
+-- A condition on a test of characters: the test fails for white space and for the slash. So it fails for the first
+-- character of a separator.
 abbrev pub Solid : (ℕ → Bool) → Type 0
 Solid test = (c : ℕ) → (is_white c || c == 47) ≡ true → test c ≡ false
 
@@ -66,8 +67,8 @@ base_solid = or_solid (λ c. c == 120 || c == 111) (λ c. c == 98)
 letter_solid : Solid (λ c. c == 101 || c == 69)
 letter_solid = or_solid (λ c. c == 101) (λ c. c == 69) (code_solid 101 refl refl) (code_solid 69 refl refl)
 
--- Suppose that a test fails for the first character of each separator. If the test fails for the first character of two
--- joined texts, it still fails if a separator replaces the second text.
+-- Suppose that a test fails for white space and for the slash. If the test fails for the first character of two joined
+-- texts, it still fails if a separator replaces the second text.
 passes_gap : (test : ℕ → Bool) (s after gap : List ℕ) → Solid test → BeginsGap gap → first_passes test (s ++ after)
     ≡ false → first_passes test (s ++ gap) ≡ false
 passes_gap test [] after gap solid is h = gap_fails test gap solid is

@@ -97,7 +97,7 @@ flat-group : {A : Type 0} (g : Group A) → flat (tree_view (tree.Group g))
     ++ (Closing (delimiter_of g) (closer_span (group_span g)) ∷ []))
 flat-group g = ap flat (tree_view-group g)
 
--- The flat form of a group is its opening delimiter, the flat tokens inside, and its closing delimiter.
+-- The flat list of a group's tokens consists of the opening delimiter, the tokens inside, and the closing delimiter.
 flat_closed : {A : Type 0} (g : Group A) (d : Delimiter) (file at lo hi : ℕ) (inside : List FlatToken) → delimiter_of g
     ≡ d → group_span g ≡ record { file = file; lo = at; hi = hi } → flat_trees (stream_view (stream_of g)) ≡ inside → hi
     ≡ lo + 1 → flat (tree_view (tree.Group g)) ≡ Opening d (record { file = file; lo = at; hi = at + 1 }) ∷
@@ -130,8 +130,8 @@ other_closer Bracket Parenthesis h = refl
 other_closer Bracket Brace h = refl
 other_closer Bracket Bracket h = absurd (h refl)
 
--- After the builder of token trees has handled a closing delimiter, the innermost group is closed. It is the last token
--- tree of the group around it, or of the text.
+-- After the builder of token trees has handled a closing delimiter, the innermost group is closed. The closed group is
+-- the last token tree of the group around it, or of the text.
 pub closes_group : {A : Type 0} (old between new : TreeBuilder A) (o : GroupBuilder A) (g : Group A) (d : Delimiter)
     (lo hi : ℕ) → old.opened.items ≡ between.opened.items ++ o ∷ [] → o.before ≡ between.trees → between.file ≡ old.file
     → o.delimiter ≡ d → delimiter_of g ≡ d → stream_of g ≡ old.trees → group_span g

@@ -17,7 +17,8 @@ use Rattle.rl_tokens.proofs.LiteralEnds.{EndsLiteral, gap_ends, word_ends}
 use Rattle.rl_tokens.proofs.StrictQuotedLexemes.{quoted_lexed}
 use Rattle.rl_tokens.proofs.StrictNumberLexemes.{int_lexed, float_lexed}
 
--- If each element of a list has two properties, and these imply a third one, each element has the third one.
+-- If each element of a list has two properties, and the two properties imply a third one, each element has the third
+-- property.
 all_by : {A : Type 0} (P Q R : A → Type 0) → ((x : A) → P x → Q x → R x) → (xs : List A) → AllByRecursion P xs
     → AllByRecursion Q xs → AllByRecursion R xs
 all_by P Q R f [] ps qs = tt
@@ -53,8 +54,8 @@ filled_gap gap rest is some = gap_begins gap rest is (λ h. absurd (some h))
 last_begins : (last : List ℕ) → IsTrivia last → BeginsGap last
 last_begins last is = subst (λ (x : List ℕ). BeginsGap x) (append-nil last) (gap_begins last [] is (λ h. tt))
 
--- A condition on an entry of a printed list, a separator and an item: the entry followed by any text is in the family
--- `ends`, the texts that may follow an item.
+-- A condition on an entry of a printed list, which is a separator and an item: each text that begins with the entry has
+-- the property `ends`.
 abbrev Follows : (List ℕ → Type 0) → Entry → Type 0
 Follows ends e = (rest : List ℕ) → ends (e.gap ++ (item_text e.item ++ rest))
 

@@ -70,8 +70,8 @@ no_exponent : (s : List ℕ) → first_passes is_letter s ≡ false → begins_e
 no_exponent [] h = refl
 no_exponent (c ∷ t) h = ap (λ b. b && first_passes is_ascii_digit (after_run (λ c. c == 95) (after_sign t))) h
 
--- If two joined texts don't begin with a character that passes a test, they don't begin with one either if a text that
--- may follow a literal is appended. The test fails for each character with which such a text may begin.
+-- Suppose that a test fails for each character that may follow a literal in a printed list. If two joined texts don't
+-- begin with a character that passes the test, this is still so after a text that may follow a literal is appended.
 fails_tail2 : (test : ℕ → Bool) (e x after : List ℕ) → Clear test → EndsLiteral after → first_passes test (e ++ x)
     ≡ false → first_passes test (e ++ (x ++ after)) ≡ false
 fails_tail2 test e x after clear ends h = ap (first_passes test) (sym (append_assoc e x after))

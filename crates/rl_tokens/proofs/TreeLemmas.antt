@@ -1,4 +1,4 @@
--- Lemmas about token trees and streams as plain data.
+-- Lemmas about the conversion of token trees and streams of the code to the data type `Tree`.
 use Rattle.rl_syntax.proofs.Common.{◌≡◌, List, [], ◌∷◌, map, refl, sym, ◌∙◌, ap, ◌++◌, map-append}
 use Rattle.rl_syntax.specs.declared.span.Span.{Span}
 use Rattle.rl_tokens.specs.declared.token.TokenTree.{fold-roll-TokenTree, TokenTree}
@@ -17,7 +17,7 @@ stream_fold {A} = fold-TokenStream A Tree GroupParts (List Tree) tree_step group
 stream_fold-view : {A : Type 0} (s : TokenStream A) → stream_fold s ≡ stream_view s
 stream_fold-view {A} s = fold_out-TokenStream A Tree GroupParts (List Tree) tree_step group_step stream_step s
 
--- The plain data of a group consists of the plain data of the group's parts.
+-- A group of the code is converted to a `Tree` by converting the parts of the group.
 pub tree_view-group : {A : Type 0} (g : Group A) → tree_view (tree.Group g)
     ≡ GroupTree (delimiter_of g) (inside_of (stream_view (stream_of g))) (group_span g)
 tree_view-group {A} g =
@@ -39,8 +39,7 @@ pub tree_view-ident : (A : Type 0) (i : SpannedText) → tree_view {A = A} (tree
 tree_view-ident A i = ap tree_view (sym (tree.rolls-Ident i))
     ∙ fold-roll-TokenTree A Tree GroupParts (List Tree) tree_step group_step stream_step (layer.Ident i)
 
--- If a token tree is appended to a stream, the plain data of the token tree is appended to the plain data of the
--- stream.
+-- If a token tree is appended to a stream, the converted token tree is appended to the converted stream.
 pub stream_view-append : {A : Type 0} (old new : TokenStream A) (x : TokenTree A) (t : Tree) → tree_view x ≡ t
     → trees_of new ≡ trees_of old ++ x ∷ [] → stream_view new ≡ stream_view old ++ t ∷ []
 stream_view-append old new x t is e = ap (map tree_view) e ∙ map-append tree_view (trees_of old) (x ∷ [])
@@ -51,8 +50,7 @@ pub respanned-inside : (span : Span) (ts : List Tree) → all_respanned span (in
 respanned-inside span [] = refl
 respanned-inside span (t ∷ ts) = ap (MoreTrees (respanned span t)) (respanned-inside span ts)
 
--- If a group's span and the spans inside it are replaced by `span`, the plain data of the group has that span
--- everywhere.
+-- If a group's span and all spans inside the group are replaced by `span`, all spans in the converted group are `span`.
 pub respanned_group : {A : Type 0} (span : Span) (g h : Group A) → delimiter_of h ≡ delimiter_of g → group_span h ≡ span
     → stream_view (stream_of h) ≡ map (respanned span) (stream_view (stream_of g)) → tree_view (tree.Group h)
     ≡ respanned span (tree_view (tree.Group g))
@@ -74,8 +72,8 @@ pub relocated-inside : (table : List Span) (ts : List Tree) → all_relocated ta
 relocated-inside table [] = refl
 relocated-inside table (t ∷ ts) = ap (MoreTrees (relocated table t)) (relocated-inside table ts)
 
--- If a group's span and the spans inside it are replaced by those that `table` gives for them, so are the spans in the
--- group's plain data.
+-- If a group's span and all spans inside the group are replaced by the spans that `table` gives for them, the spans in
+-- the converted group are replaced in the same way.
 pub relocated_parts : {A : Type 0} (table : List Span) (g h : Group A) → delimiter_of h ≡ delimiter_of g → group_span h
     ≡ mapped_by table (group_span g) → stream_view (stream_of h) ≡ map (relocated table) (stream_view (stream_of g))
     → group_tree h ≡ relocated table (group_tree g)
@@ -91,8 +89,7 @@ pub relocated_group : {A : Type 0} (table : List Span) (g h : Group A) → group
     → tree_view (tree.Group h) ≡ relocated table (tree_view (tree.Group g))
 relocated_group table g h e = tree_view-group h ∙ e ∙ ap (relocated table) (sym (tree_view-group g))
 
--- If the first token tree of a list is consumed, the plain data of the list begins with the plain data of that token
--- tree.
+-- If a list of token trees begins with a token tree, the converted list begins with the converted token tree.
 pub first_taken : {A : Type 0} (xs rest : List (TokenTree A)) (x : TokenTree A) (t : Tree) → xs ≡ x ∷ rest → tree_view x
     ≡ t → map tree_view xs ≡ t ∷ map tree_view rest
 first_taken xs rest x t e is = ap (map tree_view) e ∙ ap (λ z. z ∷ map tree_view rest) is

@@ -16,7 +16,7 @@ rest_one before left t e = record { taken = t ∷ []; are = e }
 pub rest_two : (before left : List Tree) (t u : Tree) → before ≡ t ∷ (u ∷ left) → IsRest before left
 rest_two before left t u e = record { taken = t ∷ (u ∷ []); are = e }
 
--- If nothing is consumed, the token trees afterwards are the end of those before.
+-- If a parser consumes nothing, the remaining token trees are the end of the token trees before the call.
 pub rest_none : (before left : List Tree) → left ≡ before → IsRest before left
 rest_none before left e = record { taken = []; are = sym e }
 
@@ -32,7 +32,7 @@ rest_step before between left a b = record {
 pub rest_self : (trees : List Tree) → IsRest trees trees
 rest_self trees = record { taken = []; are = refl }
 
--- If `left` is the end of `between`, each list of token trees that ends in `between` also ends in `left`.
+-- If `left` is the end of `between`, each list of token trees that ends with `between` also ends with `left`.
 pub stays_rest : (between left : List Tree) → IsRest between left → StaysRest between left
 stays_rest between left a before b = rest_step before between left b a
 

@@ -67,7 +67,7 @@ pub record IsRest (before left : List Tree) : Type 0 where
   pub taken : List Tree
   pub are : before ≡ taken ++ left
 
--- Each list of token trees that ends in `between` also ends in `left`. The condition holds if `between` ends in `left`.
+-- Each list of token trees that ends with `between` also ends with `left`.
 abbrev pub StaysRest : List Tree → List Tree → Type 0
 StaysRest between left = (before : List Tree) → IsRest before between → IsRest before left
 

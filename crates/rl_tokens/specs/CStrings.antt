@@ -2,7 +2,7 @@
 pub use Rattle.rl_syntax.specs.Agreeing.{is_zero, has_no_zero}
 use Rattle.std.specs.Prelude.{ℕ, List}
 
--- Bytes that aren't a C string, and the offset of the first zero in the bytes.
+-- Bytes that contain a zero, and the offset of the first zero.
 pub record ZeroInside : Type 0 where
   pub bytes : List ℕ
   pub place : ℕ

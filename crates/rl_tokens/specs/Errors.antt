@@ -1,4 +1,4 @@
--- The messages of errors, the error for an allocation failure, and the errors that the lexer's errors become.
+-- The messages of errors, the error for an allocation failure, and the conversion of the lexer's errors.
 pub use Rattle.rl_syntax.specs.Spans.{nowhere}
 use Rattle.std.specs.Prelude.{ℕ, List, ◌++◌, codes, string_bytes}
 use Rattle.rl_syntax.specs.declared.span.Span.{Span}

@@ -15,8 +15,8 @@ delimiter_for c =
     if c == code "(" || c == code ")" then Parenthesis
     else (if c == code "[" || c == code "]" then Bracket else Brace)
 
--- The token with the form, text and span given, as an element of the flat form of token trees, in which each delimiter
--- is an element of its own.
+-- Converts a token with the given form, text and span to an element of a flat list of tokens. In a flat list each
+-- delimiter of a group is an element of its own.
 abbrev pub flat_form : LexemeForm → List ℕ → Span → FlatToken
 flat_form LiteralForm text span = FlatLiteral (record { text = text; span = span })
 flat_form IdentifierForm text span = FlatIdent (record { text = text; span = span })
@@ -24,8 +24,8 @@ flat_form (DelimiterForm c) text span =
     if is_opener c then Opening (delimiter_for c) span else Closing (delimiter_for c) span
 flat_form (MarkForm c) text span = FlatPunct (record { ch = c; span = span })
 
--- A lexed token as an element of the flat form of token trees. Its span is the file and the byte range of the token's
--- text.
+-- Converts a lexed token of a file to an element of a flat list of tokens. The element's span is the file and the byte
+-- range of the token.
 abbrev pub flat_token : ℕ → LexedToken → FlatToken
 flat_token file w =
     flat_form (form_of w.lexeme) (encode_utf8_all (lexeme_text w.lexeme))

@@ -34,7 +34,7 @@ PrintedLiteralsLexToTheirTrees =
     (t : List ℕ) (entries : List Entry) (last : List ℕ) (file : ℕ) → Printed t entries last
     → Lexes t file (printed_trees file 0 entries)
 
--- The text is the text of a literal token that the lexer finds in some text. The literal needn't be valid.
+-- There is a text at whose start the lexer finds the given text as a literal token. The literal needn't be valid.
 abbrev pub IsLexedLiteral : List ℕ → Type 0
 IsLexedLiteral text =
     (l : Lexeme) × (after : List ℕ) × IsLexeme l after × (form_of l ≡ LiteralForm)

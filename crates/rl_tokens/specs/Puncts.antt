@@ -8,7 +8,7 @@ use Rattle.rl_syntax.specs.declared.span.Span.{Span}
 abbrev pub mark_word : ℕ → List ℕ
 mark_word c = code "`" ∷ (c ∷ (code "`" ∷ []))
 
--- A punctuation token as plain data: its character, and its span.
+-- The parts of a punctuation token: its character, and its span.
 pub record Mark : Type 0 where
   pub ch : ℕ
   pub span : Span

@@ -1,4 +1,5 @@
--- The parts of token trees that contracts cite, token trees as plain data, and the flat form of token trees.
+-- The parts of token trees that contracts cite, the data type `Tree` that represents token trees in definitions, and
+-- flat lists of tokens, in which each delimiter of a group is an element of its own.
 pub use Rattle.rl_syntax.specs.Spans.{entry_at, mapped_by}
 use Rattle.std.specs.Prelude.{◌+◌, ◌-◌, List, [], ◌∷◌, ◌++◌, map}
 use Rattle.rl_syntax.specs.declared.span.Span.{Span}
@@ -34,8 +35,8 @@ span_in (TokenTree-F.Literal l) = l.span
 abbrev pub token_tree_span : {A : Type 0} → TokenTree A → Span
 token_tree_span {A} t = span_in (out-TokenTree A t)
 
--- A token tree as plain data: an identifier, a punctuation character, a literal token, or a group with the token trees
--- inside it.
+-- The data type that represents token trees in definitions. A token tree is an identifier, a punctuation character, a
+-- literal token, or a group with the token trees inside it.
 mutual
   pub data Tree : Type 0 where
     GroupTree : (delimiter : Delimiter) (inside : Trees) (span : Span) → Tree
@@ -47,18 +48,19 @@ mutual
     NoTrees : Trees
     MoreTrees : (first : Tree) (rest : Trees) → Trees
 
--- Converts a list of token trees to the data type of the token trees inside a group.
+-- Converts a list of token trees to `Trees`, the type of the token trees inside a group.
 abbrev pub inside_of : List Tree → Trees
 inside_of [] = NoTrees
 inside_of (t ∷ ts) = MoreTrees t (inside_of ts)
 
--- The parts of a group as plain data: its pair of delimiters, the token trees inside, and its span.
+-- The parts of a group: its pair of delimiters, the token trees inside, and its span.
 pub record GroupParts : Type 0 where
   pub delimiter : Delimiter
   pub inside : List Tree
   pub span : Span
 
--- Three functions that convert a token tree, a group and a stream to plain data. Their parts are converted already.
+-- Three functions that convert a token tree, a group and a stream of the code to the data types of the definitions. The
+-- parts of the argument are converted already.
 abbrev pub tree_step : {A : Type 0} → TokenTree-F A Tree GroupParts (List Tree) → Tree
 tree_step (TokenTree-F.Group g) = GroupTree g.delimiter (inside_of g.inside) g.span
 tree_step (TokenTree-F.Ident i) = IdentTree i
@@ -71,7 +73,7 @@ group_step g = record { delimiter = g.delimiter; inside = g.stream; span = g.spa
 abbrev pub stream_step : {A : Type 0} → TokenStream-F A Tree GroupParts (List Tree) → List Tree
 stream_step s = s.trees.items
 
--- A token tree as plain data, and the token trees of a stream as plain data.
+-- Converts a token tree of the code to a `Tree`, and a stream of the code to a list of `Tree` values.
 abbrev pub tree_view : {A : Type 0} → TokenTree A → Tree
 tree_view {A} = fold-TokenTree A Tree GroupParts (List Tree) tree_step group_step stream_step
 
@@ -115,12 +117,11 @@ abbrev mutual
   all_relocated table (MoreTrees t ts) =
       MoreTrees (relocated table t) (all_relocated table ts)
 
--- The plain data of the token tree that consists of a group.
+-- Converts a group of the code to a `Tree`.
 abbrev pub group_tree : {A : Type 0} → Group A → Tree
 group_tree g = GroupTree (delimiter_of g) (inside_of (stream_view (stream_of g))) (group_span g)
 
--- An element of the flat form of token trees, which is the list of their tokens. A group's opening and closing
--- delimiters are elements of their own.
+-- An element of a flat list of tokens. In a flat list each delimiter of a group is an element of its own.
 pub data FlatToken : Type 0 where
   Opening : (delimiter : Delimiter) (span : Span) → FlatToken
   Closing : (delimiter : Delimiter) (span : Span) → FlatToken

@@ -25,8 +25,8 @@ pub record RejectsLexing {A : Type 0} (text : List ℕ) (file : ℕ) (e : Error 
   pub error : e ≡ lex_rejection kind (place_at file at)
 
 -- The error `e` is the error for token trees after a parsed value. The parser parses a value from the start of `trees`,
--- and leaves token trees over. The error `Unexpected` is reported at the first of them. The relation `runs` specifies
--- the parser.
+-- and leaves token trees over. The error `Unexpected` is reported at the first token tree that is left. The relation
+-- `runs` specifies the parser.
 pub record LeavesTrees {T A : Type 0}
     (runs : List Tree → Span → Result T (Error A) → List Tree → Type 0) (trees : List Tree)
     (scope : Span) (e : Error A) : Type 0 where

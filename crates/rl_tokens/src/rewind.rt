@@ -68,9 +68,9 @@ pub fn attempt<B: Rewind + Drop, T, E, F: FnOnce(&mut B) -> Result<T, E>>(
     parser: F,
 ) -> Result<T, E>
     requires { F.IsAlwaysCallable parser }
-    // On success the value is the parser's, and the buffer is where the parser left it.
+    // On success the result and the position of the buffer are those of the parser.
     ensures parsed { OnOk result (FnOnceReturnsAtMut F.FnOnce parser input.old result input.new) }
-    // The returned error is the parser's own, wherever the parser left the buffer.
+    // The returned error is the parser's error. The position at which the parser left the buffer doesn't matter.
     ensures rejected { OnErr result
         ((following : _) × FnOnceReturnsAtMut F.FnOnce parser input.old result following) }
     // On an error the buffer is at the position that it had before the call.

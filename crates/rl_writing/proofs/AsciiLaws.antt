@@ -57,8 +57,8 @@ goes_on (AsciiEscape high low) us h b = b
 goes_on (ByteEscape high low) us h b = b
 goes_on (UnicodeEscape digits) us h b = b
 
--- The written form of a character is a valid character or escape of Rust's grammar, has its text, and has the character as its
--- value.
+-- The written form of a character is a valid character or escape of Rust's grammar, and has the character as its value.
+-- `written_unit` and `unit_of` agree on the text of the written form.
 abbrev is_unit_of : Kind → ℕ → Bool
 is_unit_of k c =
     (is_strict_unit k (unit_of k c) && not (is_break (unit_of k c)))
@@ -225,7 +225,8 @@ pub form_utf8 : (k : Kind) (v whole : List ℕ) → IsAsciiForm k v (ascii_liter
     → IsUtf8 whole
 form_utf8 k v whole f e = low_utf8 whole (ap (list_all is_low) e ∙ f.ascii)
 
--- The bytes of an ASCII character's written form are its text in an ASCII literal.
+-- For an ASCII character, the bytes of the character's written form are the text `ascii_text` of the character in an ASCII
+-- literal.
 pub low_bytes : (k : Kind) (c : ℕ) (bytes : List ℕ) → decodes_to_chars k ≡ true → IsScalar c → c < 128
     → bytes ≡ encode_utf8_all (unit_text (written_unit k c)) → bytes ≡ ascii_text k c
 low_bytes k c bytes h s small e =

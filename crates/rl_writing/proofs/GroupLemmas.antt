@@ -62,7 +62,7 @@ pub grouped_short : (size n k : ℕ) (room : List ℕ) → n ≤ k → length (g
 grouped_short size n k room h =
     omega (arith, h, grouped_length size (reverse (take n room)), length-reverse (take n room), length-take n room)
 
--- If the code wrote `n` digits, the last digit first, reversing them gives `n` digits.
+-- Reversing the `n` digits that the code wrote gives `n` digits.
 pub count_is : (n : ℕ) (room : List ℕ) → n ≤ length room → length (reverse (take n room)) ≡ n
 count_is n room h = length-reverse (take n room) ∙ length-take-le n room h
 

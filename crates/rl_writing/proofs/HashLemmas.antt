@@ -8,8 +8,8 @@ abbrev pub run : List ℕ → ℕ
 run [] = 0
 run (c ∷ t) = cond (eqb c 35) (suc (run t)) 0
 
--- The number of hashes that a raw string with this text needs. It is one more than the greatest number of hashes after a
--- quote.
+-- The number of hashes that a raw string with the text needs: 0 if the text contains no quote, and otherwise one more than
+-- the greatest number of hashes after a quote.
 abbrev pub needed_in : List ℕ → ℕ
 needed_in [] = 0
 needed_in (c ∷ t) = cond (eqb c 34) (max (suc (run t)) (needed_in t)) (needed_in t)
@@ -71,13 +71,15 @@ needed_closes n (c ∷ t) h =
 
 -- ---- the code counts hashes, one character after another
 
--- The number of hashes that a raw string needs for a quote and hashes at the end of the passed text, and for the hashes that
--- follow. The first argument is this number for the passed text alone, or 0 if the passed text ends otherwise.
+-- The number of hashes that a raw string needs because of a quote at the end of the passed text, the hashes after this
+-- quote, and the hashes at the start of the text `t`. The first argument is the number without the hashes of `t`. The number
+-- is 0 if the passed text doesn't end with a quote and hashes.
 abbrev pub pending : ℕ → List ℕ → ℕ
 pending zero t = 0
 pending (suc k) t = suc k + run t
 
--- The number of hashes that a raw string with the whole text needs. It is computed from the number for the passed text.
+-- The number of hashes that a raw string with the whole text needs. `needed` is the number for the passed text, and `t` the
+-- remaining text. `opened` is the number that the quote and hashes at the end of the passed text require.
 abbrev pub needed_from : ℕ → ℕ → List ℕ → ℕ
 needed_from needed opened t = max needed (max (pending opened t) (needed_in t))
 

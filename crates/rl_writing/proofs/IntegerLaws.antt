@@ -1,4 +1,4 @@
--- The integer literal that is written for a value is a literal of both grammars. It has this value.
+-- The integer literal that is written for a value is a literal of both grammars, and has the value.
 use Rattle.rl_syntax.proofs.Common.{◌≡◌, ℕ, ◌^◌, ◌<◌, ◌≤◌, ◌||◌, ◌&&◌, Bool, true, false, not, eqb, List, [], ◌∷◌, ◌++◌, length, Option, ◌⊎◌, refl, sym, ap, subst, ◌∙◌, inl, inr, arith, append_assoc, nat_lt, digit_value, is_ascii_digit, list_all, list_any, and_parts, or_parts, or_from, or_left, or_right, chars, IsUtf8, if◌then◌else◌}
 use Rattle.std.proofs.lemmas.Bool.{and_right}
 use Rattle.std.specs.Fmt.{decimal}

@@ -82,7 +82,7 @@ room base upper low (suc k) (suc j) n acc h l =
           ∙ sym (goes_on (suc j) base upper n acc e)
     ]
 
--- The digits of the number `n`, and the digits `acc` after them.
+-- The digits of the number `n`, followed by the digits `acc`.
 pub digits_before : ℕ → Bool → ℕ → List ℕ → List ℕ
 digits_before base upper n acc = digits_onto (suc n) base upper n acc
 
@@ -107,7 +107,7 @@ last_digit base upper (suc m) acc low some =
 
 -- ---- the number that the digits represent
 
--- The number that the digits of `n` and the digits `acc` after them represent together.
+-- The number that the digits of `n`, followed by the digits `acc`, represent.
 abbrev spelled : ℕ → ℕ → List ℕ → ℕ
 spelled base n acc = n * base ^ length acc + place_value base acc
 
@@ -237,8 +237,8 @@ numeral_no_zero base n upper low high some = first_no_zero base upper low high n
 
 -- ---- the number of digits of a number
 
--- Each division of a number by a base of at least 2 takes at least one bit from it. If this holds after some divisions, it
--- holds after one more.
+-- Dividing a number by a base of at least 2 removes at least one bit. If `count` divisions have removed at least `count`
+-- bits, one more division removes at least one more.
 pub fits_more : (n rest base count more bits : ℕ) → 2 ≤ base → rest ≡ n / base → more ≡ count + 1
     → n * 2 ^ count < 2 ^ bits → rest * 2 ^ more < 2 ^ bits
 fits_more n rest base count more bits low rest_is is h =
@@ -264,8 +264,7 @@ count_left n count bits some h (inl more) =
 reversed : (xs ys : List ℕ) (d : ℕ) → ys ≡ xs ++ (d ∷ []) → reverse ys ≡ d ∷ reverse xs
 reversed xs ys d e = ap reverse e ∙ reverse-append xs (d ∷ [])
 
--- The code writes the last digit of a number first. If the written digits are reversed, the digit that is written now comes
--- first.
+-- The code writes the last digit of a number first. The digit that the code writes now is the first of the reversed digits.
 now_first : (base : ℕ) (upper : Bool) (left last d : ℕ) (xs ys : List ℕ) → last ≡ left % base → ys ≡ xs ++ (d ∷ [])
     → d ≡ digit_glyph upper last → reverse ys ≡ digit_glyph upper (left % base) ∷ reverse xs
 now_first base upper left last d xs ys last_is bytes is =

@@ -114,7 +114,8 @@ pub record Needs (k : Kind) (n : ℕ) (inside : List ℕ) : Type 0 where
   pub stand : list_all (raw_may_contain k) inside ≡ true
   pub enough : needed_in inside ≤ n
 
--- Whether the text begins with a quote. A string with escapes does after its prefix, and a raw string doesn't.
+-- Whether the text begins with a quote. After an optional `b` or `c`, a string with escapes begins with a quote, and a raw
+-- string with `r`.
 abbrev first_quote : List ℕ → Bool
 first_quote t = first_passes (λ c. eqb c 34) t
 
@@ -141,8 +142,9 @@ all_raw : (cs : List ℕ) → list_all (is_raw Str) cs ≡ true
 all_raw [] = refl
 all_raw (c ∷ cs) = all_raw cs
 
--- A text with `n` hashes around quotes is a raw string of `syn`'s grammar with the text between the quotes. The lemma
--- `same_parts` uses this: equal raw strings have equally many hashes and equal texts between the quotes.
+-- The text `r`, `n` hashes, a quote, `inside`, a quote, `n` hashes and `x` is a raw string with the value `inside` by
+-- `syn`'s grammar. The lemma `same_parts` concludes that equal raw strings have equally many hashes, and equal texts between
+-- the quotes.
 raw_at : (n : ℕ) (inside x : List ℕ) → list_all (λ c. not (eqb c 34)) x ≡ true
     → Raw Str (114 ∷ after_opener n inside x) inside x
 raw_at n inside x h = record { hashes = n; inside = inside; string = refl; each = all_raw inside; no_quote = h; text_is = refl; value_is = refl }
@@ -239,7 +241,7 @@ one_inside CStr inside other s h l e =
     ∙ chars-encodes other l
 one_inside kind inside other s h l e = absurd (cc)
 
--- If no raw string can contain a text, no raw string can contain another text with equal bytes.
+-- If no raw string can contain a text, no raw string can contain a text with equal UTF-8 bytes.
 pub no_other : (k : Kind) (text value inside : List ℕ) → text ≡ value → IsUtf8 value → HasNoRaw k (chars text)
     → encode_utf8_all inside ≡ value → HasNoRaw k inside
 no_other k text value inside same u none e =

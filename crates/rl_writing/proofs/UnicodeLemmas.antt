@@ -48,8 +48,8 @@ escape_short c h = elim (scalar_cases c h) [
   | inr a ↦ omega (arith, escape_length c, numeral_short 5 c (omega (arith, a.1)))
 ]
 
--- The number of bytes of a character from U+0800 on. It is 3 if `less` is true, which means that the character is below
--- U+10000, and 4 otherwise.
+-- The number of UTF-8 bytes of a character from U+0800 on: 3 if `less` is true, and 4 otherwise. `less` tells whether the
+-- character is below U+10000.
 abbrev by_four : Bool → ℕ
 by_four less = cond less 3 4
 
@@ -141,7 +141,7 @@ escape_low c = low_join (numeral 16 false c) (125 ∷ [])
 
 -- ---- the bytes that the code writes for an escape
 
--- If the group size is 0, the digits of a character's number are written without underscores.
+-- If the group size is 0, the digits of a character's code point are written without underscores.
 digits_put : (c n : ℕ) (ds : List ℕ) → ds ≡ numeral 16 false n → n ≡ c → grouped 0 ds ≡ numeral 16 false c
 digits_put c n ds e same = ungrouped ds ∙ e ∙ ap (numeral 16 false) same
 

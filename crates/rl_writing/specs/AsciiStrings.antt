@@ -9,7 +9,7 @@ use Rattle.rl_syntax.specs.Strict.{Strict}
 use Rattle.rl_syntax.specs.Written.{closer, written_unit}
 use Rattle.rl_writing.specs.Integers.{numeral}
 
--- The escape `\u{..}` of a character, with its number in base 16, in lower case.
+-- The escape `\u{..}` of a character, with its code point in base 16, in lower case.
 abbrev pub unicode_escape : ℕ → List ℕ
 unicode_escape c = code "\\" ∷ code "u" ∷ code "{" ∷ (numeral 16 false c ++ (code "}" ∷ []))
 

@@ -8,7 +8,7 @@ use Rattle.rl_syntax.specs.declared.integer_type.IntegerType.{IntegerType}
 use Rattle.rl_writing.specs.declared.base.Base.{Base}
 use Rattle.rl_writing.specs.declared.base.Base.TheVariants.{Binary, Octal, Decimal, Hexadecimal}
 
--- Converts the code's base to the base in the definitions of the grammars.
+-- Converts a base of the code (`base.rt`) to the base in the definitions of the grammars.
 abbrev pub base_view : Base → numbers.Base
 base_view Binary = numbers.Binary
 base_view Octal = numbers.Octal
@@ -25,7 +25,8 @@ suffix_text None = []
 unfoldable pub numeral : ℕ → Bool → ℕ → List ℕ
 numeral base upper n = digits_onto (suc n) base upper n []
 
--- Whether an underscore follows a digit that has `left` digits after it, in groups of `size` digits.
+-- Whether an underscore follows a digit of a number that is written in groups of `size` digits. `left` digits come after
+-- this digit.
 abbrev pub is_digit_group_end : ℕ → ℕ → Bool
 is_digit_group_end size left = nat_lt 0 size && nat_lt 0 left && left % size == 0
 

@@ -12,8 +12,8 @@ use rl_syntax::slice_writer::{put, put_byte, put_text};
 use rl_syntax::text::split_char;
 use rl_syntax::written_unit::escape;
 
-/// Writes the escape `\u{..}` of the character `c` after the first `at` bytes of the slice `out`, and returns the
-/// offset after the escape. The character's number is in base 16, in lower case.
+/// Writes the escape `\u{..}` of the character `c` after the first `at` bytes of the slice `out`, and returns the offset
+/// after the escape. The character's code point is in base 16, in lower case.
 pub fn put_unicode_escape(out: &mut [u8], at: usize, c: char) -> usize
     requires { at + length (unicode_escape c) ≤ length out.old }
     ensures end { result ≡ at + length (unicode_escape c) }
@@ -47,8 +47,8 @@ fn put_ascii(out: &mut [u8], at: usize, kind: Kind, c: char) -> usize
 
 /// Writes an ASCII string literal whose value is `value` to the start of `out`, and returns its length in bytes.
 ///
-/// The literal is that of `write_str_into` of `rl_syntax`, except that each non-ASCII character is written as `\u{..}`.
-/// It is at most four bytes long for each byte of `value`, plus two. `out` must have room for this length.
+/// The literal is the one that `write_str_into` of `rl_syntax` writes, except that each non-ASCII character is written as
+/// `\u{..}`. The literal is at most four bytes long for each byte of `value`, plus two. `out` must have room for this length.
 pub fn write_str_ascii_into(value: &str, out: &mut [u8]) -> usize
     requires { 4 * length value.now + 2 ≤ length out.old }
     ensures written { IsAsciiForm Str (chars value.now) (chars (take result out.new)) }

@@ -70,9 +70,9 @@ pub fn digit_group_size(group: usize, least: usize, count: usize) -> usize
     if count < least { 0 } else { group }
 }
 
-/// Returns `true` if a group of `group` digits ends after `digits` digits, so that an underscore separates it from the next
-/// digit. The digits are counted from the end of the number at which the first group begins. If `digits` or `group` is 0, the
-/// result is `false`.
+/// Returns `true` if an underscore separates `digits` digits from the next digit of a number that is written in groups of
+/// `group` digits. The digits are counted from the end of the number at which the groups begin, for an integer from the last
+/// digit. If `digits` or `group` is 0, the result is `false`.
 pub fn is_digit_group_end(group: usize, digits: usize) -> bool
     ensures { result ≡ is_digit_group_end group digits }
 {

@@ -1,4 +1,5 @@
--- The texts of literals that were parsed before are parsed as the same literals, with any separators between them.
+-- If the texts of parsed literals are joined with separators between them, the joined text is parsed as the same
+-- literals.
 use Rattle.rl_lenient.proofs.Names.{HasReading, SpannedText, byte_len}
 use Rattle.rl_syntax.proofs.Common.{AllByRecursion, List, Result, [], ap, chars, drop, encode_utf8_all, refl, subst, sym, ℕ, ◌++◌, ◌+◌, ◌∙◌, ◌∷◌, ◌≡◌, ◌≢◌}
 use Rattle.std.specs.Prelude.{Vec}
@@ -167,8 +168,8 @@ items_moved file at (s ∷ ss) (c, cuts) =
     let (lits, are, moved) = items_moved file (at + byte_len s.gap + byte_len (item_text c.item)) ss cuts in
     (lit ∷ lits, (read, are), ((token.span, there), moved))
 
--- The result of `read_all` for the texts of literals that were parsed before is the same literals, except for their
--- spans, or an allocation failure.
+-- For the texts of literals that were parsed before, `read_all` returns the same literals, except for their spans, or
+-- an allocation failure.
 pub again_read : {A B : Type 0} (text : List ℕ) (file : ℕ) (r : Result (Vec (Lit A) B) (Error A))
     → ((list : List (Lit A)) → AreRead (chars text) file list → HoldsOrMemory (λ found. found ≡ list) r)
     → (spaced : List (Spaced A)) (last : List ℕ) → IsReprint (chars text) spaced last

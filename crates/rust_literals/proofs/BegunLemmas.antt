@@ -12,8 +12,8 @@ use Rattle.rust_literals.specs.declared.lit.Lit.{Lit}
 use Rattle.rust_literals.specs.Parsing.{ReadsLiterals}
 use Rattle.rust_literals.specs.Flat.{IsNoGroup, AreBegun}
 
--- If the flat form of the token trees `trees` begins with the flat form of `front`, and `front` contains no group, the
--- list `trees` begins with the list `front`.
+-- If the tokens of the token trees `trees` begin with the tokens of the token trees `front`, and `front` contains no
+-- group, the list `trees` begins with the list `front`.
 front_trees : (front trees : List Tree) (more : List FlatToken) → AllByRecursion IsNoGroup front → flat_trees trees
     ≡ flat_trees front ++ more → (following : List Tree) × (trees ≡ front ++ following)
 front_trees [] trees more h e = (trees, refl)
@@ -48,7 +48,7 @@ goes_on text file list trees begun lexes =
     (following, subst (λ (ts : List Tree). ReadsLiterals ts list following) (sym is) (read.leads following))
 
 -- The remaining token trees of a text begin with the literals of a list from the index `i` on. If a parser consumes one
--- literal, the token trees after it begin with the literals from the index `i + 1` on.
+-- literal, the token trees after this literal begin with the literals from the index `i + 1` on.
 pub pass_one : {A : Type 0} {F : Type 0} (token_in : F → SpannedText) (old new : List Tree) (literals : List (Lit A))
     (i : ℕ) (rest : List Tree) (front : Option F) → i < length literals
     → IfSome front (λ f. IsFront old (token_in f) new) → IfNone front (HasNoFront old)

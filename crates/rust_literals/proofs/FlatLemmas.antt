@@ -161,7 +161,6 @@ none_word old between m t is differs =
     let h : HasNoTruth (chars m.text.now) = λ contents suffix r. differs r.truth r.text_is in
     inr (m, between, t, subst (λ (f : LexemeForm). BeginsNone f m.text.now between) (sym is) h)
 
--- If a property holds whenever an option is `None`, and the option is `None`, the property holds.
 pub no_some : {T P : Type 0} (o : Option T) → o ≡ None → IfNone o P → P
 no_some None e h = h
 no_some (Some x) e h = absurd (cc)

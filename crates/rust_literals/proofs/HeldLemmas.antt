@@ -18,8 +18,8 @@ use Rattle.rl_fronts.proofs.NumberFoundLemmas.{number_integer, number_float, num
 use Rattle.rust_literals.specs.Held.{HasDigits, HasOwnSuffix, HoldsNumber}
 use Rattle.rust_literals.specs.Rejections.{IsNoNumber, IsRejectedAs}
 
--- The parse result of a number, by its kind: an integer is parsed among literals of all kinds, and a float by the rule
--- for floats only.
+-- The record `found` is the parse result of the number `text`. An integer is parsed by the parser of all literals, and
+-- a float by the rule for floats only.
 abbrev IsOfKind : Kind → List ℕ → Found → Type 0
 IsOfKind Int text found = IsFound text found
 IsOfKind Float text found = IsFoundFloat text found
@@ -113,7 +113,7 @@ found_number kind text found utf8 h e = go kind e (of_kind kind text found utf8 
     go Float e h = (chars (body_in text found.body), chars (suffix_in text found.body), h.reads)
     go kind e h = absurd h
 
--- If a text is a number, an allocation failure at a span is one of the errors that are allowed for the text.
+-- If a text is a number, an allocation failure at the span `span` is an error that the contract allows for the text.
 pub wants_memory : {A : Type 0} (kind : Kind) (text : List ℕ) (e : Error A) (span : Span) → e ≡ memory_at span
     → IsNumber kind text → (e.span ≡ span) × IsRejectedAs kind text e.kind
 wants_memory {A} kind text e span is number =
@@ -152,7 +152,7 @@ no_number_plain Float text (Number w) none p = absurd none
 no_number_plain Float text Memory none p = absurd none
 no_number_plain kind text reason none p = absurd none
 
--- The reason why a text isn't a number is one of the errors that are allowed for the text.
+-- The reason why a text isn't a number is an error that the contract allows for the text.
 pub no_number_rejected : {A : Type 0} (kind : Kind) (text : List ℕ) (reason : ErrorKind A) → IsNoNumber kind text reason
     → IsRejectedAs kind text reason
 no_number_rejected kind text (Expected w) none = none
@@ -168,8 +168,8 @@ no_number_rejected kind text (Number w) none = none
 no_number_rejected Int text Memory none = absurd none
 no_number_rejected kind text Memory none = absurd none
 
--- If the result for a number is an allocation failure at a span, it is one of the errors that are allowed for the
--- number's text.
+-- If a text is a number and the result is an allocation failure at the span `span`, the contract allows this error for
+-- the text.
 pub memory_rejected : {T A : Type 0} (kind : Kind) (text : List ℕ) (span : Span) (r : Result T (Kept SpannedText A))
     → IfErr r (λ k. k.error ≡ memory_at span) → IsNumber kind text
     → IfErr r (λ k. (k.error.span ≡ span) × IsRejectedAs kind text k.error.kind)

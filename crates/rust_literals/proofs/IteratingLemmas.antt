@@ -25,8 +25,8 @@ placed text file taken new waiting t f s w h = record {
   goes_on = subst (GoesOnAfter (chars text) file taken new.count (chars new.tokens.rest)) (sym w) h;
 }
 
--- If the iterator keeps a list of literals that it still has to return, its next result is the first of these, or
--- `None`.
+-- If the iterator keeps a list of literals that it still has to return, its next result is the first literal of the
+-- list, or `None` if the list is empty.
 pub waiting_next : {A : Type 0} (text : List ℕ) (file : ℕ) (taken : List (Lit A)) (new : Literals A)
     (was is : IntoIter (Lit A) A) (first : Option (Lit A)) → AreRead (chars text) file (taken ++ into_iter_items was)
     → into_iter_len was ≡ length (into_iter_items was) → into_iter_steps was first is → new.text.now ≡ text → new.file
@@ -50,8 +50,8 @@ waiting_next text file taken new was is None read len (before, after) t f s w no
       ),
     )
 
--- If the iterator lexes the whole text after the literals that it read token by token, its next result is the first
--- literal after these, or `None`.
+-- If the iterator lexes the whole text after it has read literals token by token, its next result is the first literal
+-- after those, or `None`.
 pub waiting_first : {A : Type 0} (text : List ℕ) (file : ℕ) (taken more : List (Lit A)) (old new : Literals A)
     (was is : IntoIter (Lit A) A) (first : Option (Lit A)) → HasReturned text file taken old
     → AreRead (chars old.text.now) old.file (taken ++ more) → into_iter_items was ≡ more → into_iter_len was
@@ -100,8 +100,8 @@ lex_next text file taken old new lit ahead none h next t f s n w =
     placed text file (taken ++ lit ∷ []) new None (ap (λ x. x.now) t ∙ h.text_is) (f ∙ h.file_is)
     (ap (λ (x : CursorState). x.text) s ∙ next.same ∙ h.same) (w ∙ none) (upto, count)
 
--- Each literal that the iterator returns lowers a certain number. If the iterator lexes the whole text and then returns
--- a literal, this number is lower than before.
+-- Suppose that the iterator lexes the whole text and then returns a literal. The number that each returned literal
+-- lowers (`left_of`) is then lower than before.
 pub waiting_lower : {A : Type 0} (old : Literals A) (is : IntoIter (Lit A) A) (first : Option (Lit A)) → old.waiting
     ≡ None → into_iter_len is < 2 ^ 64 → OnSome first (into_iter_len is < left_of old)
 waiting_lower old is None none h = tt

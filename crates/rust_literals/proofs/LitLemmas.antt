@@ -57,7 +57,7 @@ same_lit a b k t = lit_is a ∙ ap (λ o. lit_of o (token_of a)) k ∙ ap (λ x.
 
 -- ---- lemmas about the parse result of a token
 
--- If a text is parsed as two kinds, each of which may be `None`, the two kinds are equal.
+-- The kind as which a text is parsed is unique. A text that isn't parsed as a literal has the kind `None`.
 pub one_kind : (text : List ℕ) (k l : Option Kind) → IsReadAs k text → IsReadAs l text → k ≡ l
 one_kind text None None n m = refl
 one_kind text None (Some l) n (w, y, s) = absurd (n l w y s)
@@ -68,8 +68,8 @@ one_kind text (Some k) (Some l) (v, x, r) (w, y, s) = ap Some (one_reading text 
 pub one_lit : {A : Type 0} (token : SpannedText) (a b : Lit A) → IsReadFrom token a → IsReadFrom token b → a ≡ b
 one_lit token a b (e, h) (f, k) = same_lit a b (one_kind (chars token.text) (kind_of a) (kind_of b) h k) (e ∙ sym f)
 
--- A condition on a text: if its characters are `true` or `false`, its bytes equal these characters. If a text that
--- meets the condition is parsed as a kind, a `Lit` of that kind exists for the text (`read_lit`).
+-- A condition on a text: if its characters are the word `true` or `false`, its bytes are the same word. For each parsed
+-- text that meets the condition, a `Lit` of the parsed kind exists (`read_lit`).
 abbrev pub SpellsWords : List ℕ → Type 0
 SpellsWords text = (b : Truths) → chars text ≡ truth_text b → text ≡ truth_text b
 
@@ -113,7 +113,7 @@ read_truth token b span e s =
 pub reads_as : (t x : List ℕ) (k kind : Kind) → HasSuffix k t x → k ≡ kind → ReadsAs kind t
 reads_as t x k kind r e = (r.0, x, subst (λ z. Reads t z r.0 x) e r.1)
 
--- If a minus and a text have a parse result, the two together are a literal.
+-- If a minus followed by a text has a parse result, the joined text is a literal.
 pub found_behind : (bytes : List ℕ) (found : Found) → IsFound (45 ∷ bytes) found → HasReading (45 ∷ chars bytes)
 found_behind bytes found h =
     subst HasReading (minus_chars bytes) (found.kind, (h.reads.0, chars (suffix_in (45 ∷ bytes) found.body), h.reads.1))

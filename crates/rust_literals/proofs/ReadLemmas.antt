@@ -49,8 +49,8 @@ rejected_next all trees rest scope list e leads some (inl (front, wants)) = inr
 rejected_next all trees rest scope list e leads some (inr none) = inl
     (record { list = list; rest = trees; leads = leads; some = some; none = none.none; rejection = none.rejection })
 
--- The token trees of a text are the literals `gone`, which are dropped, followed by the literals of the result. Then
--- the text consists of these two lists of literals.
+-- If the token trees of a text are the literals `gone`, followed by the literals of the result, the text consists of
+-- these literals.
 pub text_read : {A B : Type 0} (text : List ℕ) (file : ℕ) (trees : List Tree) (gone : List (Lit A))
     (r : Result (Vec (Lit A) B) (Error A)) → Lexes text file trees
     → IfOk r (λ l. ReadsLiterals trees (gone ++ l.items) []) → IfOk r (λ l. AreRead text file (gone ++ l.items))

@@ -8,7 +8,7 @@ use Rattle.rl_tokens.specs.declared.error.Error.{Error}
 use Rattle.rl_syntax.specs.declared.kind.Kind.{Kind}
 use Rattle.rust_literals.specs.Held.{HasDigits}
 
--- `digits`, a list of bytes, is the digits in base ten of the number `text`, which is of the kind `kind`.
+-- The list of bytes `digits` contains the digits in base ten of `text`, a number of the kind `kind`.
 pub record AreBase10Digits (kind : Kind) (text digits : List ℕ) : Type 0 where
   pub digits_are : HasDigits kind (chars text) (chars digits)
   pub is_text : IsUtf8 digits
@@ -21,15 +21,15 @@ pub record IsMadeOf {N E : Type 0} (gives : List ℕ → Result N E → Type 0) 
   pub are : AreOf digits
   pub made : gives digits (Ok number)
 
--- The kind of error is `Number` with the message `words`, or with any message if `words` is `None`. Or it is `Memory`:
--- an allocation failed for the message.
+-- The kind of error is `Number` with the message `words`, or with any message if `words` is `None`. Or the kind is
+-- `Memory`: an allocation failed for the message.
 abbrev pub IsInWords : {A : Type 0} → Option (List ℕ) → ErrorKind A → Type 0
 IsInWords words (Number told) = IfSome words (λ w. string_bytes told ≡ w)
 IsInWords words Memory = ⊤
 IsInWords words _ = ⊥
 
--- The error `e` has the span `span`, and the message `words` of a number type's own error, unless an allocation failed
--- for the message.
+-- The error `e` has the span `span`. Its message is `words`, the message of a number type's own error. Or its kind is
+-- `Memory`: an allocation failed for the message.
 pub record IsReported {A : Type 0} (words : Option (List ℕ)) (span : Span) (e : Error A)
     : Type 0 where
   pub span_is : e.span ≡ span

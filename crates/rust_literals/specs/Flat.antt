@@ -9,13 +9,13 @@ use Rattle.rl_lexer.specs.Cursors.{CursorState}
 use Rattle.rust_literals.specs.declared.lit.Lit.{Lit}
 use Rattle.rust_literals.specs.Parsing.{IsLitFront, ReadsLiterals}
 
--- The token tree isn't a group: it is one token.
+-- The token tree is a single token, and not a group.
 abbrev pub IsNoGroup : Tree → Type 0
 IsNoGroup (GroupTree delimiter inside span) = ⊥
 IsNoGroup _ = ⊤
 
--- The text is lexed into the token trees `trees`, up to the remaining text `rest`. No group is open there, and no token
--- tree is a group.
+-- The text before `rest` is lexed into the token trees `trees`. No group is open before `rest`, and no token tree is a
+-- group.
 pub record LexesTreesUpTo (text : List ℕ) (file : ℕ) (trees : List Tree) (rest : List ℕ)
     : Type 0 where
   pub cuts : List LexedToken
@@ -24,8 +24,7 @@ pub record LexesTreesUpTo (text : List ℕ) (file : ℕ) (trees : List Tree) (re
   pub flat_is : map (flat_token file) cuts ≡ flat_trees trees
   pub no_groups : AllByRecursion IsNoGroup trees
 
--- The tokens between the cursors `old` and `new` are the literal `lit`, and no token that follows them could change
--- that.
+-- The tokens between the cursors `old` and `new` are the literal `lit`, whatever tokens follow.
 pub record ReadsNext {A : Type 0} (file : ℕ) (old : CursorState) (lit : Lit A) (new : CursorState)
     : Type 0 where
   pub trees : List Tree
@@ -41,8 +40,7 @@ pub record AddsNext {A : Type 0} (file : ℕ) (old : CursorState) (list : List (
   pub next : ReadsNext file old lit new
   pub longer_is : longer ≡ list ++ lit ∷ []
 
--- The text up to the remaining text `rest` consists of the literals `list`, and no token that follows could change
--- that.
+-- The text before `rest` consists of the literals `list`, whatever tokens follow.
 pub record AreReadUpTo {A : Type 0} (text : List ℕ) (file : ℕ) (list : List (Lit A)) (rest : List ℕ)
     : Type 0 where
   pub trees : List Tree

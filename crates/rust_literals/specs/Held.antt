@@ -6,8 +6,8 @@ use Rattle.rl_syntax.specs.declared.kind.Kind.TheVariants.{Int, Float}
 use Rattle.rl_syntax.specs.Numbers.{FloatReads, float_digits}
 use Rattle.rl_syntax.specs.Reading.{Digits, ReadsInt, HasSuffix}
 
--- `digits` is the digits in base ten of the text, which is a number of the kind given. A float is parsed by the rule
--- for floats only, even if the text is an integer too.
+-- The list `digits` contains the digits in base ten of the text, which is a number of the given kind. A float is parsed
+-- by the rule for floats only, even if the text is an integer too.
 abbrev pub HasDigits : Kind → List ℕ → List ℕ → Type 0
 HasDigits Int text digits = (x : List ℕ) × ReadsInt text (Digits digits) x
 HasDigits Float text digits =

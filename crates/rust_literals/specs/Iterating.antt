@@ -19,9 +19,9 @@ GoesOnAfter text file taken count rest (Some waiting) =
     AreRead text file (taken ++ into_iter_items waiting)
     × (into_iter_len waiting ≡ length (into_iter_items waiting))
 
--- A number that each returned literal lowers. While the text is read token by token, it is the number of remaining
--- bytes plus 2 to the 64th power. Afterwards it is the number of literals that the iterator still has to return, which
--- is less than 2 to the 64th power.
+-- A number that each returned literal lowers. While the text is read token by token, the number is the count of
+-- remaining bytes plus 2 to the 64th power. Afterwards the number is the count of literals that the iterator still has
+-- to return, which is less than 2 to the 64th power.
 abbrev pub left_with : {A : Type 0} → Option (IntoIter (Lit A) A) → ℕ → ℕ
 left_with None bytes = 2 ^ 64 + bytes
 left_with (Some waiting) bytes = into_iter_len waiting

@@ -258,7 +258,7 @@ impl<A: Allocator> Lit<A> {
     }
 }
 
-/// Returns the literal that the tokens of `front` represent, or `None` if an allocation fails. A `bool` literal needs
+/// Returns the literal that consists of the tokens of `front`, or `None` if an allocation fails. A `bool` literal needs
 /// no allocation.
 fn of_front<A: Allocator + Copy>(alloc: A, front: &Front<'_, A>) -> Option<Lit<A>>
     ensures { IfSome result (IsReadFrom (front_token front.now)) }

@@ -34,8 +34,8 @@ fn read_on<A: Allocator + Copy>(
     input: &mut ParseBuffer<'_, A>,
     mut list: Vec<Lit<A>, A>,
 ) -> Result<Vec<Lit<A>, A>, Error<A>>
-    // The contract also covers literals `gone` that precede `list` and were dropped: the whole sequence `all` of token
-    // trees consists of the literals `gone`, those of `list`, and the remaining token trees.
+    // The contract also covers literals `gone` that were before `list` and were dropped: the sequence `all` of token
+    // trees consists of the literals `gone`, the literals of `list`, and the remaining token trees.
     ensures read { (all : List Tree) (gone : List (Lit A))
         → ReadsLiterals all (gone ++ list.items) (trees_in input.old)
         → IfOk result (λ found. ReadsLiterals all (gone ++ found.items) []) }
@@ -56,8 +56,8 @@ fn read_on<A: Allocator + Copy>(
     Ok(list)
 }
 
-/// Returns `list` with the literals of `text` after its first `count` literals appended. The literals of `list` are the
-/// last of the first `count` literals of `text`. The literals before those of `list` may have been dropped.
+/// Appends to `list` all literals of `text` except the first `count`, and returns `list`. Before the call, `list`
+/// contains the last of the first `count` literals. The literals before these may have been dropped.
 fn read_from<A: Allocator + Copy>(
     alloc: A,
     text: &str,
@@ -131,7 +131,7 @@ pub fn read_all<A: Allocator + Copy>(
 ) -> Result<Vec<Lit<A>, A>, Error<A>>
     // The whole text is lexed into the token trees of the returned literals.
     ensures read { IfOk result (λ list. AreRead (chars text.now) file list.items) }
-    // The returned error is the text's first error, or that of the first token tree that isn't a literal, or an
+    // The returned error is the text's first error, the error for the first token tree that isn't a literal, or an
     // allocation failure.
     ensures rejected { IfErr result (RejectsText (chars text.now) file (length text.now)) }
     // If the text consists of literals, the result is a list of these, or an allocation failed.
@@ -141,8 +141,8 @@ pub fn read_all<A: Allocator + Copy>(
     // the list's items, each with its byte range, or an allocation failed.
     ensures printed { (entries : List Entry) (last : List ℕ) → Printed (chars text.now) entries last
         → HoldsOrMemory (AreItems file 0 entries) result }
-    // If the text is the texts of literals that were read before, with any white space or comments between them, the
-    // result is the same literals, or an allocation failed. The literals needn't be valid by Rust's grammar.
+    // If the text consists of the texts of literals that were read before, with white space or comments between them,
+    // the result is the same literals, or an allocation failed. The literals needn't be valid by Rust's grammar.
     ensures again { (spaced : List (Spaced A)) (last : List ℕ)
         → IsReprint (chars text.now) spaced last
         → HoldsOrMemory (SameButSpans (lits_of spaced)) result }

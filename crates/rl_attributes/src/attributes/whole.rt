@@ -1,5 +1,5 @@
-//! The function that reads the list of attributes of a text. It lexes the text token by token, and doesn't build token
-//! trees unless there is an error.
+//! The function that reads the list of attributes of a text. The function lexes the text token by token, and doesn't
+//! build token trees unless there is an error.
 
 ghost use Rattle.std.specs.Prelude.{◌≡◌, All, List, length, IfSome, IfOk, IfErr, IsTrue, IsFalse};
 ghost use Rattle.std.specs.Str.{chars};
@@ -141,7 +141,7 @@ pub fn read<A: Allocator + Copy>(alloc: A, text: &str, file: u32) -> Result<Attr
     ensures end { IfOk result (λ attrs. attrs_end attrs ≡ place_at file (length text.now)) }
     // Each attribute's value is parsed from the text of its literal.
     ensures values { IfOk result (λ attrs. All IsReadEntry (entries_of attrs)) }
-    // The returned error is the text's first lexing error, or that of the first missing part or repeated name, or an
+    // The returned error is the text's first lexing error, the error for the first missing part or repeated name, or an
     // allocation failure.
     ensures rejected { IfErr result (RejectsAttributeText (chars text.now) file (length text.now)) }
     // If the text is a list of attributes, the result is that list, or an allocation failed.

@@ -9,8 +9,9 @@ use Rattle.rl_syntax.specs.Classes.{after_run}
 abbrev pub without_zeros : List ℕ → List ℕ
 without_zeros ds = after_run (λ d. d == code "0") ds
 
--- The number with the first list of digits is at least the number with the second list. The first digits of both lists have
--- one power of ten.
+-- The digits of one number are compared with the digits of another one, from the first digit on. The first digits belong to
+-- equal powers of ten: the digits `5` are greater than `12`, as 50 is greater than 12. The result is true if the first number
+-- is at least the second one.
 abbrev pub not_below : List ℕ → List ℕ → Bool
 not_below digits [] = true
 not_below [] (b ∷ bs) = cond (code "0" == b) (not_below [] bs) (nat_lt b (code "0"))

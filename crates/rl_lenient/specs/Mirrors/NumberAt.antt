@@ -24,8 +24,9 @@ abbrev pub append_digit : ℕ → Option ℕ → ℕ → Option ℕ
 append_digit radix None d = None
 append_digit radix (Some v) d = capped (v * radix + d)
 
--- The parse result of the digits and underscores at the start of a text: whether there is a digit, their number within 128 bits,
--- and the text after them. The arguments `some` and `m` are the first two results for the digits before the text.
+-- The parse result of the digits and underscores at the start of a text: whether there is a digit, their number within 128
+-- bits, and the text after them. Other digits may precede the text: `some` is true if there are any, and `m` is their
+-- number.
 unfoldable pub run_from : ℕ → Bool → Option ℕ → List ℕ → Bool × Option ℕ × List ℕ
 run_from radix some m [] = (some, m, [])
 run_from radix some m (c ∷ cs) =

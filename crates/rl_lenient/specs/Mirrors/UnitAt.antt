@@ -78,16 +78,17 @@ hex_at kind t = do
   low ← digit_at high.1
   number_if (may_be_hex kind (high.0 * 16 + low.0)) (high.0 * 16 + low.0) low.1
 
--- The parsed digits of an escape `\u{..}`: the number that they represent, how many they are, the text from the last
--- one on, and the text after them.
+-- The parsed digits of an escape `\u{..}`: the number that they represent, their count, the text from the last digit on, and
+-- the text after all digits and underscores.
 abbrev pub CodeDigits : Type 0
 CodeDigits = ℕ × ℕ × List ℕ × List ℕ
 
 abbrev pub code_digits : ℕ → ℕ → List ℕ → List ℕ → CodeDigits
 code_digits v n last rest = (v, n, last, rest)
 
--- The digits of an escape `\u{..}`, up to the sixth, with underscores. The first three arguments are the number, the count and
--- the text from the last digit on, of the digits that were parsed before.
+-- The digits of an escape `\u{..}` that begin a text, with underscores, up to the sixth digit of the escape. Earlier digits
+-- of the escape may precede the text: the first three arguments are their number, their count, and the text from the last of
+-- them on.
 unfoldable pub code_digits_at : ℕ → ℕ → List ℕ → List ℕ → CodeDigits
 code_digits_at v n last [] = code_digits v n last []
 code_digits_at v n last (c ∷ cs) =
@@ -105,8 +106,8 @@ abbrev pub close_at : List ℕ → Option (List ℕ)
 close_at [] = None
 close_at (c ∷ cs) = if c == code "}" then Some cs else None
 
--- The number of the character of an escape `\u{..}`, and the text after its closing brace. `None` if no brace follows
--- the digits, or no character has the number.
+-- The code point that the parsed digits of an escape `\u{..}` represent, and the text after the closing brace. `None` if no
+-- brace follows the digits, or if the digits don't represent a character.
 abbrev pub closed_at : CodeDigits → Option (ℕ × List ℕ)
 closed_at (v, n, last, rest) = close_at rest >>= λ after. number_if (scalar v) v after
 
@@ -115,8 +116,8 @@ abbrev pub brace_at : List ℕ → Option (List ℕ)
 brace_at [] = None
 brace_at (c ∷ cs) = if c == code "{" then Some cs else None
 
--- The number of the character of an escape `\u{..}`, and the text after the escape. The given text follows the `\u`.
--- `None` if a literal of the kind doesn't allow the escape.
+-- The code point that an escape `\u{..}` represents, and the text after the escape. The given text follows the `\u`. `None`
+-- if a literal of the kind doesn't allow the escape.
 unfoldable pub unicode_at : Kind → List ℕ → Option (ℕ × List ℕ)
 unicode_at kind t = do
   inside ← brace_at t

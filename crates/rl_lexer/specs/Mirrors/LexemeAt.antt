@@ -164,8 +164,8 @@ is_prefix_letter c = c == code "b" || c == code "c" || c == code "r"
 abbrev pub begins_word : ℕ → Bool
 begins_word c = not (is_prefix_letter c) && is_start c
 
--- Whether a character after `b`, `c` or `r` shows that the letter isn't a literal's prefix: it is at least `@`, and isn't `r`.
--- Quotes and hashes are below `@`.
+-- Whether a character after `b`, `c` or `r` shows that the letter isn't a literal's prefix: its code is at least 64
+-- (`@`), and it isn't `r`. The codes of quotes and hashes are below 64.
 abbrev pub continues_word : ℕ → Bool
 continues_word c = nat_le 64 c && not (c == code "r")
 

@@ -7,8 +7,9 @@ use Rattle.rl_lexer.specs.Skipping.{Skipped}
 use Rattle.rl_lexer.specs.Sources.{CutSource, IsCutUpTo, IsOtherToken}
 use Rattle.rl_syntax.specs.Mirrors.RunsAt.{is_ascii_id_continue}
 
--- Between the start of `left` and `rest` there are only tokens that aren't literals. In every source that ends with
--- `left`, these tokens are lexed next, however the source before them was lexed.
+-- Only tokens that aren't literals are between the start of `left` and the start of `rest`, which is the end of `left`.
+-- If a source is lexed into some tokens up to `left`, the source is lexed up to `rest` into these tokens and those
+-- between `left` and `rest`.
 pub record HasOnlyOtherTokens (left rest : List ℕ) : Type 0 where
   pub cuts : List ℕ → List CutSource
   pub others : (whole : List ℕ) → AllByRecursion IsOtherToken (cuts whole)
@@ -16,12 +17,13 @@ pub record HasOnlyOtherTokens (left rest : List ℕ) : Type 0 where
   pub goes_on : (whole : List ℕ) (done : List CutSource) → byte_len left ≤ byte_len whole
       → IsCutUpTo whole done left → IsCutUpTo whole (done ++ cuts whole) rest
 
--- The text after the rest of an identifier, if the byte `before` the text is an identifier character. Otherwise the
--- text itself.
+-- If the byte `before`, which precedes the text `t`, is an ASCII identifier character, the result is `t` without the
+-- identifier characters at its start. Otherwise the result is `t` itself.
 abbrev pub past_word : ℕ → List ℕ → List ℕ
 past_word before t = cond (is_ascii_id_continue before) (after_run is_continue t) t
 
--- Between the start of `t` and `rest` there are only white space, comments, and tokens that aren't literals.
+-- Only white space, comments, and tokens that aren't literals are between the start of `t` and the start of `rest`,
+-- which is the end of `t`.
 pub record Reaches (t rest : List ℕ) : Type 0 where
   pub start : List ℕ
   pub skipped : Skipped t start

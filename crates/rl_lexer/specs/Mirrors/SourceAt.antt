@@ -16,32 +16,35 @@ use Rattle.rl_syntax.specs.Classes.{after_run}
 use Rattle.rl_lexer.specs.Mirrors.SkippedAt.{after_block}
 use Rattle.rl_lexer.specs.Sources.{is_in_line, is_apostrophe, SourceKind, PlainKind, RawIdentifierKind, LifetimeKind, DocCommentKind, StrayKind}
 
--- The text after a doc comment, where its first slash precedes the given text.
+-- The text after a doc comment, where the given text follows the first slash. The result is `None` if the slash doesn't
+-- begin a doc comment, and if a block comment isn't closed.
 abbrev pub after_doc : List ℕ → Option (List ℕ)
 after_doc [] = None
 after_doc (c ∷ t) =
     cond (c == code "/") (cond (is_comment_line t) None (Some (after_run is_in_line t)))
     (cond (c == code "*") (cond (is_comment_block t) None (after_block 0 t)) None)
 
--- The text after the identifier at its start, or `None` if it begins with no identifier.
+-- The text after the identifier at the start of a text, or `None` if the text doesn't begin with an identifier.
 abbrev pub after_name : List ℕ → Option (List ℕ)
 after_name [] = None
 after_name (c ∷ t) = cond (is_start c) (Some (after_run is_continue t)) None
 
--- The text after `#` and an identifier at its start, or `None` if it doesn't begin with them.
+-- The text after `#` and an identifier at the start of a text, or `None` if the text doesn't begin with `#` and an
+-- identifier.
 abbrev pub after_marked : List ℕ → Option (List ℕ)
 after_marked [] = None
 after_marked (c ∷ t) = cond (c == code "#") (after_name t) None
 
--- The text after the identifier at its start, which may be raw, or `None` if it begins with no identifier.
+-- The text after the identifier or raw identifier at the start of a text, or `None` if the text begins with neither.
 abbrev pub after_any_name : List ℕ → Option (List ℕ)
 after_any_name t = cond (begins_raw_identifier t) (after_name (drop 2 t)) (after_name t)
 
--- The text itself, or `None` if it begins with an apostrophe.
+-- The text `r` itself, or `None` if `r` begins with an apostrophe.
 abbrev pub unless_quoted : List ℕ → Option (List ℕ)
 unless_quoted r = cond (first_passes is_apostrophe r) None (Some r)
 
--- The text after a lifetime, where its apostrophe precedes the given text.
+-- The text after a lifetime, where the given text follows the lifetime's apostrophe. The result is `None` if the
+-- apostrophe doesn't begin a lifetime.
 abbrev pub after_lifetime : List ℕ → Option (List ℕ)
 after_lifetime t = option_and_then unless_quoted (after_any_name t)
 
@@ -66,13 +69,14 @@ opens r = begins (codes "/*") r || (begins_quote r || begins_char (code "'") r)
 abbrev pub stops_quote : ℕ → List ℕ → Bool
 stops_quote c t = c == code "/" || (c == code "\n" && not (begins_char (code "'") t))
 
--- The text after its first character, or `None` if it is empty.
+-- The text after the first character of a text, or `None` if the text is empty.
 abbrev pub after_any : List ℕ → Option (List ℕ)
 after_any [] = None
 after_any (c ∷ t) = Some t
 
--- The text after one part of an invalid quoted literal: after a backslash and the next character, or after another
--- character. `None` if the literal has no end there.
+-- The text after one part of an invalid quoted literal, where `c` is the first character of the part and the text `t`
+-- follows `c`. A part is a backslash and the next character, or one other character. The result is `None` if the
+-- literal has no end.
 abbrev pub after_part : ℕ → List ℕ → Option (List ℕ)
 after_part c t = cond (c == code "\\") (after_any t) (cond (stops_quote c t) None (Some t))
 
@@ -85,14 +89,14 @@ after_next_quote (c ∷ e ∷ t) =
     (cond (c == code "\\") (after_next_quote t)
     (cond (stops_quote c (e ∷ t)) None (after_next_quote (e ∷ t))))
 
--- The text after the next apostrophe and a suffix, which end an invalid quoted literal. Its opening apostrophe precedes
--- the given text.
+-- The text after the closing apostrophe and the suffix of an invalid quoted literal, where the given text follows the
+-- opening apostrophe.
 abbrev pub after_other : List ℕ → Option (List ℕ)
 after_other t =
     cond (begins_char (code "\\") t) None (option_map after_suffix (after_next_quote t))
 
--- The text after the apostrophe at its start, or `None` if it doesn't begin with one. `past_closing` gives the text
--- itself in place of `None`.
+-- The text after the apostrophe at the start of a text, or `None` if the text doesn't begin with an apostrophe.
+-- `past_closing` returns the text itself in place of `None`.
 abbrev pub after_closing : List ℕ → Option (List ℕ)
 after_closing [] = None
 after_closing (c ∷ t) = cond (c == code "'") (Some t) None
@@ -101,7 +105,7 @@ abbrev pub past_closing : List ℕ → List ℕ
 past_closing [] = []
 past_closing (c ∷ t) = cond (c == code "'") t (c ∷ t)
 
--- The text after an invalid quoted literal without a prefix, where its apostrophe precedes the given text.
+-- The text after an invalid quoted literal without a prefix, where the given text follows the opening apostrophe.
 abbrev pub after_bare : List ℕ → Option (List ℕ)
 after_bare [] = None
 after_bare (c ∷ t) =

@@ -15,7 +15,8 @@ use rl_syntax::characters::is_id_start;
 use rl_syntax::classes::{CharClass, skip_class};
 use rl_syntax::text::{split_ascii, split_char, without_first_char};
 
-/// Returns the text after a decimal number, where `text` begins after some of the digits before its dot.
+/// Returns the text after a decimal number, where `text` begins after one or more of the digits before the number's
+/// dot.
 #[inline(never)]
 pub(crate) fn after_decimal(text: &str) -> &str
     ensures rest { chars result.now ≡ after_decimal (chars text.now) }
@@ -24,8 +25,8 @@ pub(crate) fn after_decimal(text: &str) -> &str
     after_suffix(after_exponent(after_fraction(skip_class(CharClass::Numeral, text))))
 }
 
-/// Returns the text after the decimal digits at its start. If it begins with another character, the result is the text
-/// itself.
+/// Returns `text` without the decimal digits at its start. If `text` begins with another character, the result is
+/// `text` itself.
 #[inline(always)]
 pub(crate) fn after_digits(text: &str) -> &str
     ensures rest { chars result.now ≡ after_run is_ascii_digit (chars text.now) }
@@ -38,7 +39,7 @@ pub(crate) fn after_digits(text: &str) -> &str
     rest
 }
 
-/// Returns the text after its first character, or `None` if that isn't a decimal digit.
+/// Returns `text` without its first character, or `None` if this character isn't a decimal digit.
 #[inline(always)]
 #[tactic(auto, using(rl_syntax::proofs::TailLemmas::tail_step, crate::proofs::NumberEnds::no_digit))]
 fn without_digit(text: &str) -> Option<&str>
@@ -109,7 +110,7 @@ fn after_exponent(text: &str) -> &str
     text
 }
 
-/// Returns the text after a leading `+` or `-`, or else the text itself.
+/// Returns `text` without the `+` or `-` at its start, or `text` itself if it begins with neither.
 fn after_sign(text: &str) -> &str
     ensures rest { chars result.now ≡ after_sign (chars text.now) }
     ensures following { IsTail text.now result.now }

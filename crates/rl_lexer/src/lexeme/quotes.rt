@@ -52,8 +52,8 @@ pub(crate) fn begins_hashed_quote(text: &str) -> bool
     begins_with_char(skip_hashes(text), '"')
 }
 
-/// Returns the text after the `"` that closes a string literal, where `text` follows its opening `"`. A character after
-/// a backslash doesn't close it. Returns `None` if the literal isn't closed.
+/// Returns the text after the `"` that closes a string literal, where `text` follows the opening `"`. A `"` after a
+/// backslash doesn't close the literal. Returns `None` if the literal isn't closed.
 #[inline(never)]
 fn after_quote(text: &str) -> Option<&str>
     ensures rest { option_map (λ rest. chars rest.now) result ≡ after_quote (chars text.now) }

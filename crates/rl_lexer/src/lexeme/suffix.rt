@@ -9,7 +9,8 @@ use rl_syntax::characters::is_id_start;
 use rl_syntax::classes::{CharClass, skip_class};
 use rl_syntax::text::{split_ascii, split_char};
 
-/// Returns the text after the suffix of a literal. If no suffix begins the text, the result is the text itself.
+/// Returns `text` without the suffix of a literal at its start. If `text` doesn't begin with a suffix, the result is
+/// `text` itself.
 #[inline(always)]
 pub(crate) fn after_suffix(text: &str) -> &str
     ensures rest { chars result.now ≡ after_suffix (chars text.now) }
@@ -21,8 +22,8 @@ pub(crate) fn after_suffix(text: &str) -> &str
     }
 }
 
-/// Returns the text after the suffix of a literal, or the text itself if no suffix begins it. [`after_suffix`] calls it
-/// for the texts whose first byte doesn't exclude a suffix.
+/// Returns `text` without the suffix of a literal at its start, or `text` itself if it doesn't begin with a suffix.
+/// [`after_suffix`] calls this function for texts whose first byte doesn't exclude a suffix.
 #[inline(never)]
 fn after_some_suffix(text: &str) -> &str
     ensures rest { chars result.now ≡ after_suffix (chars text.now) }

@@ -10,16 +10,16 @@ use Rattle.rl_recovery.specs.declared.openers.Opener.{Opener}
 use Rattle.rl_recovery.specs.declared.openers.Opener.TheVariants.{Quoted, Raw}
 use Rattle.rl_recovery.specs.declared.unclosed.Unclosed.{Unclosed}
 
--- The opening delimiter of a string, without a prefix, and the text after it.
+-- The opening delimiter of a string, without its prefix `b` or `c`, followed by the text `body`.
 abbrev pub opened : Opener → List ℕ → List ℕ
 opened Quoted body = code "\"" ∷ body
 opened (Raw n) body = code "r" ∷ (replicate n (code "#") ++ code "\"" ∷ body)
 
--- The text begins with the opening delimiter `opener`, optionally after a prefix.
+-- The text is an optional prefix `b` or `c`, the opening delimiter `opener`, and the text `body`.
 abbrev pub BeginsOpener : List ℕ → Opener → List ℕ → Type 0
 BeginsOpener t opener body = (p : LiteralPrefix) × (t ≡ prefix_text p ++ opened opener body)
 
--- Each literal of the text that begins with the given opening delimiter is unclosed.
+-- In the text, each literal with the given opening delimiter is unclosed.
 abbrev pub NoneCloses : Opener → List ℕ → Type 0
 NoneCloses Quoted t = (front body : List ℕ) → t ≡ front ++ code "\"" ∷ body → after_quote body ≡ None
 NoneCloses (Raw n) t = after_raw n t ≡ None
@@ -34,8 +34,9 @@ abbrev pub IsIncluded : Unclosed → Opener → Type 0
 IsIncluded known Quoted = IsTrue known.quoted
 IsIncluded known (Raw n) = IsSomeAnd known.raw (λ least. least ≤ n)
 
--- The state of a cursor over a source is valid. The part that is lexed is an end of the source, and the rest is an end of the
--- part. The opening delimiters of the set have no closing delimiter in the rest.
+-- The state of a cursor over the source `whole` is valid. `part` is the text from the position at which lexing last resumed,
+-- and an end of `whole`. `rest` is the text that isn't lexed yet, and an end of `part`. The opening delimiters in the set
+-- `known` have no closing delimiter in `rest`.
 pub record IsRecoveryState (whole part rest : List ℕ) (known : Unclosed) : Type 0 where
   pub is_text : IsUtf8 whole
   pub in_whole : IsTail whole part

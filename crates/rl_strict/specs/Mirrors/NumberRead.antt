@@ -1,4 +1,5 @@
--- A mirror of the code, for proofs only: parses a number of Rust's grammar from left to right, to its end or its flaw.
+-- An executable model of the code, for proofs only: parses a number of Rust's grammar from left to right, to the number's
+-- end or its flaw.
 use Rattle.std.specs.Prelude.{ℕ, ◌==◌, not, List, [], ◌∷◌, Option, Some, None, Result, Ok, Err, if◌then◌else◌}
 use Rattle.std.specs.Char.{is_ascii_digit}
 use Rattle.std.specs.Str.{chars}
@@ -15,7 +16,7 @@ use Rattle.rl_strict.specs.declared.read_numbers.Number.{Number}
 use Rattle.rl_strict.specs.declared.read_numbers.Number.TheVariants.{Integer, Float}
 use Rattle.rl_strict.specs.declared.read_numbers.Stop.{Stop}
 
--- The result of parsing a suffix: no flaw and the suffix, or a flaw's kind and the text that begins at the flaw.
+-- The result of parsing the end of a number: no flaw and the suffix, or a kind of flaw and the text that begins at the flaw.
 abbrev pub Ending : Type 0
 Ending = Option FlawKind × List ℕ
 
@@ -25,8 +26,8 @@ ended x = (None, x)
 abbrev pub stopped : FlawKind → List ℕ → Ending
 stopped k rest = (Some k, rest)
 
--- Converts the result of a function of the code to the result of the mirror. The argument `of` returns the rest of the text
--- for a value of type `X`.
+-- Converts the result of a function of the code to the result that the executable model returns. The function `of` returns
+-- the suffix of a parsed value.
 abbrev pub outcome : {X : Type 0} → (X → List ℕ) → Result X Stop → Ending
 outcome of (Ok x) = ended (of x)
 outcome of (Err s) = stopped s.kind (chars s.rest.now)
@@ -52,8 +53,9 @@ fraction_end_at [] = ended []
 fraction_end_at (c ∷ cs) =
     if is_ascii_digit c then digits_end_at (after_digits 10 (c ∷ cs)) else stopped NoFractionDigit (c ∷ cs)
 
--- The result of parsing a number: a flaw's kind, an integer's magnitude within 128 bits, or a float. The last part is the
--- suffix, or the text that begins at the flaw.
+-- The result of parsing a number. The first part is the kind of flaw, or `None`. The second part is `Some m` for an integer
+-- with the magnitude `m`, and `None` for a float or a flaw. Above 128 bits, `m` is `None`. The last part is the suffix, or
+-- the text that begins at the flaw.
 abbrev pub NumberRead : Type 0
 NumberRead = Option FlawKind × Option (Option ℕ) × List ℕ
 

@@ -1,4 +1,4 @@
--- A mirror of the code, for proofs only: recognizes the parts of literal tokens of Rust's grammar.
+-- An executable model of the code, for proofs only: recognizes the parts of literal tokens of Rust's grammar.
 use Rattle.std.specs.Prelude.{ℕ, ◌==◌, ◌&&◌, not, Bool, true, false, List, [], ◌∷◌, Option, Some, None, option_map, length, drop, nat_lt, if◌then◌else◌}
 use Rattle.std.specs.List.{list_all}
 use Prim.Native.Char.{code}
@@ -21,8 +21,8 @@ is_strict_suffix (c ∷ cs) =
 abbrev pub is_number_suffix : List ℕ → Bool
 is_number_suffix x = not (first_passes is_underscore x) && is_strict_suffix x
 
--- The text after an escape, or `None` if the escape is invalid. The argument begins after the escape's backslash. The escape
--- may be an escaped line end.
+-- The text after an escape, or `None` if the escape is invalid. The argument is the text after the escape's backslash. In a
+-- string, the escape may be a line end with the white space after it.
 abbrev pub escape_rest : Kind → List ℕ → Option (List ℕ)
 escape_rest kind [] = None
 escape_rest kind (c ∷ cs) =
@@ -30,7 +30,8 @@ escape_rest kind (c ∷ cs) =
     else (if c == code "\r" then None
     else option_map (λ p. p.1) (unit_at kind (code "\\" ∷ c ∷ cs)))
 
--- The text after the character or escape at the beginning of the text, or `None` if the text begins with no valid one.
+-- The text after the character or escape at the beginning of the text, or `None` if the text begins with neither a valid
+-- character nor a valid escape.
 unfoldable pub unit_rest : Kind → List ℕ → Option (List ℕ)
 unit_rest kind [] = None
 unit_rest kind (c ∷ cs) =

@@ -1,5 +1,5 @@
--- A mirror of the code, for proofs only: the kind of flaw of a text that isn't a literal token, and the text that begins at the
--- flaw.
+-- An executable model of the code, for proofs only: the kind of flaw of a text that isn't a literal token, and the text that
+-- begins at the flaw.
 use Rattle.std.specs.Prelude.{ℕ, ◌==◌, ◌||◌, ◌&&◌, Bool, not, List, [], ◌∷◌, if◌then◌else◌}
 use Prim.Native.Char.{code}
 use Rattle.rl_syntax.specs.declared.kind.Kind.{Kind}
@@ -18,7 +18,7 @@ unfoldable pub suffix_rest : List ℕ → List ℕ
 suffix_rest [] = []
 suffix_rest (c ∷ cs) = if is_start c then after_run is_continue cs else (c ∷ cs)
 
--- The flaw of an invalid escape, by the text after its backslash.
+-- The flaw of an invalid escape. The argument is the text after the backslash.
 unfoldable pub strict_escape_flaw_at : Kind → List ℕ → FoundFlaw
 strict_escape_flaw_at kind [] = escape_flaw_at kind []
 strict_escape_flaw_at kind (c ∷ cs) =
@@ -32,13 +32,14 @@ strict_unit_flaw_at kind (c ∷ cs) =
     else (if c == code "\r" && is_string kind then found_flaw CarriageReturn (c ∷ cs)
     else found_flaw (character_flaw_of c) (c ∷ cs))
 
--- The flaw after the suffix of a quoted literal, by the text after the suffix's identifier.
+-- The flaw of an invalid text after a closing delimiter. The argument is the end of this text, after the identifier at its
+-- beginning. If the argument is empty, the identifier is `_` alone.
 abbrev pub suffix_end_flaw_at : QuotedForm → List ℕ → FoundFlaw
 suffix_end_flaw_at form [] = found_flaw UnderscoreSuffix []
 suffix_end_flaw_at form (c ∷ cs) =
     if c == form_quote form then found_flaw TextAfterQuote (c ∷ cs) else found_flaw BadSuffix (c ∷ cs)
 
--- The text after a raw string's closing delimiter begins with one more hash.
+-- The literal is a raw string, and the text after its closing delimiter begins with one more hash.
 abbrev pub begins_hash : QuotedForm → List ℕ → Bool
 begins_hash form t = is_raw_form form && first_passes (λ c. c == code "#") t
 

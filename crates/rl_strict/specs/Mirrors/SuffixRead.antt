@@ -1,4 +1,5 @@
--- A mirror of the code, for proofs only: parses the text after the closing delimiter of a quoted literal, a suffix or a flaw.
+-- An executable model of the code, for proofs only: parses the text after the closing delimiter of a quoted literal. The
+-- result is `None` for a suffix, which may be empty, and a flaw for any other text.
 use Rattle.std.specs.Prelude.{ℕ, ◌==◌, ◌||◌, Bool, false, List, [], ◌∷◌, Option, Some, None, if◌then◌else◌}
 use Rattle.std.specs.Char.{is_ascii_alphanumeric}
 use Prim.Native.Char.{code}

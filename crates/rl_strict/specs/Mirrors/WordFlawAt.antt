@@ -1,5 +1,5 @@
--- A mirror of the code, for proofs only: the flaw of a text that begins neither as a number nor as a quoted literal, and isn't
--- `true` or `false`.
+-- An executable model of the code, for proofs only: the flaw of a text that begins neither as a number nor as a quoted
+-- literal, and isn't `true` or `false`.
 use Rattle.std.specs.Prelude.{ℕ, true, false, ◌==◌, ◌||◌, List, [], ◌∷◌, if◌then◌else◌}
 use Prim.Native.Char.{code}
 use Rattle.rl_syntax.specs.Reading.{truth_text}
@@ -12,7 +12,7 @@ abbrev pub end_flaw_at : FlawKind → FlawKind → List ℕ → FoundFlaw
 end_flaw_at at_end before [] = found_flaw at_end []
 end_flaw_at at_end before (c ∷ cs) = found_flaw before (c ∷ cs)
 
--- The text after the longest common prefix of the word and the text. The word is the first argument.
+-- The text without the longest prefix that it has in common with the word. The word is the first argument.
 abbrev pub after_letters : List ℕ → List ℕ → List ℕ
 after_letters [] t = t
 after_letters (w ∷ ws) [] = []

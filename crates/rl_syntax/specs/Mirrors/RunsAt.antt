@@ -14,8 +14,8 @@ is_ascii_id_continue c = is_ascii_alphanumeric c || c == code "_"
 abbrev pub is_blank_byte : ℕ → Bool
 is_blank_byte c = c == code " " || (nat_lt 8 c && nat_lt c 14)
 
--- Whether a byte belongs to a sequence of ASCII identifier characters, if the first argument is `true`, or of ASCII white space,
--- if the first argument is `false`.
+-- Whether a byte belongs to the class that the first argument selects: ASCII identifier characters for `true`, ASCII white
+-- space for `false`.
 abbrev pub is_run_byte : Bool → ℕ → Bool
 is_run_byte true = is_ascii_id_continue
 is_run_byte false = is_blank_byte

@@ -11,18 +11,19 @@ use Rattle.rl_syntax.specs.Mirrors.RunsAt.{is_ascii_id_continue}
 abbrev pub is_likely_mark : ℕ → Bool
 is_likely_mark c = c == code "\"" || c == code "'" || c == code "/" || nat_le 128 c
 
--- Whether a byte may begin a literal, `true` or `false`, if no identifier character precedes the byte.
+-- Whether a byte may begin a literal or a word `true` or `false`, if no identifier character precedes the byte.
 abbrev pub is_likely_head : ℕ → Bool
 is_likely_head c =
     is_ascii_digit c || c == code "b" || c == code "c" || c == code "f" || c == code "r"
     || c == code "t"
 
--- Whether a literal or a comment may begin at the second byte of a pair, where the first byte of the pair precedes it.
+-- Whether a literal or a comment may begin at the second of two adjacent bytes. After an ASCII identifier character, only a
+-- quote, a slash or a non-ASCII byte may begin one.
 abbrev pub may_begin : ℕ × ℕ → Bool
 may_begin x = is_likely_mark x.1 || (not (is_ascii_id_continue x.0) && is_likely_head x.1)
 
--- Whether the byte `next` continues a literal's prefix, `true` or `false` after the byte `c`. If no prefix begins with
--- `c`, the result is `true` for each next byte.
+-- Whether the byte `next` may follow the byte `c` at the start of a literal, of `true` or of `false`, as `#` may follow `r`.
+-- If `c` isn't one of the letters b, c, r, t and f, the result is `true`.
 abbrev pub goes_on_likely : ℕ → ℕ → Bool
 goes_on_likely c next =
     cond (c == code "b") (next == code "\"" || next == code "'" || next == code "r")
@@ -48,7 +49,7 @@ around before (c ∷ cs) = (before, c, first_or 0 cs) ∷ around c cs
 abbrev pub may_begin_at : ℕ × ℕ × ℕ → Bool
 may_begin_at x = not (begins_none x.0 x.1 x.2)
 
--- The number of bytes before the first one at which a literal or a comment may begin. The byte `before` precedes them.
+-- The number of bytes before the first one at which a literal or a comment may begin. The byte `before` precedes the list.
 abbrev pub unlikely_after : ℕ → List ℕ → ℕ
 unlikely_after before [] = 0
 unlikely_after before (c ∷ cs) =

@@ -107,8 +107,8 @@ pub record TakesToken {A : Type 0} (old new : TreeBuilder A) (form : LexemeForm)
       ++ (flat_form form text (record { file = old.file; lo = lo; hi = hi }) ∷ [])
   pub file : new.file ≡ old.file
 
--- Two conditions on a delimiter: that it is a closing delimiter which doesn't match the innermost open group, and that
--- it is an opening delimiter where 128 groups are open already.
+-- Two conditions on a delimiter. `ClosesWrong`: it is a closing delimiter that doesn't match the innermost open group.
+-- `OpensTooDeep`: it is an opening delimiter, and 128 groups are open already.
 abbrev pub ClosesWrong : List OpenGroup → LexemeForm → Type 0
 ClosesWrong groups (DelimiterForm c) = IsTrue (is_closer c && not (closes groups c))
 ClosesWrong groups _ = ⊥

@@ -100,7 +100,7 @@ impl<A: Allocator> fmt::Display for Lit<A> {
     }
 }
 
-/// Writes the debug output of the variant's own type, for example of `LitStr`. For `Verbatim` it is the name
+/// Writes the debug output of the variant's own type, for example of `LitStr`. For `Verbatim` the output is the name
 /// `Verbatim`, and the token's text in braces.
 impl<A: Allocator> fmt::Debug for Lit<A> {
     ghost debug_output = { λ l. Some (debug_text (kind_of l) (text_of l)) };
@@ -138,7 +138,7 @@ fn append_text<A: Allocator>(
     }
 }
 
-/// Appends the literal's token to a token stream. For a `bool` literal it is the identifier `true` or `false`.
+/// Appends the literal's token to a token stream. The token of a `bool` literal is the identifier `true` or `false`.
 impl<A: Allocator> ToTokens for Lit<A> {
     ghost appends = { λ l. tree_of l ∷ [] };
 

@@ -18,7 +18,7 @@ use std::fmt;
 use std::hash::{Hash, Hasher};
 use std::marker::PhantomData;
 
-/// Returns a copy of the string in `text`, or `None` if there is none.
+/// Returns a copy of the string in `text`, or `None` if `text` is `None`.
 fn copy_of<A: Allocator, B: Allocator>(
     alloc: B,
     text: &Option<String<A>>,

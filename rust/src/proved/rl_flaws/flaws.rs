@@ -16,7 +16,7 @@ use crate::rl_syntax::text::{before, without_first_char};
 pub enum Left<'t> {
     /// All of a text that doesn't begin as a quoted literal.
     Whole(&'t str),
-    /// The text after a quoted literal's opening delimiter, or after a faulty piece inside the literal.
+    /// The text after a quoted literal's opening delimiter, or after an invalid character or escape inside the literal.
     Inside(Opened<'t>, &'t str),
     /// The text that begins at the closing quote of a character or byte literal, after a flaw before that quote.
     Closed(Kind, &'t str),
@@ -33,9 +33,9 @@ fn whole(text: &str) -> Left<'_> {
     }
 }
 
-/// Returns the part of the text to check after a flaw of the kind `flaw`. `inside` is the text that the flaw was found in, and
-/// `piece` the text that begins at the flaw's piece. After a flaw in a character or byte literal, this part begins at the
-/// quote that closes the literal. If no quote closes the literal, nothing is left to check.
+/// Returns the part of the text to check after a flaw of the kind `flaw`. The flaw was found in the text `inside`, and
+/// `piece` is the end of `inside` that begins with the flaw's piece. After a flaw in a character or byte literal, the
+/// returned part begins at the closing quote. If no quote closes the literal, nothing is left to check.
 #[inline]
 fn left_after<'t>(
     ends: LineEnds,
@@ -172,7 +172,7 @@ impl<'t> Flaws<'t> {
         }
     }
 
-    /// Returns the next flaw and its piece, or `None` if the rest of the text has no flaw.
+    /// Returns the next flaw and its piece, or `None` if the unchecked text has no flaw.
     #[inline]
     pub fn next(&mut self) -> Option<InvalidPiece> {
         let judged = next_flaw(self.ends, self.len, self.left);

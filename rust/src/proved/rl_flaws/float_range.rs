@@ -121,8 +121,8 @@ fn digit_or_zero(text: &str) -> (char, &str) {
     }
 }
 
-/// Whether the number with the digits `digits` is at least the one with the digits `bound`, where the first digit of each has
-/// the same power of ten.
+/// Whether the number with the digits `digits` is at least the number with the digits `bound`. The first digits of both
+/// numbers belong to equal powers of ten: the digits `5` are greater than `12`, as 50 is greater than 12.
 #[inline]
 fn is_not_below(digits: &str, bound: &str) -> bool {
     let mut left = digits;

@@ -28,8 +28,8 @@ fn is_code_part(c: char) -> bool {
     c.is_ascii_hexdigit() || c == '_'
 }
 
-/// Returns the text after an invalid `\u{..}` escape. `text` begins after the escape's first digit. Its digits and underscores
-/// are skipped, and then one character that isn't a backslash or the quote.
+/// Returns the text after an invalid `\u{..}` escape. `text` begins after the escape's first digit. The function skips digits
+/// and underscores, and then one character that isn't a backslash or the quote.
 #[inline]
 fn after_code_digits(ends: LineEnds, quote: char, text: &str) -> &str {
     let mut rest = text;
@@ -71,8 +71,8 @@ fn after_escape(ends: LineEnds, quote: char, text: &str) -> &str {
     }
 }
 
-/// Returns the text after the invalid escape or character with which the given text begins. There the parsing of a string
-/// continues.
+/// Returns the text after the invalid escape or character with which the given text begins. The parsing of a string continues
+/// at the returned text.
 #[inline]
 pub fn after_bad_piece(ends: LineEnds, quote: char, text: &str) -> &str {
     match split_first_char(ends, text) {

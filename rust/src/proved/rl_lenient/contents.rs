@@ -72,7 +72,7 @@ pub fn decode_bytes_into(kind: Kind, body: &str, out: &mut [u8]) -> usize {
     decode_into(kind, body, out)
 }
 
-/// Returns the number of the one character or byte between the quotes of a character or byte literal.
+/// Returns the value of a character or byte literal as a number, from the text between its quotes.
 #[cfg(feature = "__rendered")]
 #[inline]
 fn body_unit(kind: Kind, body: &str) -> u32 {

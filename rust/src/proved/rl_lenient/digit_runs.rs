@@ -190,8 +190,8 @@ pub struct Tally {
     front: Option<u128>,
     /// The number that the last digits represent, which are collected in 64 bits.
     last: u64,
-    /// The factor of `front` in the number of all digits, which is above `last`. Once `front` isn't 0, it is the base
-    /// to the power of the count of the last digits.
+    /// The number of all digits is `front * scale + last`, and `last` is below `scale`. Once `front` isn't 0, `scale`
+    /// is the base to the power of the count of the last digits.
     scale: u64,
 }
 

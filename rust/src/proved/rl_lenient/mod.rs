@@ -1,7 +1,7 @@
 // Rendered from crates/rl_lenient/src/lib.rt by tools/render, which erases contracts: change that file, and render again.
 //! Parsers of literals by the lenient grammar, which is that of `syn`: of a single literal, and of the literals of
 //! lists and of Rust sources. Other functions return the segments of a literal's body, and the range of a literal's
-//! text that a range of its decoded value comes from.
+//! text that encodes a range of its decoded value.
 //!
 //! The parsers follow the module `value` in `src/lit.rs` of the crate `syn` 3.0.9. Nothing is allocated.
 

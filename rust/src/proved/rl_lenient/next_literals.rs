@@ -23,11 +23,11 @@ pub struct NextLiteral<'t> {
 pub enum RejectionKind {
     /// An error of the lexer: no token begins at this position.
     Lex(LexKind),
-    /// An opening delimiter. A list of literals contains no groups.
+    /// The next token is an opening delimiter. A list of literals contains no groups.
     Group,
-    /// A closing delimiter, although no group is open.
+    /// The next token is a closing delimiter, although no group is open.
     UnmatchedClose,
-    /// An identifier or a punctuation character that doesn't begin a literal, as `a` or `+`.
+    /// The next token is an identifier or a punctuation character that doesn't begin a literal, as `a` or `+`.
     NotALiteral,
 }
 
@@ -61,8 +61,8 @@ fn alone<'t>(token: Lexeme<'t>, found: Option<Found>) -> NextLiteral<'t> {
     }
 }
 
-/// Consumes the next literal of a list, one or two tokens, and returns it. Otherwise returns `None`, and one or two
-/// tokens may be consumed nevertheless.
+/// Consumes the next literal of a list, which is one or two tokens, and returns it. If another token or the end
+/// follows, the result is `None`, and up to two tokens may be consumed nevertheless.
 #[cfg_attr(debug_assertions, inline)]
 #[cfg_attr(not(debug_assertions), inline(always))]
 fn take_literal<'t>(tokens: &mut Tokens<'t>) -> Option<NextLiteral<'t>> {
@@ -128,8 +128,8 @@ fn rejection_at(tokens: &Tokens<'_>) -> Rejection {
     }
 }
 
-/// Consumes the next literal of a list as [`next_literal`] does, and returns it. At the end of the list, and at an
-/// error, returns that instead. Nothing is allocated.
+/// Consumes the next literal of a list as [`next_literal`] does, and returns it. If another token, an error or the end
+/// of the list follows, consumes nothing, and returns the list's error or end. Nothing is allocated.
 #[inline(always)]
 pub fn next_list_literal<'t>(tokens: &mut Tokens<'t>) -> ListStep<'t> {
     if tokens.rest().is_empty() {

@@ -10,8 +10,8 @@ use crate::rl_lenient::found::{Parts, find_float, find_int, find_unsigned};
 use crate::rl_syntax::classes::{CharClass, skip_class};
 use crate::rl_syntax::text::{split_ascii, split_char};
 
-/// Returns the base of an integer, and the text after its prefix. The prefix is `0b`, `0o` or `0x`. Without one, the
-/// base is 10, and the result contains the text itself.
+/// Returns the base of an integer, and the text after its prefix. The prefix is `0b`, `0o` or `0x`. Without a prefix,
+/// the base is 10, and the result contains the text itself.
 #[cfg_attr(debug_assertions, inline)]
 #[cfg_attr(not(debug_assertions), inline(always))]
 pub fn split_radix(text: &str) -> (u32, &str) {
@@ -90,7 +90,7 @@ pub fn read_integer(text: &str) -> Option<Integer<'_>> {
 }
 
 /// Returns the kind, body and suffix of the integer literal `text`. Returns `None` if the text isn't an integer
-/// literal, and `Some(None)` if it is one above 128 bits.
+/// literal, and `Some(None)` for an integer above 128 bits.
 ///
 /// The body is the text before the suffix, with sign and prefix. Body and suffix are slices of the text.
 #[cfg(feature = "__rendered")]
@@ -103,8 +103,8 @@ pub fn int_shape(text: &str) -> Option<Option<Parts<'_>>> {
     }
 }
 
-/// Returns the text after the dot at its start and the digits after the dot, or the text itself if it doesn't begin
-/// with a dot.
+/// Returns the text after the fraction at its start, which is a dot and digits. Returns the text itself if it doesn't
+/// begin with a dot.
 #[inline(always)]
 fn after_fraction(text: &str) -> &str {
     match split_char(text) {

@@ -48,8 +48,8 @@ fn split_digits(text: &str) -> (&str, &str) {
     (before(text, rest), rest)
 }
 
-/// Returns the digits and underscores after the dot at the text's start, or `None` if it doesn't begin with a dot, and
-/// the text after them.
+/// Returns the digits and underscores after the dot at the text's start, and the text after them. If the text doesn't
+/// begin with a dot, returns `None` and the text itself.
 #[inline]
 fn split_fraction(text: &str) -> (Option<&str>, &str) {
     match strip_byte(text, b'.') {

@@ -79,8 +79,8 @@ impl<'t> Tokens<'t> {
         Some(LexError::new(kind, at))
     }
 
-    /// Returns the text after the consumed tokens, without leading white space and comments. It is empty at the end,
-    /// and otherwise begins with a token or an error.
+    /// Returns the text after the consumed tokens, without leading white space and comments. The result is empty at the
+    /// end of the text, and otherwise begins with a token or an error.
     pub fn rest(&self) -> &'t str {
         self.rest
     }

@@ -35,7 +35,7 @@ pub enum LexKind {
     UnclosedGroup,
     /// An opening delimiter inside 128 open groups. The error is at that delimiter.
     TooDeep,
-    /// A failed allocation. The error is at the first byte of the token that needed it.
+    /// A failed allocation. The error is at the first byte of the token for which memory was needed.
     Memory,
 }
 

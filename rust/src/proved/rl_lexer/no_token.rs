@@ -25,8 +25,8 @@ pub(crate) fn error_kind(rest: &str) -> LexKind {
     }
 }
 
-/// Returns the kind of the lexer's error at the start of `rest`, the text of a source from which no token can be lexed.
-/// A comment or a quoted literal that isn't closed begins it.
+/// Returns the kind of the lexer's error at the start of `rest`, the end of a source. No token begins `rest`, because
+/// `rest` begins with a comment or a quoted literal that isn't closed.
 pub fn source_error_kind(rest: &str) -> LexKind {
     if begins(rest, "/*") {
         LexKind::UnclosedComment

@@ -32,10 +32,10 @@ pub enum SourceForm {
     Stray,
 }
 
-/// Returns the form of the token at the start of a part of a source, and the text after the token.
+/// Returns the form of the token at the start of `text`, the end of a source, and the text after the token.
 ///
-/// Returns `None` at the end, and where a comment or a quoted literal isn't closed. White space and plain comments
-/// aren't tokens: for a text that begins with them, call [`skip`](crate::rl_lexer::whitespace::skip) first.
+/// Returns `None` if `text` is empty, or begins with a comment or a quoted literal that isn't closed. White space and
+/// plain comments aren't tokens: for a text that begins with them, call [`skip`](crate::rl_lexer::whitespace::skip) first.
 #[inline(always)]
 pub fn first_source_token(text: &str) -> Option<(SourceForm, &str)> {
     if let Some((form, following)) = word_or_mark(text) {
@@ -44,11 +44,11 @@ pub fn first_source_token(text: &str) -> Option<(SourceForm, &str)> {
     rebuilt_source(text)
 }
 
-/// Skips tokens of a source that aren't literals, and returns the text after them. The result begins at the next token
-/// that is a literal, or at a token or an error before it.
+/// Skips tokens of a source that aren't literals, and returns the text after them. The result begins with the next
+/// literal, or with a token or an error before the next literal.
 ///
-/// Bytes that can't begin a literal or a comment are skipped sixteen at a time. No tokens are made from these bytes,
-/// and from doc comments.
+/// Bytes that can't begin a literal or a comment are skipped sixteen at a time. These bytes and doc comments are
+/// skipped without lexing tokens.
 #[inline(always)]
 pub(crate) fn skip_unlikely(text: &str) -> &str {
     let bytes = text.as_bytes();
@@ -57,8 +57,8 @@ pub(crate) fn skip_unlikely(text: &str) -> &str {
     skip_all_comments(skip_white(rest))
 }
 
-/// Returns the text after the comments at its start, doc comments included, and after the white space that follows
-/// each. The text must not begin with white space. A block comment that isn't closed isn't skipped.
+/// Returns `text` without the comments at its start, doc comments included, and without the white space after each of
+/// them. The text must not begin with white space. A block comment that isn't closed isn't skipped.
 #[inline(always)]
 fn skip_all_comments(text: &str) -> &str {
     let mut rest = text;
@@ -71,8 +71,8 @@ fn skip_all_comments(text: &str) -> &str {
     rest
 }
 
-/// Returns the text after a comment of any kind, where `text` follows its first slash. The LF after a line comment is
-/// skipped too. Returns `None` if no comment begins there, and if a block comment isn't closed.
+/// Returns the text after a comment of any kind, where `text` follows the first slash. The LF after a line comment is
+/// skipped too. Returns `None` if the slash begins no comment, and if a block comment isn't closed.
 #[inline(always)]
 fn after_any_comment(text: &str) -> Option<&str> {
     match split_ascii(text) {
@@ -82,8 +82,8 @@ fn after_any_comment(text: &str) -> Option<&str> {
     }
 }
 
-/// Returns the text after the rest of an identifier, if the byte `before`, which precedes `text`, is an ASCII
-/// identifier character. Otherwise the result is `text` itself.
+/// Returns `text` without the identifier characters at its start, if the byte `before`, which precedes `text`, is an
+/// ASCII identifier character. Otherwise the result is `text` itself.
 #[inline(always)]
 fn after_word(before: u8, text: &str) -> &str {
     if is_ascii_id_continue(before) {
@@ -109,15 +109,15 @@ fn is_truth(text: &str) -> bool {
     matches!(text, "true" | "false")
 }
 
-/// Returns the result of [`source_by_characters`], constructed again. The copy keeps a call's result apart from the
-/// values that a caller joins with it, so that they aren't in memory.
+/// Returns the result of [`source_by_characters`] as a new value. So the result isn't joined in memory with other
+/// values of the calling function.
 #[inline(always)]
 fn rebuilt_source(text: &str) -> Option<(SourceForm, &str)> {
     rebuilt(source_by_characters(text))
 }
 
-/// Returns the form of the token at the start of a part of a source, and the text after the token. The first characters
-/// of the part select the function that lexes the token.
+/// Returns the form of the token at the start of `text`, the end of a source, and the text after the token. The first
+/// characters of `text` select the function that lexes the token.
 #[inline(never)]
 fn source_by_characters(text: &str) -> Option<(SourceForm, &str)> {
     if let Some((form, following)) = other_token(text) {
@@ -130,8 +130,8 @@ fn source_by_characters(text: &str) -> Option<(SourceForm, &str)> {
 }
 
 /// Returns the form of the invalid quoted literal or the stray character at the start of a text, and the text after it.
-/// Returns `None` at the end, and where a comment or a quoted literal isn't closed. The text begins with no other
-/// token.
+/// Returns `None` if the text is empty, or begins with a comment or a quoted literal that isn't closed. No other token
+/// begins the text.
 fn stray(text: &str) -> Option<(SourceForm, &str)> {
     let (_, following) = split_char(text)?;
     if opens(text) {
@@ -141,7 +141,7 @@ fn stray(text: &str) -> Option<(SourceForm, &str)> {
 }
 
 /// Returns the form of the doc comment, the lifetime or the raw identifier at the start of a text, and the text after
-/// it. Returns `None` if the text begins with another token.
+/// it. Returns `None` if the text begins with none of these tokens.
 #[inline(always)]
 fn other_token(text: &str) -> Option<(SourceForm, &str)> {
     match split_ascii(text) {
@@ -152,14 +152,14 @@ fn other_token(text: &str) -> Option<(SourceForm, &str)> {
     }
 }
 
-/// Returns the form `form` and the text `following` after a token, or `None` if `following` is `None`.
+/// Returns the form `form` and the text `following`, or `None` if `following` is `None`.
 #[inline(always)]
 fn ended(form: SourceForm, following: Option<&str>) -> Option<(SourceForm, &str)> {
     Some((form, following?))
 }
 
-/// Returns the text after a doc comment, where `text` follows its first slash. The LF after a line comment isn't
-/// skipped. Returns `None` if no doc comment begins there, and if a block isn't closed.
+/// Returns the text after a doc comment, where `text` follows the first slash. The LF after a line comment isn't
+/// skipped. Returns `None` if the slash begins no doc comment, and if a block isn't closed.
 #[cfg_attr(debug_assertions, inline)]
 #[cfg_attr(not(debug_assertions), inline(always))]
 fn after_doc(text: &str) -> Option<&str> {
@@ -181,19 +181,19 @@ fn after_doc(text: &str) -> Option<&str> {
     }
 }
 
-/// Returns the text from its first LF on, or an empty text if it contains no LF.
+/// Returns `text` from its first LF on, or an empty text if `text` contains no LF.
 fn line_end(text: &str) -> &str {
     let (_, rest) = split_line(text);
     rest
 }
 
-/// Returns the text after its first LF, or `None` if it contains no LF.
+/// Returns the text after the first LF of `text`, or `None` if `text` contains no LF.
 #[cfg(feature = "__rendered")]
 pub(crate) fn after_first_line(text: &str) -> Option<&str> {
     after_first_line_feed(text)
 }
 
-/// Returns the text after the identifier at its start, or `None` if it begins with no identifier.
+/// Returns `text` without the identifier at its start, or `None` if `text` doesn't begin with an identifier.
 fn after_name(text: &str) -> Option<&str> {
     match split_char(text) {
         Some((c, following)) if is_id_start(c) => Some(skip_id_continue(following)),
@@ -201,7 +201,7 @@ fn after_name(text: &str) -> Option<&str> {
     }
 }
 
-/// Returns the text after `#` and an identifier at its start, or `None` if it doesn't begin with them.
+/// Returns `text` without the `#` and the identifier at its start, or `None` if `text` doesn't begin with these two.
 fn after_marked(text: &str) -> Option<&str> {
     match split_char(text) {
         Some(('#', following)) => after_name(following),
@@ -209,7 +209,7 @@ fn after_marked(text: &str) -> Option<&str> {
     }
 }
 
-/// Returns the text after the identifier at its start, which may be raw, or `None` if it begins with no identifier.
+/// Returns `text` without the identifier or raw identifier at its start, or `None` if `text` begins with neither.
 #[inline(always)]
 fn after_any_name(text: &str) -> Option<&str> {
     if begins_raw_identifier(text) {
@@ -218,8 +218,8 @@ fn after_any_name(text: &str) -> Option<&str> {
     after_name(text)
 }
 
-/// Returns the text after a lifetime, where `text` follows its apostrophe. Returns `None` if no lifetime begins there:
-/// an apostrophe after the identifier makes it a character literal.
+/// Returns the text after a lifetime, where `text` follows the apostrophe. Returns `None` if the apostrophe begins no
+/// lifetime. In `'a'`, for example, the apostrophe begins a character literal.
 fn after_lifetime(text: &str) -> Option<&str> {
     let rest = after_any_name(text)?;
     match split_char(rest) {
@@ -228,12 +228,12 @@ fn after_lifetime(text: &str) -> Option<&str> {
     }
 }
 
-/// Returns the source without a byte order mark and an interpreter's line, which may precede its first token.
+/// Returns the source without the byte order mark and the interpreter's line before its first token, if it has them.
 pub(crate) fn without_preamble(text: &str) -> &str {
     without_line(without_byte_order_mark(text))
 }
 
-/// Returns the text after a byte order mark at its start, or the text itself.
+/// Returns `text` without the byte order mark at its start, or `text` itself if it begins with another character.
 pub fn without_byte_order_mark(text: &str) -> &str {
     match split_char(text) {
         Some(('\u{feff}', following)) => following,
@@ -241,9 +241,9 @@ pub fn without_byte_order_mark(text: &str) -> &str {
     }
 }
 
-/// Returns the text from the end of the interpreter's line at its start, or the text itself if it begins otherwise. An
-/// interpreter's line begins with `#!`. If `[` follows, after white space and comments, the text begins with an
-/// attribute.
+/// Returns `text` without the interpreter's line at its start, or `text` itself if it doesn't begin with such a line.
+/// The LF after the line isn't skipped. An interpreter's line begins with `#!`. If `[` follows the `#!`, after white
+/// space and comments, the text begins with an attribute instead.
 fn without_line(text: &str) -> &str {
     let Some(second) = strip_byte(text, b'#') else {
         return text;

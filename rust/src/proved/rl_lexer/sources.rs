@@ -58,7 +58,7 @@ impl<'t> Sources<'t> {
     }
 
     /// Creates a cursor over `text` at the position where `rest` begins. `rest` is the end of `text`, as
-    /// [`Sources::rest`] of another cursor returns it. White space and comments at its start aren't dropped.
+    /// [`Sources::rest`] of another cursor returns it. White space and comments at the start of `rest` aren't dropped.
     #[inline(always)]
     pub fn resume(text: &'t str, rest: &'t str) -> Sources<'t> {
         Sources { text, rest }
@@ -104,8 +104,8 @@ impl<'t> Sources<'t> {
         Some(LexError::new(kind, at))
     }
 
-    /// Returns the text after the consumed tokens, without leading white space and comments. It is empty at the end,
-    /// and otherwise begins with a token or an error.
+    /// Returns the text after the consumed tokens, without leading white space and comments. The result is empty at the
+    /// end of the source, and otherwise begins with a token or an error.
     pub fn rest(&self) -> &'t str {
         self.rest
     }

@@ -7,7 +7,7 @@ use crate::rl_syntax::lines::after_first_line_feed;
 use crate::rl_syntax::scan::{Marks, len_before_near_mark};
 use crate::rl_syntax::text::{begins_with_char, split_ascii, strip_byte};
 
-/// Returns the text after its leading white space and plain comments, as a slice.
+/// Returns `text` without the white space and plain comments at its start, as a slice.
 ///
 /// The result begins with the first character that is neither white space nor part of a plain comment. Doc comments
 /// aren't skipped, and neither are block comments that aren't closed. If the text ends in a line comment, the result is
@@ -21,8 +21,8 @@ pub fn skip(text: &str) -> &str {
     skip_comments(rest)
 }
 
-/// Returns the text after the plain comments at its start, and after the white space that follows each. The text must
-/// not begin with white space.
+/// Returns `text` without the plain comments at its start, and without the white space after each of them. The text
+/// must not begin with white space.
 #[inline(never)]
 fn skip_comments(text: &str) -> &str {
     let mut rest = text;
@@ -35,8 +35,8 @@ fn skip_comments(text: &str) -> &str {
     rest
 }
 
-/// Returns the text after a plain comment, where `text` follows its first slash. Returns `None` if no plain comment
-/// begins there, and if a block comment isn't closed.
+/// Returns the text after a plain comment, where `text` follows the first slash. Returns `None` if the slash begins no
+/// plain comment, and if a block comment isn't closed.
 #[cfg_attr(debug_assertions, inline)]
 #[cfg_attr(not(debug_assertions), inline(always))]
 fn after_comment(text: &str) -> Option<&str> {
@@ -52,7 +52,7 @@ fn after_comment(text: &str) -> Option<&str> {
     }
 }
 
-/// Whether a line comment is plain, and not a doc comment. `body` is the text after its `//`.
+/// Whether a line comment is plain, and not a doc comment. `body` is the text after the `//` of the comment.
 #[inline(always)]
 pub(crate) fn is_comment_line(body: &str) -> bool {
     match split_ascii(body) {
@@ -62,7 +62,7 @@ pub(crate) fn is_comment_line(body: &str) -> bool {
     }
 }
 
-/// Whether a block comment is plain, and not a doc comment. `inside` is the text after its `/*`.
+/// Whether a block comment is plain, and not a doc comment. `inside` is the text after the `/*` of the comment.
 #[cfg_attr(debug_assertions, inline)]
 #[cfg_attr(not(debug_assertions), inline(always))]
 pub(crate) fn is_comment_block(inside: &str) -> bool {
@@ -82,9 +82,10 @@ pub(crate) fn after_line(text: &str) -> &str {
     after_first_line_feed(text).unwrap_or("")
 }
 
-/// Returns the text after a block comment, where `text` follows its `/*`. Returns `None` if the comment isn't closed.
+/// Returns the text after a block comment, where `text` follows the `/*` of the comment. Returns `None` if the comment
+/// isn't closed.
 ///
-/// The loop is over bytes, from one `*` or `/` to the next. It counts the nested block comments that are open.
+/// The loop is over bytes, from one `*` or `/` to the next. The loop counts the nested block comments that are open.
 #[cfg_attr(debug_assertions, inline)]
 #[cfg_attr(not(debug_assertions), inline(always))]
 pub(crate) fn after_block(text: &str) -> Option<&str> {

@@ -44,7 +44,7 @@ pub struct Recovery<'t> {
     text: &'t str,
     // The part of the text, up to its end, in which lexing resumed last.
     part: &'t str,
-    // The rest of `part` that isn't lexed yet.
+    // The end of `part` that isn't lexed yet.
     rest: &'t str,
     // The opening delimiters that are known to have no closing delimiter in `rest`.
     unclosed: Unclosed,

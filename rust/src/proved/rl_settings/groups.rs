@@ -107,9 +107,9 @@ impl Groups {
 
 /// Returns the first error of a text's tokens and groups, or `None` if the text has none.
 ///
-/// The errors are those of the lexer, a group with a wrong closing delimiter, and a group inside 128 others. If the text has
-/// none of these errors, and groups are open at its end, the error is the innermost open group. `lex` of `rl_tokens` returns
-/// this error too. Nothing is allocated.
+/// The possible errors are the lexer's errors, a group with a wrong closing delimiter, and a group inside 128 others. If the
+/// text has none of these errors, and groups are open at its end, the error is the innermost open group. `lex` of `rl_tokens`
+/// returns this error too. Nothing is allocated.
 #[inline]
 pub fn first_error(text: &str) -> Option<LexError> {
     let mut tokens = Tokens::new(text);

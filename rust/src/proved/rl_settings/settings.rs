@@ -108,7 +108,7 @@ pub(crate) fn take_name<'t>(tokens: &mut Tokens<'t>, end: usize) -> Result<Lexem
     }
 }
 
-/// Whether the form `form` is the punctuation character `mark`.
+/// Whether a token of the form `form` is the punctuation character `mark`.
 #[inline]
 pub(crate) fn is_mark(form: Form, mark: char) -> bool {
     match form {

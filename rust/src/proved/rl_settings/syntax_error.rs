@@ -143,7 +143,7 @@ pub fn lexer_error(kind: LexKind) -> SyntaxErrorKind {
     }
 }
 
-/// Converts the kind of an error in a list of literals. `rest` is the unread rest of the list's text.
+/// Converts the kind of an error in a list of literals. `rest` is the unread text of the list.
 #[inline]
 pub fn list_error(kind: RejectionKind, rest: &str) -> SyntaxErrorKind {
     match kind {

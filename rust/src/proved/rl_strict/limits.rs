@@ -27,8 +27,8 @@ pub fn is_float_by_suffix(text: &str) -> bool {
     }
 }
 
-/// Returns the flaw of an integer above 128 bits, whose suffix begins at the byte offset `suffix_at`. The piece begins at the
-/// start of `text`.
+/// Returns the flaw of an integer above 128 bits, whose suffix begins at the byte offset `suffix_at`. The text to show for
+/// the flaw begins at the start of `text`.
 pub fn limit_flaw(text: &str, suffix_at: usize) -> Flaw {
     let found = make_flaw(FlawKind::TooLarge, &text[suffix_at..]).with_piece(text);
     flaw_with_offsets(LineEnds::Text, found, text)

@@ -95,8 +95,8 @@ pub struct Single {
     pub unit: u32,
 }
 
-/// Returns the character or escape at the beginning of the text after the opening quote of a character or byte literal, and the
-/// text after it.
+/// Returns the character or escape at the beginning of `text`, and the text after the character or escape. `text` begins
+/// after the opening quote of a character or byte literal.
 #[cfg_attr(debug_assertions, inline)]
 #[cfg_attr(not(debug_assertions), inline(always))]
 pub fn parse_strict_char_or_escape(kind: Kind, text: &str) -> Option<(Piece, &str)> {
@@ -132,8 +132,8 @@ pub(crate) fn unit_at<'t>(
     }
 }
 
-/// Parses the rest of a raw string, and returns the byte offsets of its parts, or its flaw. `opened` is the text after the
-/// opening quote, and `hashes` the hashes before that quote.
+/// Parses a raw string after its opening quote, and returns the byte offsets of its parts, or its flaw. `opened` is the text
+/// after the opening quote, and `hashes` the hashes before that quote.
 fn opened_at<'t>(
     ends: LineEnds,
     kind: Kind,

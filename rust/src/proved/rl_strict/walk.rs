@@ -32,7 +32,7 @@ fn skip_raw<'t>(ends: LineEnds, kind: Kind, hashes: &str, text: &'t str) -> &'t 
 /// The end of a quoted literal's valid content, and the literal's suffix or flaw.
 #[derive(Clone, Copy)]
 pub struct QuotedContent<'t> {
-    /// The text that begins at the closing quote, or at the faulty piece.
+    /// The text from the closing quote on, or from the first character or escape on that isn't allowed.
     pub closing: &'t str,
     /// Whether the text before `closing` is known to contain no escapes. Outside files, a text without escapes is the literal's
     /// value.
@@ -84,7 +84,8 @@ pub fn parse_cooked_content(ends: LineEnds, kind: Kind, text: &str) -> QuotedCon
 /// The end of a character or byte literal's content, and either the content and the suffix, or the flaw.
 #[derive(Clone, Copy)]
 pub struct UnitStretch<'t> {
-    /// The text that begins at the closing quote, or at the faulty piece.
+    /// The text from the closing quote on, or all of the text after the opening quote if the content isn't one character or
+    /// escape.
     pub closing: &'t str,
     pub end: Result<(Piece, &'t str), FlawAt<'t>>,
 }
@@ -121,7 +122,7 @@ pub fn parse_single_unit(ends: LineEnds, kind: Kind, text: &str) -> UnitStretch<
     }
 }
 
-/// Parses the text after the opening quote of a raw string that has `hashes` before this quote.
+/// Parses the text after the opening quote of a raw string. `hashes` are the hashes before the opening quote.
 #[cfg_attr(debug_assertions, inline)]
 #[cfg_attr(not(debug_assertions), inline(always))]
 pub fn parse_raw_content<'t>(

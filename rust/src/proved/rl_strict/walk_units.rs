@@ -7,14 +7,15 @@ use crate::rl_syntax::Kind;
 use crate::rl_syntax::classes::{CharClass, skip_class};
 use crate::rl_syntax::text::{ascii_at, split_char, strip_byte};
 
-/// Returns the text after a CR LF at its beginning, or `None` if it begins otherwise.
+/// Returns the text after a CR LF at the beginning of `text`, or `None` if `text` doesn't begin with CR LF.
 #[inline(always)]
 fn after_cr_lf(text: &str) -> Option<&str> {
     let line_feed = strip_byte(text, b'\r')?;
     strip_byte(line_feed, b'\n')
 }
 
-/// Returns the text after a CR LF at its beginning if the text is from a file, and `None` otherwise.
+/// Returns the text after a CR LF at the beginning of `text`. Returns `None` if `text` isn't from a file, or doesn't begin
+/// with CR LF.
 #[inline(always)]
 fn after_line_end(ends: LineEnds, text: &str) -> Option<&str> {
     match ends {
@@ -39,7 +40,7 @@ pub fn split_first_char(ends: LineEnds, text: &str) -> Option<(char, &str)> {
     }
 }
 
-/// Returns the text after the white space at its beginning that an escaped line end skips.
+/// Returns the text after the white space that an escaped line end skips. `text` is the text after the line end.
 fn skip_blanks(ends: LineEnds, text: &str) -> &str {
     let mut rest = skip_class(CharClass::StrictBlank, text);
     while let Some(after) = after_line_end(ends, rest) {
@@ -66,8 +67,8 @@ fn skip_escape(ends: LineEnds, kind: Kind, text: &str, at: usize) -> Option<&str
     Some(rest)
 }
 
-/// Returns the text after the escape at its beginning, or after a CR LF in a file. The result is `None` if the text begins with
-/// neither.
+/// Skips an escape at the beginning of the text, or a CR LF in a file, and returns the text after it. The result is `None`
+/// if the text begins with neither.
 #[inline(always)]
 fn skip_escaped(ends: LineEnds, kind: Kind, text: &str) -> Option<&str> {
     let (first, at) = ascii_at(text, 0)?;
@@ -80,15 +81,16 @@ fn skip_escaped(ends: LineEnds, kind: Kind, text: &str) -> Option<&str> {
     }
 }
 
-/// Returns the text after the unescaped characters at its beginning that a string of the kind `kind` may contain.
+/// Skips the unescaped characters at the beginning of the text that a string of the kind `kind` may contain, and returns the
+/// text after them.
 #[inline(always)]
 fn skip_bare(ends: LineEnds, kind: Kind, text: &str) -> &str {
     let (_, rest) = split_plain(kind, text);
     rest
 }
 
-/// Returns the text after the characters and escapes at its beginning. If the caller passes a constant kind, the loop is
-/// compiled for that kind.
+/// Skips the characters and escapes at the beginning of the text, and returns the text after them. If the caller passes a
+/// constant kind, the loop is compiled for that kind.
 #[inline(always)]
 fn skip_units_of(ends: LineEnds, kind: Kind, text: &str) -> &str {
     let mut rest = skip_bare(ends, kind, text);
@@ -98,8 +100,8 @@ fn skip_units_of(ends: LineEnds, kind: Kind, text: &str) -> &str {
     rest
 }
 
-/// Returns the text after the characters and escapes at its beginning, where the text isn't from a file. Plain strings have
-/// their own loop, compiled for their kind.
+/// Skips the characters and escapes at the beginning of a text that isn't from a file, and returns the text after them.
+/// Plain strings have their own loop, compiled for their kind.
 #[inline(never)]
 fn skip_text_units(kind: Kind, text: &str) -> &str {
     match kind {
@@ -108,13 +110,14 @@ fn skip_text_units(kind: Kind, text: &str) -> &str {
     }
 }
 
-/// Returns the text after the characters and escapes at its beginning, where the text is from a file.
+/// Skips the characters and escapes at the beginning of a text from a file, and returns the text after them.
 #[inline]
 fn skip_file_units(kind: Kind, text: &str) -> &str {
     skip_units_of(LineEnds::File, kind, text)
 }
 
-/// Returns the text after the characters and escapes at its beginning. Each value of `ends` has its own compiled loop.
+/// Skips the characters and escapes at the beginning of the text, and returns the text after them. Each value of `ends` has
+/// its own compiled loop.
 #[inline(always)]
 pub(crate) fn skip_units(ends: LineEnds, kind: Kind, text: &str) -> &str {
     match ends {

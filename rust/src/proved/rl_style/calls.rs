@@ -1,5 +1,5 @@
 // Rendered from crates/rl_style/src/calls.rt by tools/render, which erases contracts: change that file, and render again.
-//! Recognizes whether a token is inside a macro call, a `macro_rules!` definition or an attribute.
+//! Finds out whether a token is inside a macro call, a `macro_rules!` definition or an attribute.
 
 use crate::rl_lexer::{Form, SourceForm, SourceToken};
 
@@ -10,7 +10,7 @@ pub enum Calls<'t> {
     Outside,
     /// The next token follows the given identifier, which may be a macro's name.
     AfterWord(&'t str),
-    /// The next token follows a macro's name, `!`, and perhaps identifiers.
+    /// The next token follows a macro's name and `!`, and perhaps identifiers after them, as in `macro_rules! m`.
     AfterBang,
     /// The next token follows `#`, or `#!`.
     AfterHash,
@@ -61,7 +61,7 @@ fn is_keyword(word: &str) -> bool {
     )
 }
 
-/// Returns `depth + 1`, or `depth` if it is the greatest `usize`.
+/// Returns `depth + 1`. If `depth` is the greatest `usize`, the result is `depth`.
 #[inline]
 fn deeper(depth: usize) -> usize {
     if depth < usize::MAX { depth + 1 } else { depth }
@@ -126,7 +126,7 @@ fn after_any_other(calls: Calls<'_>) -> Calls<'_> {
     }
 }
 
-/// Returns the position relative to macro calls, after a token of the lexer with the form `form` and the text `text`.
+/// Returns the position relative to macro calls, after a token of the lexer with the given form and text.
 #[inline(always)]
 fn after_lexeme<'t>(calls: Calls<'t>, form: Form, text: &'t str) -> Calls<'t> {
     match form {

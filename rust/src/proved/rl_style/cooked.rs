@@ -98,8 +98,8 @@ fn put_visible(out: &mut [u8], at: usize, kind: Kind, byte: u8) -> usize {
     put_byte(out, at, byte)
 }
 
-/// Writes the new form of a numeric escape. `byte` is the escape's value if it is ASCII, and 128 otherwise. For a NUL that
-/// isn't written as `\0` it is 128 too.
+/// Writes the new form of a numeric escape. `byte` is the escape's value if it is ASCII, and 128 otherwise. `byte` is also
+/// 128 for a NUL that may not be written as `\0`.
 #[inline]
 fn put_number(out: &mut [u8], at: usize, kind: Kind, style: Style, unit: &str, byte: u8) -> usize {
     if is_visible(style, byte) {
@@ -138,7 +138,7 @@ fn put_escape(
     put_text(out, at, unit)
 }
 
-/// Writes the new form of an unescaped character or a CR LF.
+/// Writes the new form of an unescaped character, or of a CR LF that is one character.
 #[inline]
 fn put_plain(out: &mut [u8], at: usize, kind: Kind, style: Style, unit: &str, byte: u8) -> usize {
     match split_char(unit) {
@@ -152,7 +152,7 @@ fn put_plain(out: &mut [u8], at: usize, kind: Kind, style: Style, unit: &str, by
 
 /// Writes the new form of one character or escape: at most four bytes for each byte of its text.
 ///
-/// `byte` is the value if it is ASCII, and 128 otherwise. For a NUL that isn't written as `\0` it is 128 too.
+/// `byte` is the value if it is ASCII, and 128 otherwise. `byte` is also 128 for a NUL that may not be written as `\0`.
 #[inline]
 fn put_unit(out: &mut [u8], at: usize, kind: Kind, style: Style, unit: &str, byte: u8) -> usize {
     match strip_byte(unit, b'\\') {

@@ -44,14 +44,14 @@ fn ends_with_width(text: &str) -> bool {
 }
 
 /// Whether the suffix of an integer may be mistyped: `2_32` may be meant as `2_i32`. `text` is the integer's whole text, and
-/// `suffix` its end.
+/// `suffix` its suffix.
 #[inline]
 pub(crate) fn is_mistyped(suffix: &str, text: &str) -> bool {
     split_char(suffix).is_none() && ends_with_width(text)
 }
 
 /// Whether the suffix of a float may be mistyped: `1e5_32` may be meant as `1e5_f32`. `text` is the float's whole text, and
-/// `suffix` its end.
+/// `suffix` its suffix.
 #[inline]
 pub(crate) fn is_mistyped_float(suffix: &str, text: &str) -> bool {
     is_mistyped(suffix, text) && contains_either(text, 'e', 'E')

@@ -4,10 +4,11 @@
 use crate::rl_lexer::without_byte_order_mark;
 use crate::rl_syntax::text::begins;
 
-/// Returns `true` if the literals of the source can be rewritten without a change in how the rest is lexed.
+/// Returns `true` if the literals of the source can be rewritten without a change in how its other tokens are lexed.
 ///
-/// The source must begin without `#!`, or with an attribute's `#![`. After another `#!`, a literal may hide or show the end of
-/// a comment, which determines whether the first line is an interpreter's line. A byte order mark at the start is ignored.
+/// The source must not begin with `#!`, unless it begins with an attribute's `#![`. After another `#!`, a rewritten literal
+/// may contain the `*/` of a comment that begins on the first line. Then that line may no longer be an interpreter's line. A
+/// byte order mark at the start is ignored.
 #[inline]
 pub fn may_restyle(source: &str) -> bool {
     let text = without_byte_order_mark(source);

@@ -56,7 +56,7 @@ fn is_in_class(class: CharClass, c: char) -> bool {
     }
 }
 
-/// Returns the text after its longest prefix of characters of the class `class`.
+/// Returns the text after its leading characters of the class `class`.
 ///
 /// The function is inlined, so `class` is a constant in each caller. It reads single bytes up to the first non-ASCII
 /// character, and characters from there on.
@@ -78,7 +78,8 @@ pub fn skip_hashes(text: &str) -> &str {
     skip_class(CharClass::Hash, text)
 }
 
-/// Returns the class of characters that `WORD` selects: identifier characters if `WORD` is `true`, else white space.
+/// Returns the class of characters that `WORD` selects: identifier characters if `WORD` is `true`, white space if
+/// `WORD` is `false`.
 #[cfg(any(feature = "sources", feature = "settings"))]
 #[inline(always)]
 fn run_class<const WORD: bool>() -> CharClass {
@@ -89,7 +90,8 @@ fn run_class<const WORD: bool>() -> CharClass {
     }
 }
 
-/// Returns the text after its longest prefix of identifier characters, if `WORD` is `true`, or of white space.
+/// Returns the text after its leading characters of one class: identifier characters if `WORD` is `true`, white space
+/// if `WORD` is `false`.
 ///
 /// Sixteen bytes are tested at once, up to the first non-ASCII character.
 #[cfg(any(feature = "sources", feature = "settings"))]
@@ -136,7 +138,7 @@ fn begins_nonblank(text: &str) -> bool {
     }
 }
 
-/// Returns the text after the white space at its start, sixteen bytes at a time.
+/// Returns the text after the white space at its start. Sixteen bytes are tested at once.
 ///
 /// [`skip_white`] calls it for more white space than one space, and for non-ASCII text.
 #[cfg(any(feature = "sources", feature = "settings"))]
@@ -145,7 +147,7 @@ fn skip_white_run(text: &str) -> &str {
     skip_run::<false>(text)
 }
 
-/// Returns the text after its longest prefix of characters of the class `class`, tested one character at a time.
+/// Returns the text after its leading characters of the class `class`, tested one character at a time.
 #[inline(never)]
 fn skip_wide_class(class: CharClass, text: &str) -> &str {
     let mut rest = text;

@@ -1,9 +1,9 @@
 // Rendered from crates/rl_syntax/src/kind.rt by tools/render, which erases contracts: change that file, and render again.
 //! The kinds of literals, and their names in messages.
 
-// The constants whose names end with `_OPENER` are the opening texts of quoted literals, prefix and quote.
-// `Kind::opener` returns one of them for a kind. The lexer uses the constants, because the compiler makes a test of a
-// text's start from a constant, but not from the result of a call.
+// The constants whose names end with `_OPENER` are the opening texts of quoted literals: prefix and quote, as `b"`.
+// `Kind::opener` returns the constant of a kind. The lexer compares the start of a text with the constants, since the
+// compiler specializes a comparison for a constant, but not for the result of a call.
 pub const STR_OPENER: &str = "\"";
 
 pub const BYTE_STR_OPENER: &str = "b\"";

@@ -5,8 +5,8 @@
 use crate::rl_syntax::text::split_ascii;
 use crate::simd::*;
 
-/// The delimiters that a search looks for, at most four bytes. A search for fewer repeats one of them. In a search of a
-/// text they must be ASCII.
+/// The delimiters that a search looks for, at most four bytes. A search for fewer delimiters repeats one of them. In a
+/// search of a text, the delimiters must be ASCII.
 #[derive(Clone, Copy)]
 pub struct Marks {
     /// The first of the four bytes that a search looks for.
@@ -50,7 +50,8 @@ fn stops_among<const HIGH: bool, const N: usize>(marks: Marks, bytes: &[u8], at:
     }
 }
 
-/// Whether a search for the delimiters `marks` stops at `byte`: it is one of them, or if `HIGH` is `true`, non-ASCII.
+/// Whether a search stops at `byte`, because it is one of the delimiters `marks`. If `HIGH` is `true`, a search stops
+/// at each non-ASCII byte too.
 #[inline(always)]
 fn is_stop<const HIGH: bool>(marks: Marks, byte: u8) -> bool {
     let is_mark = byte == marks.first
@@ -75,7 +76,8 @@ fn stop_by_byte<const HIGH: bool>(marks: Marks, bytes: &[u8], from: usize) -> us
 ///
 /// # Errors
 ///
-/// Returns the offset from which fewer than `N` bytes are left, if no delimiter was found before it.
+/// Returns an error if no delimiter was found while `N` bytes were left. The error is the offset from which fewer than
+/// `N` bytes are left.
 #[inline]
 fn stop_by<const HIGH: bool, const N: usize>(
     marks: Marks,

@@ -22,7 +22,8 @@ pub fn split_ascii(text: &str) -> Option<(u8, &str)> {
 /// Returns the character at the byte offset `at` as a byte, and the offset after it. Returns `None` if no ASCII
 /// character begins there.
 ///
-/// A loop over offsets makes no slices of the text. Each slice of a `str` tests in Rust that it begins at a character.
+/// A loop that passes offsets makes no slices of the text. For each slice of a `str`, Rust tests whether it begins at
+/// a character boundary.
 #[inline(always)]
 pub fn ascii_at(text: &str, at: usize) -> Option<(u8, usize)> {
     let bytes = text.as_bytes();

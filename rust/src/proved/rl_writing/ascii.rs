@@ -12,8 +12,8 @@ use crate::rl_syntax::text::split_char;
 #[cfg(feature = "writers")]
 use crate::rl_syntax::written_unit::escape;
 
-/// Writes the escape `\u{..}` of the character `c` after the first `at` bytes of the slice `out`, and returns the
-/// offset after the escape. The character's number is in base 16, in lower case.
+/// Writes the escape `\u{..}` of the character `c` after the first `at` bytes of the slice `out`, and returns the offset
+/// after the escape. The character's code point is in base 16, in lower case.
 #[inline]
 pub fn put_unicode_escape(out: &mut [u8], at: usize, c: char) -> usize {
     let mut room = [0; 21];
@@ -39,8 +39,8 @@ fn put_ascii(out: &mut [u8], at: usize, kind: Kind, c: char) -> usize {
 
 /// Writes an ASCII string literal whose value is `value` to the start of `out`, and returns its length in bytes.
 ///
-/// The literal is that of `write_str_into` of `rl_syntax`, except that each non-ASCII character is written as `\u{..}`.
-/// It is at most four bytes long for each byte of `value`, plus two. `out` must have room for this length.
+/// The literal is the one that `write_str_into` of `rl_syntax` writes, except that each non-ASCII character is written as
+/// `\u{..}`. The literal is at most four bytes long for each byte of `value`, plus two. `out` must have room for this length.
 #[cfg(feature = "writers")]
 #[inline]
 pub fn write_str_ascii_into(value: &str, out: &mut [u8]) -> usize {

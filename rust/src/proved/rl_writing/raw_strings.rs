@@ -15,9 +15,9 @@ fn raw_may_contain(kind: Kind, c: char) -> bool {
     }
 }
 
-/// Returns the number of hashes that a raw string needs so that it doesn't end after the character `c`. It is 1 after a quote,
-/// one more after each hash that directly follows a quote or its hashes, and 0 otherwise. `opened` is the result for the
-/// character before `c`.
+/// Returns the number of hashes that a raw string needs so that it doesn't end after the character `c`. After a quote, the
+/// number is 1. After a hash that directly follows a quote or its hashes, the number is one more than before the hash.
+/// Otherwise the number is 0. `opened` is the number for the character before `c`.
 #[inline]
 fn hashes_opened(opened: usize, c: char) -> usize {
     match c {
@@ -89,7 +89,7 @@ fn raw_opener(kind: Kind) -> &'static str {
 /// Writes the raw string of the kind that contains `text`, with `hashes` hashes, to the start of `out`. [`min_raw_hashes`]
 /// returns the fewest hashes for a text.
 ///
-/// Returns the literal's length in bytes: at most that of the text, plus twice the hashes, plus four. `out` must have
+/// Returns the literal's length in bytes: at most the length of `text`, plus two for each hash, plus four. `out` must have
 /// room for this length.
 #[inline]
 pub fn write_raw_into(kind: Kind, hashes: usize, text: &str, out: &mut [u8]) -> usize {

@@ -1,4 +1,4 @@
--- The loop's invariant: after the first dot, the whole text and its rest have one text.
+-- The loop's invariant: the whole text and its unread part have equal texts after their first dot.
 use Rattle.rl_syntax.proofs.Common.{◌≡◌, length}
 use Rattle.rl_flaws.specs.FloatRange.{after_point}
 use denote.Text.{Utf8}

@@ -1,4 +1,4 @@
--- The loop's invariant: the text contains a minus if and only if its rest does.
+-- The loop's invariant: the text contains a minus if and only if its unread part does.
 use Rattle.rl_syntax.proofs.Common.{◌≡◌, ◌==◌, length, list_any}
 use denote.Text.{Utf8}
 use denote.Shadow.{shadow}

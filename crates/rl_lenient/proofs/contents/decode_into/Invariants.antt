@@ -1,4 +1,5 @@
--- The loop's invariant: the buffer begins with the decoded value of the text so far, and has room for the value of the rest.
+-- The loop's invariant: the buffer begins with the value of the part of the text that was decoded, and has room for the
+-- value of the other part.
 use Rattle.rl_syntax.proofs.Common.{◌≡◌, length}
 use denote.Text.{Utf8}
 use denote.Shadow.{shadow}

@@ -1,4 +1,5 @@
--- The loop's invariant: the buffer begins with the digits of the text so far, and has room for the digits of the rest.
+-- The loop's invariant: the buffer begins with the digits of the part of the text that was processed, and has room for the
+-- digits of the other part.
 use Rattle.rl_syntax.proofs.Common.{◌≡◌, ◌+◌, ◌≤◌, ◌++◌, ℕ, List, take, length, encode_utf8_all}
 use Rattle.rl_lenient.proofs.Names.{float_digits}
 use denote.Text.{Utf8}

@@ -1,5 +1,5 @@
--- One iteration of the loop that searches for the end of a block comment. It is at a closing delimiter, an opening delimiter,
--- another `*` or `/`, or other bytes.
+-- The cases of an iteration of the loop that searches for the end of a block comment: the loop is at a closing
+-- delimiter, an opening delimiter, another `*` or `/`, or other bytes.
 use Rattle.rl_syntax.proofs.Common.{arith, ◌+◌, ◌≡◌, [], Some, get_or, sym, ◌∙◌, ap, drop, IsCharBoundary-after_ascii}
 use Rattle.std.proofs.Math.ListN.{drop_of_length-le}
 use Rattle.rl_lexer.specs.Mirrors.SkippedAt.{after_block}

@@ -1,4 +1,4 @@
--- A line ends at its next LF.
+-- The text after a line is the text after its LF, or is empty if the line has no LF.
 use Rattle.rl_syntax.proofs.Common.{refl}
 use Rattle.rl_lexer.proofs.CommentSteps.{line_rest}
 use Rattle.rl_lexer.proofs.whitespace.after_line.Goals as goal

@@ -1,4 +1,4 @@
--- After the leading white space of a text, the white space and comments that follow are skipped too.
+-- `skip` skips the leading white space of a text, and then the comments and white space that follow.
 use Rattle.rl_syntax.proofs.Common.{chars}
 use Rattle.rl_syntax.specs.Texts.{is_white}
 use Rattle.rl_syntax.proofs.TailLemmas.{tail_step}

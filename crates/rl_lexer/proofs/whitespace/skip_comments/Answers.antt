@@ -1,4 +1,4 @@
--- After a comment at the start of a text, the white space and comments that follow are skipped too.
+-- Each iteration of the loop of `skip_comments` skips one comment and the white space after it.
 use Rattle.rl_syntax.proofs.Common.{arith, sym, common_steps, chars}
 use Rattle.rl_syntax.specs.Texts.{is_white}
 use Rattle.rl_syntax.proofs.TailLemmas.{tail_step}

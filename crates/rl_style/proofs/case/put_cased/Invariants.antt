@@ -1,4 +1,5 @@
--- The loop's invariant: the slice contains the characters read so far, in the given case. It has space for the others.
+-- The loop's invariant: the slice contains the characters read so far, in the given case. The slice has space for the unread
+-- characters.
 use Rattle.rl_syntax.proofs.Common.{◌≡◌, ◌+◌, ◌++◌, ℕ, List, take, length, map, encode_utf8_all}
 use denote.Text.{Utf8}
 use denote.Shadow.{shadow}

@@ -1,5 +1,5 @@
--- The loop's invariant: the slice contains the new forms of the characters and escapes read so far. It has space for the
--- others.
+-- The loop's invariant: the slice contains the new forms of the characters and escapes read so far. The slice has space for
+-- those that are still unread.
 use Rattle.rl_syntax.proofs.Common.{◌≡◌, ◌≤◌, ◌+◌, ◌*◌, List, take, length}
 use denote.Text.{Utf8}
 use denote.Shadow.{shadow}

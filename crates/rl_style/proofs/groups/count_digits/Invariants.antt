@@ -1,5 +1,5 @@
--- The loop's invariant: the number of digits counted so far, plus the number of digits of the rest, is the number of digits of
--- the sequence.
+-- The loop's invariant: the number of digits counted so far, plus the number of digits in the unread text, is the number of
+-- digits in the whole sequence.
 use Rattle.rl_syntax.proofs.Common.{◌≡◌, ◌≤◌, ◌+◌, length}
 use denote.Text.{Utf8}
 use denote.Shadow.{shadow}

@@ -1,4 +1,4 @@
--- The loop's invariant: the text contains one of the two characters if and only if its rest does.
+-- The loop's invariant: the text contains one of the two characters if and only if its unread part does.
 use Rattle.rl_syntax.proofs.Common.{◌≡◌, ◌||◌, ◌==◌, length}
 use Rattle.std.specs.List.{list_any}
 use denote.Text.{Utf8}

@@ -1,4 +1,4 @@
--- The loop's invariant: the text ends with an underscore and the width of a number type if and only if its rest does.
+-- The loop's invariant: the text ends with an underscore and the width of a number type if and only if its unread part does.
 use Rattle.rl_syntax.proofs.Common.{◌≡◌, length}
 use denote.Text.{Utf8}
 use denote.Shadow.{shadow}

@@ -1,4 +1,5 @@
--- The loop's invariant: after the leading zeros and underscores are dropped from both, the text and its rest are equal.
+-- The loop's invariant: if leading zeros and underscores are dropped from the whole text and from its unread part, the two
+-- results are equal.
 use Rattle.rl_syntax.proofs.Common.{◌≡◌, ◌≤◌, length}
 use denote.Text.{Utf8}
 use denote.Shadow.{shadow}

@@ -1,4 +1,4 @@
--- The loop's invariant: the text contains no character that needs a backslash if and only if its rest doesn't.
+-- The loop's invariant: the text contains no character that needs a backslash if and only if its unread part contains none.
 use Rattle.rl_syntax.proofs.Common.{◌≡◌, not, list_all, length}
 use denote.Text.{Utf8}
 use denote.Shadow.{shadow}

@@ -1,4 +1,5 @@
--- The loop's invariant: the slice contains the new forms of the characters read so far. It has space for the others.
+-- The loop's invariant: the slice contains the new forms of the characters read so far. The slice has space for the unread
+-- characters.
 use Rattle.rl_syntax.proofs.Common.{◌≡◌, ◌≤◌, ◌+◌, ◌*◌, ◌++◌, ℕ, List, take, length, encode_utf8_all}
 use denote.Text.{Utf8}
 use denote.Shadow.{shadow}

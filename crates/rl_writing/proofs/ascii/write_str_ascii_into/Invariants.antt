@@ -1,4 +1,5 @@
--- The loop's invariant: the slice contains the written forms of the passed characters. It has space for the others.
+-- The loop's invariant: the slice contains the written forms of the characters that the loop has passed. The slice has space
+-- for the written forms of the other characters.
 use Rattle.rl_syntax.proofs.Common.{◌≡◌, ◌+◌, ◌*◌, ◌≤◌, ◌++◌, List, ℕ, length, take, chars, flat_map, Utf8, shadow}
 use Rattle.rl_syntax.specs.declared.kind.Kind.TheVariants.{Str}
 use Rattle.rl_syntax.specs.Quoted.{opener}

@@ -1,5 +1,5 @@
--- The loop's invariant: the number of hashes that the whole text needs is the greater of the number for the passed text and
--- the number for the rest. All passed characters are allowed.
+-- The loop's invariant: the whole text needs as many hashes as the passed text or the remaining text, whichever needs more.
+-- A raw string may contain all passed characters.
 use Rattle.rl_syntax.proofs.Common.{◌≡◌, ◌+◌, ◌≤◌, length, list_all, chars, Utf8, shadow}
 use Rattle.rl_writing.specs.Mirrors.RawSteps.{raw_may_contain}
 use Rattle.rl_writing.proofs.HashLemmas.{needed_from, needed_in}

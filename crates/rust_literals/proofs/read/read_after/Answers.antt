@@ -5,8 +5,8 @@ use Rattle.rust_literals.specs.Flat.{AreFirst}
 use Rattle.rust_literals.proofs.read.read_after.Given as given
 use Rattle.rust_literals.proofs.read.read_after.Goals as goal
 
--- The function `read_after` passes an empty list on. If this empty list is appended to the first literals of a text,
--- the result is the first literals of the text.
+-- If the empty list that `read_after` passes to `read_from` is appended to the first literals of a text, the result is
+-- these first literals.
 none_more : (g : given.Over) (c : goal.After-read_from g) (first : List (Lit g.row.A.Denot))
     → AreFirst (chars c.args.text.now) c.args.file c.args.count first
     → AreFirst (chars c.args.text.now) c.args.file c.args.count (first ++ c.new.result.items)

@@ -17,8 +17,8 @@ pub struct Entry<A: Allocator = Global> {
     pub name: String<A>,
     /// The span of the attribute's name.
     pub span: Span,
-    /// The literal that the name is set to. It is `Verbatim` if the text isn't a valid literal or is an integer above
-    /// 128 bits.
+    /// The literal that the name is set to. The value is `Verbatim` if the text isn't a valid literal or is an integer
+    /// above 128 bits.
     pub value: Lit<A>,
 }
 
@@ -35,8 +35,8 @@ impl<A: Allocator> Attrs<A> {
         self.entries.as_slice()
     }
 
-    /// Returns the span of the error for a missing name. For attributes that [`read`] parsed it is the empty span at
-    /// the text's end. For attributes that were parsed from a parse buffer it is the buffer's scope.
+    /// Returns the span of the error for a missing name. For attributes that [`read`] parsed, the span is the empty
+    /// span at the text's end. For attributes that were parsed from a parse buffer, the span is the buffer's scope.
     pub fn end_span(&self) -> Span {
         self.end
     }

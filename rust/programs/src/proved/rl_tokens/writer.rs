@@ -9,8 +9,8 @@ use crate::rl_syntax::written_unit::escape;
 use crate::rl_syntax::{Kind, Span};
 use crate::rattle_std::alloc::{AllocError, Allocator};
 
-/// Appends the character or byte `c` to `out` as a literal of the kind `kind` represents it: as an escape, or
-/// unchanged. If an allocation fails, nothing is appended.
+/// Appends the character or byte `c` to `out`, in the form in which a literal of the kind `kind` contains it: as an
+/// escape, or unchanged. If an allocation fails, nothing is appended.
 fn push_written<A: Allocator>(out: &mut String<A>, kind: Kind, c: char) -> Result<(), AllocError> {
     match escape(kind, c, &mut [0; 4]) {
         Some(text) => out.push_str(text),
@@ -18,8 +18,8 @@ fn push_written<A: Allocator>(out: &mut String<A>, kind: Kind, c: char) -> Resul
     }
 }
 
-/// Appends to `out` a literal of the kind `kind` that represents the text `value`. `kind` must be a kind with
-/// characters as value. If an allocation fails, a beginning of the literal may have been appended.
+/// Appends to `out` a literal of the kind `kind` that represents the text `value`. The value of a literal of this kind
+/// must consist of characters. If an allocation fails, a beginning of the literal may have been appended.
 fn push_characters<A: Allocator>(
     out: &mut String<A>,
     kind: Kind,
@@ -71,8 +71,8 @@ fn text_of_bytes<A: Allocator>(alloc: A, kind: Kind, value: &[u8]) -> Result<Str
     Ok(text)
 }
 
-/// Creates a literal token of a written literal's text, at [`Span::call_site`]. An allocation failure of the writer
-/// becomes `Memory` at [`Span::call_site`].
+/// Creates a literal token of `text`, the result of a writer, at [`Span::call_site`]. If `text` is an allocation
+/// failure, the result is `Memory` at [`Span::call_site`].
 fn token<A: Allocator>(text: Result<String<A>, AllocError>) -> Result<Literal<A>, Error<A>> {
     match text {
         Ok(text) => Ok(Literal::of_string(text, Span::call_site())),

@@ -7,7 +7,7 @@ use crate::rl_syntax::Kind;
 use crate::rl_tokens::ErrorKind;
 use crate::rattle_std::alloc::{Allocator, Global};
 
-/// The type that represents the kind of floats. It makes `LitFloat` and `LitInt` different types.
+/// The type that represents the kind of floats. The type makes `LitFloat` and `LitInt` different types.
 pub struct FloatKind;
 
 /// A float literal: `1.5`, `1e5`, `2.0f32`. The number's size isn't checked.

@@ -20,8 +20,8 @@ pub struct Literals<'t, A: Allocator = Global> {
     tokens: Tokens<'t>,
     // The number of literals that were read token by token so far.
     count: usize,
-    // The literals that the iterator still has to return, if it had to lex the whole text into token trees. It does so
-    // after an allocation failed, or if the next tokens aren't a literal.
+    // The literals that the iterator still has to return, if the whole text was lexed into token trees. The whole text
+    // is lexed after an allocation failed, or if the next tokens aren't a literal.
     waiting: Option<IntoIter<Lit<A>, A>>,
 }
 

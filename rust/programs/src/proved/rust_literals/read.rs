@@ -33,8 +33,8 @@ fn read_on<A: Allocator + Copy>(
     Ok(list)
 }
 
-/// Returns `list` with the literals of `text` after its first `count` literals appended. The literals of `list` are the
-/// last of the first `count` literals of `text`. The literals before those of `list` may have been dropped.
+/// Appends to `list` all literals of `text` except the first `count`, and returns `list`. Before the call, `list`
+/// contains the last of the first `count` literals. The literals before these may have been dropped.
 fn read_from<A: Allocator + Copy>(
     alloc: A,
     text: &str,

@@ -1,6 +1,6 @@
 // Rendered from crates/rl_lexer/src/source/bad_quote.rt by tools/render, which erases contracts: change that file, and render again.
-//! Functions that find the end of invalid quoted literals, as `''` and `'ab'`. Each begins like neither a valid
-//! character literal nor a lifetime, and has an end in the source.
+//! Functions that find the end of invalid quoted literals, such as `''` and `'ab'`. Where an invalid quoted literal
+//! begins, neither a valid character literal nor a lifetime begins. The source contains the end of the invalid literal.
 
 use super::after_any_name;
 use crate::rl_lexer::lexeme::after_suffix;
@@ -8,8 +8,8 @@ use crate::rl_syntax::characters::is_id_start;
 use crate::rl_syntax::classes::skip_id_continue;
 use crate::rl_syntax::text::{begins_with_char, split_ascii, split_char, without_first_char};
 
-/// Returns the text after the invalid quoted literal at its start, as `'ab'` or `b'hello'`, or `None` if that has no
-/// end.
+/// Returns `text` without the invalid quoted literal at its start, such as `'ab'` or `b'hello'`, or `None` if the
+/// literal has no end.
 #[inline(never)]
 pub(crate) fn after_bad_quote(text: &str) -> Option<&str> {
     match split_char(text) {
@@ -21,7 +21,7 @@ pub(crate) fn after_bad_quote(text: &str) -> Option<&str> {
     }
 }
 
-/// Returns the text after an invalid quoted literal without prefix, where `text` follows its apostrophe.
+/// Returns the text after an invalid quoted literal without prefix, where `text` follows the opening apostrophe.
 ///
 /// The literal is an identifier between apostrophes; or a digit and the identifier characters after it, with or without
 /// a closing apostrophe; or everything up to the next apostrophe.
@@ -36,8 +36,8 @@ fn after_bare(text: &str) -> Option<&str> {
     after_other(text)
 }
 
-/// Returns the text after the next apostrophe and a suffix, which end an invalid quoted literal. `text` follows its
-/// opening apostrophe. Returns `None` if a backslash follows that apostrophe, or if the literal has no end.
+/// Returns the text after the closing apostrophe and the suffix of an invalid quoted literal, where `text` follows the
+/// opening apostrophe. Returns `None` if `text` begins with a backslash, or if the literal has no end.
 fn after_other(text: &str) -> Option<&str> {
     if begins_with_char(text, '\\') {
         return None;
@@ -59,9 +59,9 @@ fn after_next_quote(text: &str) -> Option<&str> {
     None
 }
 
-/// Returns the text after one part of an invalid quoted literal, where the part begins with `c`, and `following` is the
-/// text after `c`. A backslash and the next character are one part. Returns `None` if the literal has no end: at a
-/// slash, and at an LF without a `'` right after it.
+/// Returns the text after one part of an invalid quoted literal, where `c` is the first character of the part, and the
+/// text `following` follows `c`. A backslash and the next character are one part. Returns `None` if the literal has no
+/// end: at a slash, and at an LF without a `'` right after it.
 fn after_part(c: char, following: &str) -> Option<&str> {
     if c == '\\' {
         let (_, more) = split_char(following)?;
@@ -73,7 +73,7 @@ fn after_part(c: char, following: &str) -> Option<&str> {
     Some(following)
 }
 
-/// Returns the text after the `'` at its start, or `None` if it doesn't begin with `'`.
+/// Returns `text` without the `'` at its start, or `None` if `text` doesn't begin with `'`.
 fn after_closing(text: &str) -> Option<&str> {
     match split_char(text) {
         Some(('\'', following)) => Some(following),
@@ -81,7 +81,7 @@ fn after_closing(text: &str) -> Option<&str> {
     }
 }
 
-/// Returns the text after the `'` at its start, or the text itself if it doesn't begin with `'`.
+/// Returns `text` without the `'` at its start, or `text` itself if it doesn't begin with `'`.
 fn past_closing(text: &str) -> &str {
     match split_char(text) {
         Some(('\'', following)) => following,

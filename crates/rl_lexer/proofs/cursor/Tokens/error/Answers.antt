@@ -1,4 +1,4 @@
--- If no lexeme begins the cursor's rest, the function returns an error.
+-- If the text after the cursor isn't empty and begins with no lexeme, the function returns the first error of the text.
 use Rattle.rl_syntax.proofs.Common.{arith, common_steps, chars}
 use Rattle.rl_lexer.specs.Cuts.{BeginsNoLexeme}
 use Rattle.rl_lexer.proofs.ErrorKinds.{stops_here, none_some}

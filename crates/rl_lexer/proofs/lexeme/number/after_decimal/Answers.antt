@@ -1,4 +1,4 @@
--- At each return of the function, the returned text is an end of the given text.
+-- Each text that `after_decimal` returns is the end of the given text.
 use Rattle.rl_syntax.proofs.TailLemmas.{tail_step}
 use Rattle.rl_lexer.proofs.lexeme.number.after_decimal.Goals as goal
 

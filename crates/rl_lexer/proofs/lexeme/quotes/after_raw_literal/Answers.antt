@@ -1,4 +1,4 @@
--- At each return of the function, the returned text is an end of the given text.
+-- Each text that `after_raw_literal` returns is the end of the given text.
 use Rattle.rl_syntax.proofs.TailLemmas.{tail_step}
 use Rattle.rl_lexer.proofs.lexeme.quotes.after_raw_literal.Goals as goal
 

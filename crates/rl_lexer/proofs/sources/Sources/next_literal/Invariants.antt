@@ -1,4 +1,4 @@
--- The loop's invariant: no token that was consumed is a literal.
+-- The invariant of the loop: the consumed tokens aren't literals.
 use Rattle.rl_syntax.proofs.Common.{length}
 use Rattle.rl_lexer.proofs.LiteralSteps.{Passed}
 use Rattle.rl_lexer.proofs.sources.Sources.next_literal.Given as goal

@@ -1,4 +1,5 @@
--- The loop's invariant: the next literal from the current state is the next literal from the state at which the search began.
+-- The loop's invariant: the next literal after the loop's current state is also the next literal after the state at which the
+-- search began.
 use Rattle.std.proofs.Common.{ℕ, ◌≤◌, length}
 use Rattle.rl_lexer.specs.Cursors.{CursorState}
 use Rattle.rl_style.specs.Calls.{CallState, calls_seen}

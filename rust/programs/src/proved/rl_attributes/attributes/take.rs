@@ -10,8 +10,8 @@ use crate::rust_literals::Lit;
 use crate::rattle_std::alloc::Allocator;
 use crate::rattle_std::collections::BTreeSet;
 
-/// The set of the attribute names that have been parsed. It is a balanced tree, so no choice of names makes the search
-/// slow.
+/// The set of the attribute names that have been parsed. The set is a balanced tree, so no choice of names makes the
+/// search slow.
 type Names<'a, A> = BTreeSet<Name<'a>, A>;
 
 /// Consumes the identifier at the start of `input` as an attribute's name, which must not be in `names` yet, and adds
@@ -104,9 +104,9 @@ fn with_memory_at<A: Allocator>(error: Error<A>, place: Span) -> Error<A> {
 /// # Errors
 ///
 /// The token trees are parsed from left to right. The error names the first part that is missing: `identifier`,
-/// `` `=` ``, `literal`, or `` `,` ``. The error for a name that another attribute before has is `Repeated`, at the
-/// name, even if `=` doesn't follow the name. An allocation failure is reported at the first token tree of the buffer.
-/// On an error the buffer is unchanged.
+/// `` `=` ``, `literal`, or `` `,` ``. The error for a name that an earlier attribute has is `Repeated`, at the name,
+/// even if `=` doesn't follow the name. An allocation failure is reported at the first token tree of the buffer. On an
+/// error the buffer is unchanged.
 impl<A: Allocator + Copy> Parse<A> for Attrs<A> {
     fn parse(alloc: A, input: &mut ParseBuffer<'_, A>) -> Result<Attrs<A>, Error<A>> {
         let place = input.span();

@@ -1,6 +1,6 @@
 // Rendered from crates/rl_attributes/src/attributes/whole.rt by tools/render, which erases contracts: change that file, and render again.
-//! The function that reads the list of attributes of a text. It lexes the text token by token, and doesn't build token
-//! trees unless there is an error.
+//! The function that reads the list of attributes of a text. The function lexes the text token by token, and doesn't
+//! build token trees unless there is an error.
 
 use crate::rattle_std::prelude::{String, Vec};
 use super::name::Name;

@@ -63,7 +63,7 @@ impl<A: Allocator> fmt::Display for Lit<A> {
     }
 }
 
-/// Writes the debug output of the variant's own type, for example of `LitStr`. For `Verbatim` it is the name
+/// Writes the debug output of the variant's own type, for example of `LitStr`. For `Verbatim` the output is the name
 /// `Verbatim`, and the token's text in braces.
 impl<A: Allocator> fmt::Debug for Lit<A> {
     fn fmt(&self, f: &mut fmt::Formatter<'_>) -> fmt::Result {
@@ -94,7 +94,7 @@ fn append_text<A: Allocator>(
     }
 }
 
-/// Appends the literal's token to a token stream. For a `bool` literal it is the identifier `true` or `false`.
+/// Appends the literal's token to a token stream. The token of a `bool` literal is the identifier `true` or `false`.
 impl<A: Allocator> ToTokens for Lit<A> {
     fn to_tokens<B: Allocator>(&self, alloc: B, tokens: &mut TokenStream<B>) -> Result<(), Error<B>> {
         match self {

@@ -9,7 +9,7 @@ use crate::rattle_std::fmt;
 use crate::rattle_std::hash::{Hash, Hasher};
 use crate::rattle_std::marker::PhantomData;
 
-/// Returns a copy of the string in `text`, or `None` if there is none.
+/// Returns a copy of the string in `text`, or `None` if `text` is `None`.
 fn copy_of<A: Allocator, B: Allocator>(
     alloc: B,
     text: &Option<String<A>>,
