@@ -129,7 +129,7 @@ fn segments() {
             Some(format!(
                 "{}..{} ",
                 text_offset(text, at)?,
-                segments().text_end_offset(at)
+                segments().text_offset_after(at)
             ))
         });
         format!("{lines}\n{table}\n{}", each.collect::<String>())
