@@ -1,7 +1,11 @@
 -- Lemmas about the value of a literal in bytes, and about matches in it.
-use Rattle.rl_syntax.proofs.Common.{◌≡◌, ◌⊎◌, ℕ, false, true, IsUtf8, List, [], ◌∷◌, ap, append-nil, both_ways, chars, encode_utf8, encodes-chars, inl, inr, refl, subst, sym, ◌∙◌}
+use Rattle.rl_syntax.proofs.Common.{◌≡◌, ◌⊎◌, ℕ, Bool, false, true, IsUtf8, List, [], ◌∷◌, ap, append-nil, both_ways, chars, encode_utf8, encodes-chars, inl, inr, refl, subst, sym, ◌∙◌}
 use Rattle.rl_lenient.proofs.Names.{BoolKind, Byte, ByteStr, Bytes, CStr, Char, Characters, Float, HasContents, Int, Kind, Reads, Str, is_string, quoted_contents}
 use Rattle.rl_syntax.proofs.OneReading.{one_reading}
+use Rattle.rl_lenient.proofs.BodyContents.{plain_contents}
+use Rattle.rl_lenient.specs.Bodies.{HasBody}
+use Rattle.rl_fronts.proofs.ByteContents.{plain_contents_bytes}
+use Rattle.std.proofs.lemmas.Bool.{false≢true}
 use Rattle.rl_lenient.proofs.FoundContents.{found_kind, unit_of}
 use Rattle.rl_lenient.specs.Decoded.{in_bytes}
 use Rattle.rl_lenient.specs.declared.found.Found.{Found}
@@ -98,3 +102,20 @@ char_bytes text bytes found c same is unit e = record {
   contents = (unit_of Char text found same refl is).reads;
   bytes_are = e ∙ ap encode_utf8 unit ∙ sym (append-nil (encode_utf8 found.unit));
 }
+
+-- If the body of a string literal is its own value, the bytes of the body are the value's bytes.
+pub plain_body : (text body : List ℕ) (kind : Kind) (plain : Bool) → is_string kind ≡ true → plain ≡ true → IsUtf8 body
+    → HasBody kind (chars text) body plain → AreContentsOf (chars text) kind body
+plain_body text body Str plain is same utf8 has =
+    str_bytes (chars text) body utf8 (plain_contents body plain same utf8 (chars text) has)
+plain_body text body ByteStr plain is same utf8 has =
+    bytes_themselves ByteStr (chars text) body (inl refl)
+    (plain_contents_bytes ByteStr text body plain (inl refl) same has utf8)
+plain_body text body CStr plain is same utf8 has =
+    bytes_themselves CStr (chars text) body (inr refl)
+    (plain_contents_bytes CStr text body plain (inr refl) same has utf8)
+plain_body text body Byte plain is same utf8 has = absurd (false≢true is)
+plain_body text body Char plain is same utf8 has = absurd (false≢true is)
+plain_body text body Int plain is same utf8 has = absurd (false≢true is)
+plain_body text body Float plain is same utf8 has = absurd (false≢true is)
+plain_body text body BoolKind plain is same utf8 has = absurd (false≢true is)

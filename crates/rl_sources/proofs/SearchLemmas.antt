@@ -90,11 +90,11 @@ missed first [] at none low same = absurd (omega arith)
 missed first (b ∷ bs) zero none low same = both_ways (b == first) (or_parts _ _ none).0 (eq-eqb b first same)
 missed first (b ∷ bs) (suc at) none low same = missed first bs at (or_parts _ _ none).1 (omega arith) same
 
--- If the bytes don't contain the first byte of a sought text, the text doesn't occur in them.
-pub first_missing : (first : ℕ) (more bytes : List ℕ) (at : ℕ) → list_any (λ y. y == first) bytes ≡ false
-    → OccursAt (first ∷ more) bytes at → ⊥
-first_missing first more bytes at none occurs =
-    let there = stands_agrees (first ∷ more) bytes at occurs in
+-- If the bytes don't contain the first byte of a sought text, the text has no match in them.
+pub first_missing : (first : ℕ) (more bytes : List ℕ) (whole_words : Bool) (at : ℕ)
+    → list_any (λ y. y == first) bytes ≡ false → MatchesFrom whole_words (first ∷ more) bytes at → ⊥
+first_missing first more bytes whole_words at none matches =
+    let there = stands_agrees (first ∷ more) bytes at matches.0 in
     let same : first ≡ get_or bytes at 0 =
     there.1 0 (omega arith) ∙ ap (λ (k : ℕ). get_or bytes k 0) (let e : at + 0 ≡ at = omega arith in e) in
     missed first bytes at none (omega (arith, there.0)) (sym same)

@@ -97,16 +97,16 @@ fn contents_of<A: Allocator>(
 
 /// Returns the value, in bytes, of the string literal `text`, borrowed from its body. The result is `None` if the body isn't the
 /// value, or if the literal isn't a string. `found` is its parse result.
+#[tactic(auto, using(crate::proofs::HeldLemmas::plain_body))]
 fn borrowed_contents<'t>(text: &'t str, found: &Found) -> Option<&'t [u8]>
     requires { IsFound text.now found.now }
     ensures contents { IfSome result (λ bytes. AreContentsOf (chars text.now) found.now.kind bytes.now) }
     ensures quoted { OnSome result (IsTrue (is_quoted found.now.kind)) }
 {
-    match found.kind {
-        Kind::Str | Kind::ByteStr | Kind::CStr if found.body.plain => {
-            Some(found.body_in(text).as_bytes())
-        }
-        _ => None,
+    if found.body.plain && found.kind.is_string() {
+        Some(found.body_in(text).as_bytes())
+    } else {
+        None
     }
 }
 

@@ -69,11 +69,10 @@ fn contents_of<A: Allocator>(
 /// Returns the value, in bytes, of the string literal `text`, borrowed from its body. The result is `None` if the body isn't the
 /// value, or if the literal isn't a string. `found` is its parse result.
 fn borrowed_contents<'t>(text: &'t str, found: &Found) -> Option<&'t [u8]> {
-    match found.kind {
-        Kind::Str | Kind::ByteStr | Kind::CStr if found.body.plain => {
-            Some(found.body_in(text).as_bytes())
-        }
-        _ => None,
+    if found.body.plain && found.kind.is_string() {
+        Some(found.body_in(text).as_bytes())
+    } else {
+        None
     }
 }
 

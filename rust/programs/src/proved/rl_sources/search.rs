@@ -107,7 +107,10 @@ fn first_exactly<A: Allocator>(
     bytes: &[u8],
     sought: &[u8],
 ) -> Result<Option<usize>, AllocError> {
-    if sought.len() > bytes.len() || !contains_first_byte(bytes, sought) {
+    if sought.len() > bytes.len() {
+        return Ok(None);
+    }
+    if !contains_first_byte(bytes, sought) {
         return Ok(None);
     }
     let borders = borders_of(alloc, sought)?;
