@@ -4,7 +4,7 @@ use Rattle.std.proofs.lemmas.Bool.{and_parts, and_from, both_ways, eqb-true, eq-
 use Rattle.std.proofs.lemmas.Bool.{false≢true}
 use Rattle.std.proofs.Common.{length-drop}
 use Rattle.std.proofs.lemmas.List.{get_or-drop, get_or_append_left, get_or_at, length-map}
-use Rattle.std.specs.List.{list_any}
+use Rattle.std.specs.List.{list_any, slice_get}
 use Rattle.std.specs.Prelude.{not, IfNone, IfOk, None, Option, Some}
 use Rattle.std.specs.declared.result.Result.{Result}
 use Rattle.std.specs.declared.result.Result.TheVariants.{Err, Ok}
@@ -91,13 +91,17 @@ missed first (b ∷ bs) zero none low same = both_ways (b == first) (or_parts _ 
 missed first (b ∷ bs) (suc at) none low same = missed first bs at (or_parts _ _ none).1 (omega arith) same
 
 -- If the bytes don't contain the first byte of a sought text, the text has no match in them.
-pub first_missing : (first : ℕ) (more bytes : List ℕ) (whole_words : Bool) (at : ℕ)
-    → list_any (λ y. y == first) bytes ≡ false → MatchesFrom whole_words (first ∷ more) bytes at → ⊥
-first_missing first more bytes whole_words at none matches =
-    let there = stands_agrees (first ∷ more) bytes at matches.0 in
-    let same : first ≡ get_or bytes at 0 =
-    there.1 0 (omega arith) ∙ ap (λ (k : ℕ). get_or bytes k 0) (let e : at + 0 ≡ at = omega arith in e) in
-    missed first bytes at none (omega (arith, there.0)) (sym same)
+pub first_missing : (sought bytes : List ℕ) (first : ℕ) → Some first ≡ slice_get sought 0
+    → list_any (λ y. y == first) bytes ≡ false → (whole_words : Bool) (at : ℕ)
+    → MatchesFrom whole_words sought bytes at → ⊥
+first_missing [] bytes first got none whole_words at matches = let e : Some first ≡ None = got in absurd (cc)
+first_missing (c ∷ more) bytes first got none whole_words at matches =
+    let e : Some first ≡ Some c = got in
+    let same : first ≡ c = cc in
+    let there = stands_agrees (c ∷ more) bytes at matches.0 in
+    let found : c ≡ get_or bytes at 0 =
+    there.1 0 (omega arith) ∙ ap (λ (k : ℕ). get_or bytes k 0) (let z : at + 0 ≡ at = omega arith in z) in
+    missed first bytes at none (omega (arith, there.0)) (sym found ∙ sym same)
 
 -- ---- the longest border
 

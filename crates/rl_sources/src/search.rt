@@ -125,7 +125,6 @@ fn first_by_borders(
 }
 
 /// Whether `sought` is empty, or `bytes` contains its first byte.
-#[tactic(auto, using(crate::proofs::SearchLemmas::first_missing))]
 fn contains_first_byte(bytes: &[u8], sought: &[u8]) -> bool
     ensures { IsFalse result
         → (whole_words : Bool) (at : ℕ) → MatchesFrom whole_words sought.now bytes.now at → ⊥ }

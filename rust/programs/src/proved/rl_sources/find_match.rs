@@ -87,6 +87,12 @@ fn matched_range(text: &str, found: &Found, first: usize, last: usize) -> (usize
     (lo, hi)
 }
 
+/// Returns the offset of the last byte of a match of `sought` at the offset `at` of `contents`. If `sought` is empty, the result is
+/// `at`.
+fn last_of_match(contents: &[u8], sought: &[u8], at: usize) -> usize {
+    at + sought.len().saturating_sub(1)
+}
+
 /// Returns the byte range of the quoted literal `text` that encodes the first match of `sought` in its value `contents`, or `None`
 /// if the value doesn't contain `sought`. `found` is the parse result of `text`.
 fn range_in_contents<A: Allocator + Copy>(
@@ -97,10 +103,11 @@ fn range_in_contents<A: Allocator + Copy>(
     matching: Matching,
     sought: &str,
 ) -> Result<Option<(usize, usize)>, AllocError> {
-    let Some(at) = first_in(alloc, matching, contents, sought.as_bytes())? else {
+    let wanted = sought.as_bytes();
+    let Some(at) = first_in(alloc, matching, contents, wanted)? else {
         return Ok(None);
     };
-    let last = at + sought.len().saturating_sub(1);
+    let last = last_of_match(contents, wanted, at);
     Ok(Some(matched_range(text, found, at, last)))
 }
 
