@@ -58,7 +58,7 @@ SHORT = {'only': '--only', 'find': '-e', 'color': '--color', 'extension': '--ext
 WRONG = [
     '--nope', '-x', '-b', '-cl', '-cb', '-kStr', '-ea', '-lea', '-\u00e9', '--hiden', '--fnid', b'-\xff', '---', '--BAD', '--col', '--bad=x', '--json=1', '--lines=',
     '--only', '-k', '--only=', '--only=Str,', '--only=x', '--only:Str', '--find', '-e', '--find=', b'--find=\xff',
-    '--color', '--color=x', '--color=', '--bad', '--invisible', '--extension', '-h', '--help', '-V', '--version', '--', '-',
+    '--generate', '--generate=man', '--generate=x', '--color', '--color=x', '--color=', '--bad', '--invisible', '--extension', '-h', '--help', '-V', '--version', '--', '-',
 ]
 
 
