@@ -1,4 +1,4 @@
-//! Tests the forms of the output: GitHub annotations, the source line below a message, and the SARIF document that `tools/sarif.jq`
+//! Tests the forms of the output: GitHub annotations, the source line below a message, and the SARIF document that `sarif.jq`
 //! creates from JSON objects. Every expected position is counted by hand.
 
 use navyspindle_programs::rattle_std::alloc::Global;
@@ -269,7 +269,7 @@ fn context_of_words_alone() {
 /// Converts all JSON objects to one SARIF document, if the program `jq` is installed.
 #[test]
 fn sarif() {
-    let script = concat!(env!("CARGO_MANIFEST_DIR"), "/../../../tools/sarif.jq");
+    let script = concat!(env!("CARGO_MANIFEST_DIR"), "/../texts/sarif.jq");
     let made = Command::new("jq")
         .args(["-s", "-c", "-f", script])
         .stdin(Stdio::piped())
