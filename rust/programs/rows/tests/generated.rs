@@ -19,11 +19,11 @@ fn generated(value: &str) -> String {
 fn files_of_the_repository() {
     assert_eq!(
         generated("sarif-jq"),
-        include_str!("../../../../tools/sarif.jq")
+        include_str!("../../texts/sarif.jq")
     );
     assert_eq!(
         generated("problem-matcher"),
-        include_str!("../../../../tools/problem-matcher.json")
+        include_str!("../../texts/problem-matcher.json")
     );
 }
 
