@@ -17,10 +17,7 @@ fn generated(value: &str) -> String {
 
 #[test]
 fn files_of_the_repository() {
-    assert_eq!(
-        generated("sarif-jq"),
-        include_str!("../../texts/sarif.jq")
-    );
+    assert_eq!(generated("sarif-jq"), include_str!("../../texts/sarif.jq"));
     assert_eq!(
         generated("problem-matcher"),
         include_str!("../../texts/problem-matcher.json")
