@@ -1,9 +1,16 @@
 -- The rules of a style: their names in a configuration, and the values that each may have.
-use Rattle.std.specs.Prelude.{ℕ, List, codes}
+use Rattle.std.specs.Prelude.{ℕ, List, [], ◌∷◌, codes}
 use Rattle.rl_restyle.specs.declared.rule.Rule.{Rule}
 use Rattle.rl_restyle.specs.declared.rule.Rule.TheVariants.{HexDigits, DropUnderscores, DropLeadingZeros, SuffixSeparator, BinaryGroups, OctalGroups, DecimalGroups, HexadecimalGroups, MinDigits, FloatZero, ExponentLetter, DropExponentPlus, EscapeDigits, FewestEscapeDigits, DropAsciiEscapes, NamedEscapes, DropQuoteEscapes, FewestHashes, DropRaw, EscapeInvisible}
 use Rattle.rl_restyle.specs.declared.style_error.Expected.{Expected}
 use Rattle.rl_restyle.specs.declared.style_error.Expected.TheVariants.{Truth, Size, Case, Separator}
+
+-- All rules that a configuration can set, in the order of `rl_scan --rules`.
+abbrev pub all_rules : List Rule
+all_rules =
+    HexDigits ∷ DropUnderscores ∷ DropLeadingZeros ∷ SuffixSeparator ∷ BinaryGroups ∷ OctalGroups ∷ DecimalGroups
+    ∷ HexadecimalGroups ∷ MinDigits ∷ FloatZero ∷ ExponentLetter ∷ DropExponentPlus ∷ EscapeDigits ∷ FewestEscapeDigits
+    ∷ DropAsciiEscapes ∷ NamedEscapes ∷ DropQuoteEscapes ∷ FewestHashes ∷ DropRaw ∷ EscapeInvisible ∷ []
 
 -- The name of a rule in a configuration.
 abbrev pub rule_name : Rule → List ℕ

@@ -2,16 +2,16 @@
 
 ghost use Rattle.std.specs.Prelude.{◌≡◌, ◌<◌, IfSome, IfNone};
 ghost use Rattle.rl_restyle.specs.declared.rule.Rule.{Rule as AnyRule};
-ghost use Rattle.rl_restyle.specs.Rules.{rule_name, rule_number, expected_of as may_be};
+ghost use Rattle.rl_restyle.specs.Rules.{all_rules as all_of_them, rule_name, rule_number, expected_of as may_be};
 
 use crate::style_error::Expected;
 
-/// The number of rules of a style.
-pub(crate) const RULES: usize = 20;
+/// The number of rules that a configuration can set.
+pub const RULES: usize = 20;
 
-/// A rule of a style, or one part of its rule for digit groups.
+/// A rule that a configuration can set: a rule of a style, or one part of its rule for digit groups.
 #[derive(Clone, Copy)]
-pub(crate) enum Rule {
+pub enum Rule {
     HexDigits,
     DropUnderscores,
     DropLeadingZeros,
@@ -32,6 +32,64 @@ pub(crate) enum Rule {
     FewestHashes,
     DropRaw,
     EscapeInvisible,
+}
+
+/// Returns all rules that a configuration can set, in the order of `rl_scan --rules`.
+pub fn all_rules() -> &'static [Rule]
+    ensures { result.now ≡ all_of_them }
+{
+    &[
+        Rule::HexDigits,
+        Rule::DropUnderscores,
+        Rule::DropLeadingZeros,
+        Rule::SuffixSeparator,
+        Rule::BinaryGroups,
+        Rule::OctalGroups,
+        Rule::DecimalGroups,
+        Rule::HexadecimalGroups,
+        Rule::MinDigits,
+        Rule::FloatZero,
+        Rule::ExponentLetter,
+        Rule::DropExponentPlus,
+        Rule::EscapeDigits,
+        Rule::FewestEscapeDigits,
+        Rule::DropAsciiEscapes,
+        Rule::NamedEscapes,
+        Rule::DropQuoteEscapes,
+        Rule::FewestHashes,
+        Rule::DropRaw,
+        Rule::EscapeInvisible,
+    ]
+}
+
+impl Rule {
+    /// Returns the rule's name in configurations, for example `decimal_groups`.
+    pub fn name(self) -> &'static str
+        ensures { result.now ≡ rule_name self }
+    {
+        match self {
+            Rule::HexDigits => "hex_digits",
+            Rule::DropUnderscores => "drop_underscores",
+            Rule::DropLeadingZeros => "drop_leading_zeros",
+            Rule::SuffixSeparator => "suffix_separator",
+            Rule::BinaryGroups => "binary_groups",
+            Rule::OctalGroups => "octal_groups",
+            Rule::DecimalGroups => "decimal_groups",
+            Rule::HexadecimalGroups => "hexadecimal_groups",
+            Rule::MinDigits => "min_digits",
+            Rule::FloatZero => "float_zero",
+            Rule::ExponentLetter => "exponent_letter",
+            Rule::DropExponentPlus => "drop_exponent_plus",
+            Rule::EscapeDigits => "escape_digits",
+            Rule::FewestEscapeDigits => "fewest_escape_digits",
+            Rule::DropAsciiEscapes => "drop_ascii_escapes",
+            Rule::NamedEscapes => "named_escapes",
+            Rule::DropQuoteEscapes => "drop_quote_escapes",
+            Rule::FewestHashes => "fewest_hashes",
+            Rule::DropRaw => "drop_raw",
+            Rule::EscapeInvisible => "escape_invisible",
+        }
+    }
 }
 
 /// Returns the rule with the name `name`, or `None` if no rule has it.
@@ -65,7 +123,7 @@ pub(crate) fn rule_of(name: &str) -> Option<Rule>
 }
 
 /// Returns the index of a rule in the list of all rules.
-pub(crate) fn number_of(rule: Rule) -> usize
+pub fn number_of(rule: Rule) -> usize
     ensures number { result ≡ rule_number rule }
     ensures within { result < 20 }
 {

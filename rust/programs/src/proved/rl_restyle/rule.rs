@@ -3,12 +3,12 @@
 
 use crate::rl_restyle::style_error::Expected;
 
-/// The number of rules of a style.
-pub(crate) const RULES: usize = 20;
+/// The number of rules that a configuration can set.
+pub const RULES: usize = 20;
 
-/// A rule of a style, or one part of its rule for digit groups.
+/// A rule that a configuration can set: a rule of a style, or one part of its rule for digit groups.
 #[derive(Clone, Copy)]
-pub(crate) enum Rule {
+pub enum Rule {
     HexDigits,
     DropUnderscores,
     DropLeadingZeros,
@@ -29,6 +29,60 @@ pub(crate) enum Rule {
     FewestHashes,
     DropRaw,
     EscapeInvisible,
+}
+
+/// Returns all rules that a configuration can set, in the order of `rl_scan --rules`.
+pub fn all_rules() -> &'static [Rule] {
+    &[
+        Rule::HexDigits,
+        Rule::DropUnderscores,
+        Rule::DropLeadingZeros,
+        Rule::SuffixSeparator,
+        Rule::BinaryGroups,
+        Rule::OctalGroups,
+        Rule::DecimalGroups,
+        Rule::HexadecimalGroups,
+        Rule::MinDigits,
+        Rule::FloatZero,
+        Rule::ExponentLetter,
+        Rule::DropExponentPlus,
+        Rule::EscapeDigits,
+        Rule::FewestEscapeDigits,
+        Rule::DropAsciiEscapes,
+        Rule::NamedEscapes,
+        Rule::DropQuoteEscapes,
+        Rule::FewestHashes,
+        Rule::DropRaw,
+        Rule::EscapeInvisible,
+    ]
+}
+
+impl Rule {
+    /// Returns the rule's name in configurations, for example `decimal_groups`.
+    pub fn name(self) -> &'static str {
+        match self {
+            Rule::HexDigits => "hex_digits",
+            Rule::DropUnderscores => "drop_underscores",
+            Rule::DropLeadingZeros => "drop_leading_zeros",
+            Rule::SuffixSeparator => "suffix_separator",
+            Rule::BinaryGroups => "binary_groups",
+            Rule::OctalGroups => "octal_groups",
+            Rule::DecimalGroups => "decimal_groups",
+            Rule::HexadecimalGroups => "hexadecimal_groups",
+            Rule::MinDigits => "min_digits",
+            Rule::FloatZero => "float_zero",
+            Rule::ExponentLetter => "exponent_letter",
+            Rule::DropExponentPlus => "drop_exponent_plus",
+            Rule::EscapeDigits => "escape_digits",
+            Rule::FewestEscapeDigits => "fewest_escape_digits",
+            Rule::DropAsciiEscapes => "drop_ascii_escapes",
+            Rule::NamedEscapes => "named_escapes",
+            Rule::DropQuoteEscapes => "drop_quote_escapes",
+            Rule::FewestHashes => "fewest_hashes",
+            Rule::DropRaw => "drop_raw",
+            Rule::EscapeInvisible => "escape_invisible",
+        }
+    }
 }
 
 /// Returns the rule with the name `name`, or `None` if no rule has it.
@@ -59,7 +113,7 @@ pub(crate) fn rule_of(name: &str) -> Option<Rule> {
 }
 
 /// Returns the index of a rule in the list of all rules.
-pub(crate) fn number_of(rule: Rule) -> usize {
+pub fn number_of(rule: Rule) -> usize {
     match rule {
         Rule::HexDigits => 0,
         Rule::DropUnderscores => 1,
