@@ -1,5 +1,5 @@
 -- The rules that change a literal. Texts are lists of characters.
-use Rattle.std.specs.Prelude.{◌≡◌, ◌⊎◌, ℕ, List, [], ◌∷◌, ◌++◌, Option, option_map}
+use Rattle.std.specs.Prelude.{◌≡◌, ◌⊎◌, ℕ, Bool, List, [], ◌∷◌, ◌++◌, Option, is_some, option_map}
 use Rattle.rl_style.specs.Rules.{Changes, only}
 use Rattle.rl_style.specs.declared.rules.Rule.{Rule as StyleRule}
 use Rattle.rl_style.specs.declared.rules.Rule.TheVariants as style
@@ -49,6 +49,29 @@ groups_alone rule groups = option_map (own_groups rule) groups
 abbrev pub rule_alone : Style → Rule → Style
 rule_alone given rule =
     record (only given (style_rule rule)) { digit_groups = groups_alone rule (only given (style_rule rule)).digit_groups }
+
+-- The style sets the rule. For a rule for digit groups, this is the case if the style has any digit groups.
+abbrev pub is_set : Style → Rule → Bool
+is_set given HexDigits = is_some given.hex_digits
+is_set given DropUnderscores = given.underscores
+is_set given DropLeadingZeros = given.leading_zeros
+is_set given SuffixSeparator = is_some given.suffix_separator
+is_set given BinaryGroups = is_some given.digit_groups
+is_set given OctalGroups = is_some given.digit_groups
+is_set given DecimalGroups = is_some given.digit_groups
+is_set given HexadecimalGroups = is_some given.digit_groups
+is_set given MinDigits = is_some given.digit_groups
+is_set given FloatZero = given.float_zero
+is_set given ExponentLetter = is_some given.exponent_letter
+is_set given DropExponentPlus = given.exponent_plus
+is_set given EscapeDigits = is_some given.escape_digits
+is_set given FewestEscapeDigits = given.code_digits
+is_set given DropAsciiEscapes = given.ascii_escapes
+is_set given NamedEscapes = given.named_escapes
+is_set given DropQuoteEscapes = given.quote_escapes
+is_set given FewestHashes = given.raw_hashes
+is_set given DropRaw = given.raw
+is_set given EscapeInvisible = given.hidden
 
 -- The rule alone changes the literal `old`. `front` is the text before the literal.
 abbrev pub ChangesAlone : Style → List ℕ → List ℕ → Rule → Type 0

@@ -2,7 +2,7 @@
 
 ghost use Rattle.std.specs.Prelude.{◌≡◌, IfOk, OnOk, option_map};
 ghost use Rattle.std.specs.Str.{chars};
-ghost use Rattle.rl_restyle.specs.Changing.{AreChangingRules, TakesRule, own_groups as groups_of, rule_alone as alone, style_rule as rule_in_style};
+ghost use Rattle.rl_restyle.specs.Changing.{AreChangingRules, TakesRule, is_set as set_in, own_groups as groups_of, rule_alone as alone, style_rule as rule_in_style};
 
 use crate::rule::{Rule, all_rules};
 use crate::texts::new_text;
@@ -91,6 +91,34 @@ fn rule_alone(style: Style, rule: Rule) -> Style
     }
 }
 
+/// Whether the style sets a rule. For a rule for digit groups, this is the case if the style has any digit groups.
+fn is_set(style: Style, rule: Rule) -> bool
+    ensures { result ≡ set_in style rule }
+{
+    match rule {
+        Rule::HexDigits => style.hex_digits.is_some(),
+        Rule::DropUnderscores => style.underscores,
+        Rule::DropLeadingZeros => style.leading_zeros,
+        Rule::SuffixSeparator => style.suffix_separator.is_some(),
+        Rule::BinaryGroups
+        | Rule::OctalGroups
+        | Rule::DecimalGroups
+        | Rule::HexadecimalGroups
+        | Rule::MinDigits => style.digit_groups.is_some(),
+        Rule::FloatZero => style.float_zero,
+        Rule::ExponentLetter => style.exponent_letter.is_some(),
+        Rule::DropExponentPlus => style.exponent_plus,
+        Rule::EscapeDigits => style.escape_digits.is_some(),
+        Rule::FewestEscapeDigits => style.code_digits,
+        Rule::DropAsciiEscapes => style.ascii_escapes,
+        Rule::NamedEscapes => style.named_escapes,
+        Rule::DropQuoteEscapes => style.quote_escapes,
+        Rule::FewestHashes => style.raw_hashes,
+        Rule::DropRaw => style.raw,
+        Rule::EscapeInvisible => style.hidden,
+    }
+}
+
 /// Appends the rule if it alone changes the literal `text`, with its value in the style. `front` is the text before the literal.
 fn push_if_changing<A: Allocator + Copy>(
     alloc: A,
@@ -102,6 +130,9 @@ fn push_if_changing<A: Allocator + Copy>(
 ) -> Result<(), AllocError>
     ensures { OnOk result (TakesRule style (chars front.now) (chars text.now) rule rules.old.items rules.new.items) }
 {
+    if !is_set(style, rule) {
+        return Ok(());
+    }
     let made = new_text(alloc, rule_alone(style, rule), front, text)?;
     if made.is_none() {
         return Ok(());

@@ -95,7 +95,12 @@ fn examples_are_changes() {
             words.extend(["--rule", setting]);
         }
         let text = old.replace("<U+200B>", "\u{200b}");
-        let expected = format!("0..{} {change}\n", text.len());
+        // `min_digits` is a part of the rules for digit groups.
+        let rule = match name {
+            "min_digits" => "decimal_groups",
+            _ => name,
+        };
+        let expected = format!("0..{} {change} [{rule}]\n", text.len());
         assert_eq!(run(&words, &text), (expected, 1), "{example}");
         // A rule that isn't set is off.
         assert_eq!(

@@ -81,6 +81,32 @@ fn rule_alone(style: Style, rule: Rule) -> Style {
     }
 }
 
+/// Whether the style sets a rule. For a rule for digit groups, this is the case if the style has any digit groups.
+fn is_set(style: Style, rule: Rule) -> bool {
+    match rule {
+        Rule::HexDigits => style.hex_digits.is_some(),
+        Rule::DropUnderscores => style.underscores,
+        Rule::DropLeadingZeros => style.leading_zeros,
+        Rule::SuffixSeparator => style.suffix_separator.is_some(),
+        Rule::BinaryGroups
+        | Rule::OctalGroups
+        | Rule::DecimalGroups
+        | Rule::HexadecimalGroups
+        | Rule::MinDigits => style.digit_groups.is_some(),
+        Rule::FloatZero => style.float_zero,
+        Rule::ExponentLetter => style.exponent_letter.is_some(),
+        Rule::DropExponentPlus => style.exponent_plus,
+        Rule::EscapeDigits => style.escape_digits.is_some(),
+        Rule::FewestEscapeDigits => style.code_digits,
+        Rule::DropAsciiEscapes => style.ascii_escapes,
+        Rule::NamedEscapes => style.named_escapes,
+        Rule::DropQuoteEscapes => style.quote_escapes,
+        Rule::FewestHashes => style.raw_hashes,
+        Rule::DropRaw => style.raw,
+        Rule::EscapeInvisible => style.hidden,
+    }
+}
+
 /// Appends the rule if it alone changes the literal `text`, with its value in the style. `front` is the text before the literal.
 fn push_if_changing<A: Allocator + Copy>(
     alloc: A,
@@ -90,6 +116,9 @@ fn push_if_changing<A: Allocator + Copy>(
     front: &str,
     text: &str,
 ) -> Result<(), AllocError> {
+    if !is_set(style, rule) {
+        return Ok(());
+    }
     let made = new_text(alloc, rule_alone(style, rule), front, text)?;
     if made.is_none() {
         return Ok(());
