@@ -10,7 +10,7 @@ use crate::turns::turns;
 use crate::values::equal;
 use rl_commands::Command;
 use rl_grammar::strict::is_token;
-use rl_grammar::{LineEnds, explain, explain_value};
+use rl_grammar::{LineEnds, explain, explain_missing_value};
 use rl_tokens::{Error, ErrorKind, Span, whitespace};
 use rust_literals::{Lit, LitFloat, LitInt};
 
@@ -40,7 +40,7 @@ pub(crate) fn told(name: &str, text: &str, out: &mut Page) {
         "attr" => put_lines(Command::Attr, text, out),
         "source" => put_source(text, out),
         "explain" => put_flaw(explain(text), out),
-        "explain-value" => put_flaw(explain_value(text, LineEnds::Text, true), out),
+        "explain-value" => put_flaw(explain_missing_value(text, LineEnds::Text, true), out),
         "equal" => equal(text, out),
         "pairs" => pairs(text, out),
         "turns" => turns(text, out),

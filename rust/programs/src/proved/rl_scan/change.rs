@@ -2,9 +2,9 @@
 //! Writes the output for a literal that is rewritten.
 
 use crate::rattle_std::prelude::{String};
-use crate::rl_files::needs_escape;
+use crate::rl_files::is_control_invisible_or_bidi;
 use crate::rl_output::{
-    Form, Level, Place, push_annotation_end, push_ascii, push_line_start, push_member,
+    Form, Level, Place, push_annotation_end, push_ascii_str, push_line_start, push_member,
 };
 use crate::rl_restyle::Rule;
 use crate::rattle_std::alloc::{AllocError, Allocator};
@@ -17,7 +17,7 @@ fn push_number<A: Allocator>(out: &mut String<A>, c: char) -> Result<(), AllocEr
 
 /// Appends a character, or its number if it is a control, invisible or bidirectional character.
 fn push_numbered_char<A: Allocator>(out: &mut String<A>, c: char) -> Result<(), AllocError> {
-    if needs_escape(c) {
+    if is_control_invisible_or_bidi(c) {
         return push_number(out, c);
     }
     out.push(c)?;
@@ -28,9 +28,9 @@ fn push_numbered_char<A: Allocator>(out: &mut String<A>, c: char) -> Result<(), 
 /// is written as its number, which differs from its escape.
 fn push_literal_char<A: Allocator>(out: &mut String<A>, c: char) -> Result<(), AllocError> {
     match c {
-        '\n' => push_ascii(out, "\\n"),
-        '\r' => push_ascii(out, "\\r"),
-        '\t' => push_ascii(out, "\\t"),
+        '\n' => push_ascii_str(out, "\\n"),
+        '\r' => push_ascii_str(out, "\\r"),
+        '\t' => push_ascii_str(out, "\\t"),
         _ => push_numbered_char(out, c),
     }
 }
@@ -50,10 +50,10 @@ fn push_name<A: Allocator>(
     mark: &str,
     rule: Rule,
 ) -> Result<(), AllocError> {
-    push_ascii(out, lead)?;
-    push_ascii(out, mark)?;
-    push_ascii(out, rule.name())?;
-    push_ascii(out, mark)
+    push_ascii_str(out, lead)?;
+    push_ascii_str(out, mark)?;
+    push_ascii_str(out, rule.name())?;
+    push_ascii_str(out, mark)
 }
 
 /// Appends the names of rules, each between two marks, with a separator between two names.
@@ -81,11 +81,11 @@ fn push_change_words<A: Allocator>(
     rules: &[Rule],
 ) -> Result<(), AllocError> {
     push_literal(out, old)?;
-    push_ascii(out, " -> ")?;
+    push_ascii_str(out, " -> ")?;
     push_literal(out, new)?;
-    push_ascii(out, " [")?;
+    push_ascii_str(out, " [")?;
     push_names(out, ", ", "", rules)?;
-    push_ascii(out, "]")
+    push_ascii_str(out, "]")
 }
 
 /// Appends the old text of a rewritten literal, `->`, its new text, the names of the rules that change it, and a line end.
@@ -96,7 +96,7 @@ fn push_worded_change<A: Allocator>(
     rules: &[Rule],
 ) -> Result<(), AllocError> {
     push_change_words(out, old, new, rules)?;
-    push_ascii(out, "\n")
+    push_ascii_str(out, "\n")
 }
 
 /// Appends the JSON members for a rewritten literal, `}` and a line end. The members are the old text, the new text, and
@@ -109,9 +109,9 @@ fn push_change_members<A: Allocator>(
 ) -> Result<(), AllocError> {
     push_member(out, "text", old)?;
     push_member(out, "new", new)?;
-    push_ascii(out, ",\"rules\":[")?;
+    push_ascii_str(out, ",\"rules\":[")?;
     push_names(out, ",", "\"", rules)?;
-    push_ascii(out, "]}\n")
+    push_ascii_str(out, "]}\n")
 }
 
 /// Appends a GitHub annotation's text after its position, for a rewritten literal.
