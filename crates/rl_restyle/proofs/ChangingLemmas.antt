@@ -9,7 +9,7 @@ use Rattle.rl_style.specs.declared.style.DigitGroups.{DigitGroups}
 use Rattle.rl_style.specs.declared.style.Separator.{Separator}
 use Rattle.rl_style.specs.declared.style.Style.{Style}
 use Rattle.rl_restyle.specs.Changing.{AreChangingAmong, AreChangingRules, TakesRule, is_set, own_groups, rule_alone}
-use Rattle.rl_restyle.specs.Rules.{all_rules}
+use Rattle.rl_restyle.specs.Rules.{settable_rules}
 use Rattle.rl_restyle.specs.declared.rule.Rule.{Rule}
 use Rattle.rl_restyle.specs.declared.rule.Rule.TheVariants.{HexDigits, DropUnderscores, DropLeadingZeros, SuffixSeparator, BinaryGroups, OctalGroups, DecimalGroups, HexadecimalGroups, MinDigits, FloatZero, ExponentLetter, DropExponentPlus, EscapeDigits, FewestEscapeDigits, DropAsciiEscapes, NamedEscapes, DropQuoteEscapes, FewestHashes, DropRaw, EscapeInvisible}
 use Rattle.rl_restyle.specs.Edits.{IsRewritten, text_in}
@@ -120,7 +120,7 @@ pub record AreTaken (style : Style) (front old : List ℕ) (rest taken : List Ru
   pub goes : (others : List Rule) → AreChangingAmong style front old rest others
       → AreChangingRules style front old (taken ++ others)
 
-pub taken_none : (style : Style) (front old : List ℕ) (rest taken : List Rule) → rest ≡ all_rules → taken ≡ []
+pub taken_none : (style : Style) (front old : List ℕ) (rest taken : List Rule) → rest ≡ settable_rules → taken ≡ []
     → AreTaken style front old rest taken
 taken_none style front old rest taken is none = record {
   goes = λ others are. subst (λ (z : List Rule). AreChangingRules style front old (z ++ others)) (sym none)

@@ -5,7 +5,7 @@ use Rattle.rl_style.specs.declared.rules.Rule.{Rule as StyleRule}
 use Rattle.rl_style.specs.declared.rules.Rule.TheVariants as style
 use Rattle.rl_style.specs.declared.style.DigitGroups.{DigitGroups}
 use Rattle.rl_style.specs.declared.style.Style.{Style}
-use Rattle.rl_restyle.specs.Rules.{all_rules}
+use Rattle.rl_restyle.specs.Rules.{settable_rules}
 use Rattle.rl_restyle.specs.declared.rule.Rule.{Rule}
 use Rattle.rl_restyle.specs.declared.rule.Rule.TheVariants.{HexDigits, DropUnderscores, DropLeadingZeros, SuffixSeparator, BinaryGroups, OctalGroups, DecimalGroups, HexadecimalGroups, MinDigits, FloatZero, ExponentLetter, DropExponentPlus, EscapeDigits, FewestEscapeDigits, DropAsciiEscapes, NamedEscapes, DropQuoteEscapes, FewestHashes, DropRaw, EscapeInvisible}
 
@@ -87,7 +87,7 @@ AreChangingAmong given front old (rule ∷ all) rules =
 
 -- The rules are those of the style each of which alone changes the literal `old`.
 abbrev pub AreChangingRules : Style → List ℕ → List ℕ → List Rule → Type 0
-AreChangingRules given front old rules = AreChangingAmong given front old all_rules rules
+AreChangingRules given front old rules = AreChangingAmong given front old settable_rules rules
 
 -- `after` are the rules `before`, and also the rule `rule` if this rule alone changes the literal `old`.
 abbrev pub TakesRule : Style → List ℕ → List ℕ → Rule → List Rule → List Rule → Type 0

@@ -4,7 +4,7 @@ ghost use Rattle.std.specs.Prelude.{◌≡◌, IfOk, OnOk, option_map};
 ghost use Rattle.std.specs.Str.{chars};
 ghost use Rattle.rl_restyle.specs.Changing.{AreChangingRules, TakesRule, is_set as set_in, own_groups as groups_of, rule_alone as alone, style_rule as rule_in_style};
 
-use crate::rule::{Rule, all_rules};
+use crate::rule::{Rule, settable_rules};
 use crate::texts::new_text;
 use rl_style::{DigitGroups, Rule as StyleRule, Style};
 use std::alloc::{AllocError, Allocator};
@@ -142,7 +142,7 @@ fn push_if_changing<A: Allocator + Copy>(
 }
 
 /// Returns the rules each of which alone changes the literal `text`, with its value in the style. The rules are in the order of
-/// [`all_rules`]. `front` is the text before the literal.
+/// [`settable_rules`]. `front` is the text before the literal.
 ///
 /// A rule for digit groups is combined with `min_digits`, which changes nothing alone.
 ///
@@ -158,7 +158,7 @@ pub fn changing_rules<A: Allocator + Copy>(
     ensures { IfOk result (λ rules. AreChangingRules style (chars front.now) (chars text.now) rules.items) }
 {
     let mut rules = Vec::new(alloc);
-    let mut rest = all_rules();
+    let mut rest = settable_rules();
     while let Some((rule, after)) = rest.split_first() {
         push_if_changing(alloc, &mut rules, style, *rule, front, text)?;
         rest = after;

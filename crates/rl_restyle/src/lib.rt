@@ -16,7 +16,7 @@ mod whole;
 
 pub use crate::changing::changing_rules;
 pub use crate::edit::{Edit, Macros, RestyleError, Restyled};
-pub use crate::rule::{RULES, Rule, all_rules, number_of};
+pub use crate::rule::{RULES, Rule, number_of, settable_rules};
 pub use crate::slices::between;
 pub use crate::style_error::{Expected, StyleError, StyleErrorKind};
 pub use crate::styles::{default_style, parse_style};

@@ -4,7 +4,7 @@ use Rattle.std.specs.Fmt.{decimal}
 use Rattle.std.specs.Io.Iter.{u64_saturate}
 use Rattle.std.specs.List.{flat_map}
 use Rattle.rl_output.specs.Forms.{is_json}
-use Rattle.rl_restyle.specs.Rules.{all_rules, rule_name}
+use Rattle.rl_restyle.specs.Rules.{settable_rules, rule_name}
 use Rattle.rl_restyle.specs.declared.rule.Rule.{Rule}
 use Rattle.rl_options.specs.declared.command.Command.{Command}
 use Rattle.rl_options.specs.declared.command.Restyling.{Restyling}
@@ -23,7 +23,7 @@ tally_of totals = record {
   with_errors = u64_saturate totals.with_errors;
 }
 
--- The line for a rule that changes literals: its name, and the number of literals. A rule that changes no literal has no line.
+-- The line for a rule that changes literals: its name, and the number of literals. If the number is 0, there is no line.
 abbrev pub rule_line : ℕ → Rule → List ℕ
 rule_line count rule =
     cond (count == 0) [] (rule_name rule ++ (codes ": " ++ (decimal count ++ codes "\n")))
@@ -38,10 +38,10 @@ stats_lines tally =
     codes "files: " ++ (decimal tally.read ++ (codes "\nfiles with findings: " ++ (decimal tally.with_findings
     ++ (codes "\nfindings: " ++ (decimal tally.findings ++ (codes "\nfiles with an error: "
     ++ (decimal tally.with_errors
-    ++ (codes "\n" ++ rule_lines tally.rules all_rules))))))))
+    ++ (codes "\n" ++ rule_lines tally.rules settable_rules))))))))
 
--- The JSON member for a rule that changes literals: its name, and the number of literals. `lead` is before the name. A rule that
--- changes no literal has no member.
+-- The JSON member for a rule that changes literals: its name, and the number of literals. `lead` is before the name. If the number is
+-- 0, there is no member.
 abbrev pub rule_member : List ℕ → ℕ → Rule → List ℕ
 rule_member lead count rule =
     cond (count == 0) [] (lead ++ (codes "\"" ++ (rule_name rule ++ (codes "\":" ++ decimal count))))
@@ -56,7 +56,7 @@ rule_members lead counts (rule ∷ rules) =
 -- The member `rules` of the statistics as a JSON object, with a comma before it. If literals aren't rewritten, it is absent.
 abbrev pub rules_member : Option Restyling → List ℕ → List ℕ
 rules_member None counts = []
-rules_member (Some restyling) counts = codes ",\"rules\":{" ++ (rule_members [] counts all_rules ++ codes "}")
+rules_member (Some restyling) counts = codes ",\"rules\":{" ++ (rule_members [] counts settable_rules ++ codes "}")
 
 -- The statistics of a run as a JSON object.
 abbrev pub stats_object : Option Restyling → Tally → List ℕ

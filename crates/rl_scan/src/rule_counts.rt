@@ -2,7 +2,7 @@
 
 ghost use Rattle.std.specs.Prelude.{◌≡◌, ◌+◌};
 ghost use Rattle.std.specs.Io.Iter.{u64_saturate};
-ghost use Rattle.rl_scan.specs.RuleCounts.{both_counts, count_at as count_in, rule_counts as all_counts, times};
+ghost use Rattle.rl_scan.specs.RuleCounts.{both_counts, count_at as count_in, occurrences as times, rule_counts as all_counts};
 
 use rl_restyle::{RULES, Rule, number_of};
 

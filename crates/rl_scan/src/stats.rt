@@ -4,7 +4,7 @@ ghost use Rattle.std.specs.Prelude.{◌≡◌, ◌==◌, ◌++◌, [], cond, cod
 ghost use Rattle.std.specs.Io.KnownBytes.{Appends};
 ghost use Rattle.rl_program.specs.Streams.{AppendsBeginning};
 ghost use Rattle.rl_scan.specs.Reports.{IsAskedCount, IsCount};
-ghost use Rattle.rl_restyle.specs.Rules.{all_rules as all_of_them};
+ghost use Rattle.rl_restyle.specs.Rules.{settable_rules as all_settable};
 ghost use Rattle.rl_scan.specs.Stats.{rule_line, rule_lines, rule_member, rule_members, rules_member, shown_stats, stats_lines, stats_object, stats_text};
 
 use crate::report::scan_text;
@@ -14,7 +14,7 @@ use rl_files::WalkError;
 use rl_options::{Command, Restyling};
 use rl_output::count_line_feeds;
 use rl_program::write_bytes;
-use rl_restyle::{RULES, Rule, all_rules};
+use rl_restyle::{RULES, Rule, settable_rules};
 use rl_sources::{Options, is_json};
 use std::alloc::{AllocError, Allocator};
 use std::io::Write;
@@ -55,7 +55,7 @@ pub(crate) fn requested_count<A: Allocator + Copy>(
     Ok(0)
 }
 
-/// Appends the line for a rule that changes `count` literals, or nothing if the rule changes no literal.
+/// Appends the line for a rule that changes `count` literals. If `count` is 0, nothing is appended.
 fn push_rule_line<A: Allocator>(
     out: &mut String<A>,
     count: u64,
@@ -75,9 +75,9 @@ fn push_rule_lines<A: Allocator>(
     out: &mut String<A>,
     counts: &[u64; RULES],
 ) -> Result<(), AllocError>
-    ensures { OnOk result (string_bytes out.new ≡ string_bytes out.old ++ rule_lines counts.now all_of_them) }
+    ensures { OnOk result (string_bytes out.new ≡ string_bytes out.old ++ rule_lines counts.now all_settable) }
 {
-    let mut rest = all_rules();
+    let mut rest = settable_rules();
     while let Some((rule, after)) = rest.split_first() {
         push_rule_line(out, count_at(counts, *rule), *rule)?;
         rest = after;
@@ -98,8 +98,7 @@ fn push_lines<A: Allocator>(out: &mut String<A>, tally: Tally) -> Result<(), All
     push_rule_lines(out, &tally.rules)
 }
 
-/// Appends the JSON member for a rule that changes `count` literals, or nothing if the rule changes no literal. `lead` is before the
-/// member.
+/// Appends `lead`, and the JSON member for a rule that changes `count` literals. If `count` is 0, nothing is appended.
 fn push_rule_member<A: Allocator>(
     out: &mut String<A>,
     lead: &str,
@@ -127,10 +126,10 @@ fn push_rule_members<A: Allocator>(
     out: &mut String<A>,
     counts: &[u64; RULES],
 ) -> Result<(), AllocError>
-    ensures { OnOk result (string_bytes out.new ≡ string_bytes out.old ++ rule_members [] counts.now all_of_them) }
+    ensures { OnOk result (string_bytes out.new ≡ string_bytes out.old ++ rule_members [] counts.now all_settable) }
 {
     let mut lead = "";
-    let mut rest = all_rules();
+    let mut rest = settable_rules();
     while let Some((rule, after)) = rest.split_first() {
         let count = count_at(counts, *rule);
         push_rule_member(out, lead, count, *rule)?;

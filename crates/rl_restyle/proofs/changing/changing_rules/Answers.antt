@@ -3,7 +3,7 @@ use Rattle.rl_restyle.proofs.ChangingLemmas.{taken_all, taken_none, taken_step}
 use Rattle.rl_restyle.proofs.changing.changing_rules.Goals as goal
 
 pub loop-rule-init : goal.loop-rule-init
-loop-rule-init g c = taken_none c.args.style (chars c.args.front.now) (chars c.args.text.now) _ _ c.all_rules-rest.ensures
+loop-rule-init g c = taken_none c.args.style (chars c.args.front.now) (chars c.args.text.now) _ _ c.settable_rules-rest.ensures
     c.new-rules.ensures.items
 
 pub loop-rule-preserved : goal.loop-rule-preserved

@@ -2,7 +2,7 @@
 //! Finds the rules of a style that change a literal.
 
 use crate::rattle_std::prelude::{Vec};
-use crate::rl_restyle::rule::{Rule, all_rules};
+use crate::rl_restyle::rule::{Rule, settable_rules};
 use crate::rl_restyle::texts::new_text;
 use crate::rl_style::{DigitGroups, Rule as StyleRule, Style};
 use crate::rattle_std::alloc::{AllocError, Allocator};
@@ -128,7 +128,7 @@ fn push_if_changing<A: Allocator + Copy>(
 }
 
 /// Returns the rules each of which alone changes the literal `text`, with its value in the style. The rules are in the order of
-/// [`all_rules`]. `front` is the text before the literal.
+/// [`settable_rules`]. `front` is the text before the literal.
 ///
 /// A rule for digit groups is combined with `min_digits`, which changes nothing alone.
 ///
@@ -142,7 +142,7 @@ pub fn changing_rules<A: Allocator + Copy>(
     text: &str,
 ) -> Result<Vec<Rule, A>, AllocError> {
     let mut rules = Vec::new(alloc);
-    let mut rest = all_rules();
+    let mut rest = settable_rules();
     while let Some((rule, after)) = rest.split_first() {
         push_if_changing(alloc, &mut rules, style, *rule, front, text)?;
         rest = after;

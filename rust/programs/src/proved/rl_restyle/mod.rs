@@ -15,7 +15,7 @@ mod whole;
 
 pub use crate::rl_restyle::changing::changing_rules;
 pub use crate::rl_restyle::edit::{Edit, Macros, RestyleError, Restyled};
-pub use crate::rl_restyle::rule::{RULES, Rule, all_rules, number_of};
+pub use crate::rl_restyle::rule::{RULES, Rule, number_of, settable_rules};
 pub use crate::rl_restyle::slices::between;
 pub use crate::rl_restyle::style_error::{Expected, StyleError, StyleErrorKind};
 pub use crate::rl_restyle::styles::{default_style, parse_style};

@@ -9,30 +9,50 @@ pub const RULES: usize = 20;
 /// A rule that a configuration can set: a rule of a style, or one part of its rule for digit groups.
 #[derive(Clone, Copy)]
 pub enum Rule {
+    /// The case of the digits of hexadecimal integers.
     HexDigits,
+    /// Drops the underscores in numbers.
     DropUnderscores,
+    /// Drops the leading zeros of decimal integers.
     DropLeadingZeros,
+    /// The separator between a number and its suffix.
     SuffixSeparator,
+    /// The group size of binary integers.
     BinaryGroups,
+    /// The group size of octal integers.
     OctalGroups,
+    /// The group size of decimal integers and floats.
     DecimalGroups,
+    /// The group size of hexadecimal integers.
     HexadecimalGroups,
+    /// The smallest number of digits that is divided into groups.
     MinDigits,
+    /// Writes a zero after a dot at the end of a float.
     FloatZero,
+    /// The case of the letter before the exponent of a float.
     ExponentLetter,
+    /// Drops the plus of the exponent of a float.
     DropExponentPlus,
+    /// The case of the hexadecimal digits of escapes.
     EscapeDigits,
+    /// Drops the leading zeros and the underscores in `\u{..}` escapes.
     FewestEscapeDigits,
+    /// Writes visible ASCII characters in place of their numeric escapes.
     DropAsciiEscapes,
+    /// Writes `\n`, `\r`, `\t` and `\0` in place of numeric escapes.
     NamedEscapes,
+    /// Drops the backslash before a quote that doesn't close the literal.
     DropQuoteEscapes,
+    /// Writes raw strings with the fewest hashes.
     FewestHashes,
+    /// Writes raw strings without a backslash and a quote as other strings.
     DropRaw,
+    /// Writes escapes in place of invisible and bidirectional characters.
     EscapeInvisible,
 }
 
 /// Returns all rules that a configuration can set, in the order of `rl_scan --rules`.
-pub fn all_rules() -> &'static [Rule] {
+pub fn settable_rules() -> &'static [Rule] {
     &[
         Rule::HexDigits,
         Rule::DropUnderscores,
@@ -112,7 +132,7 @@ pub(crate) fn rule_of(name: &str) -> Option<Rule> {
     }
 }
 
-/// Returns the index of a rule in the list of all rules.
+/// Returns the index of a rule in the list of [`settable_rules`].
 pub fn number_of(rule: Rule) -> usize {
     match rule {
         Rule::HexDigits => 0,

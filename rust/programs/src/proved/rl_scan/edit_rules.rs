@@ -10,7 +10,7 @@ use crate::rattle_std::alloc::{AllocError, Allocator, Global};
 pub(crate) struct ChangeCount<A: Allocator = Global> {
     /// The number of changed literals.
     pub(crate) literals: usize,
-    /// For each changed literal, the rules that change it.
+    /// The rules that change literals. A rule that changes several literals occurs once for each of them.
     pub(crate) rules: Vec<Rule, A>,
 }
 

@@ -9,7 +9,7 @@ use crate::rl_files::WalkError;
 use crate::rl_options::{Command, Restyling};
 use crate::rl_output::count_line_feeds;
 use crate::rl_program::write_bytes;
-use crate::rl_restyle::{RULES, Rule, all_rules};
+use crate::rl_restyle::{RULES, Rule, settable_rules};
 use crate::rl_sources::{Options, is_json};
 use crate::rattle_std::alloc::{AllocError, Allocator};
 use crate::rattle_std::io::Write;
@@ -46,7 +46,7 @@ pub(crate) fn requested_count<A: Allocator + Copy>(
     Ok(0)
 }
 
-/// Appends the line for a rule that changes `count` literals, or nothing if the rule changes no literal.
+/// Appends the line for a rule that changes `count` literals. If `count` is 0, nothing is appended.
 fn push_rule_line<A: Allocator>(
     out: &mut String<A>,
     count: u64,
@@ -64,7 +64,7 @@ fn push_rule_lines<A: Allocator>(
     out: &mut String<A>,
     counts: &[u64; RULES],
 ) -> Result<(), AllocError> {
-    let mut rest = all_rules();
+    let mut rest = settable_rules();
     while let Some((rule, after)) = rest.split_first() {
         push_rule_line(out, count_at(counts, *rule), *rule)?;
         rest = after;
@@ -83,8 +83,7 @@ fn push_lines<A: Allocator>(out: &mut String<A>, tally: Tally) -> Result<(), All
     push_rule_lines(out, &tally.rules)
 }
 
-/// Appends the JSON member for a rule that changes `count` literals, or nothing if the rule changes no literal. `lead` is before the
-/// member.
+/// Appends `lead`, and the JSON member for a rule that changes `count` literals. If `count` is 0, nothing is appended.
 fn push_rule_member<A: Allocator>(
     out: &mut String<A>,
     lead: &str,
@@ -109,7 +108,7 @@ fn push_rule_members<A: Allocator>(
     counts: &[u64; RULES],
 ) -> Result<(), AllocError> {
     let mut lead = "";
-    let mut rest = all_rules();
+    let mut rest = settable_rules();
     while let Some((rule, after)) = rest.split_first() {
         let count = count_at(counts, *rule);
         push_rule_member(out, lead, count, *rule)?;
