@@ -1,5 +1,5 @@
 -- Lemmas about the output lines for rewritten literals.
-use Rattle.rl_syntax.proofs.Common.{◌≡◌, ℕ, ◌+◌, List, [], ◌∷◌, ◌++◌, length, drop, map, refl, sym, ◌∙◌, ap, subst, arith, append-nil, append_assoc, chars, codes, encode_utf8, false, true, IsCharBoundary, IsUtf8}
+use Rattle.rl_syntax.proofs.Common.{◌≡◌, ℕ, ◌+◌, List, [], ◌∷◌, ◌++◌, length, drop, map, refl, sym, ◌∙◌, ap, subst, arith, append-nil, append_assoc, chars, encode_utf8, false, true, IsCharBoundary, IsUtf8}
 use Rattle.std.proofs.lemmas.Grind.{flat_map-append}
 use Rattle.std.proofs.lemmas.List.{length-drop}
 use Rattle.std.specs.Char.{is_ascii}
@@ -15,12 +15,12 @@ use Rattle.rl_restyle.specs.Places.{AreEditsIn, IsTextBetween}
 use Rattle.rl_sources.proofs.StepLemmas.{in_context}
 use Rattle.rl_sources.specs.Places.{IsContextIn, IsPlaceIn}
 use Rattle.rl_sources.specs.declared.options.Options.{Options}
-use Rattle.rl_restyle.specs.Changing.{AreChangingRules}
-use Rattle.rl_style.specs.Rules.{rule_label}
-use Rattle.rl_style.specs.declared.rules.Rule.{Rule}
-use Rattle.rl_style.specs.declared.rules.Rule.TheVariants.{HexDigits, Underscores, LeadingZeros, SuffixSeparator, DigitGroups, FloatZero, ExponentLetter, ExponentPlus, EscapeDigits, CodeDigits, AsciiEscapes, NamedEscapes, QuoteEscapes, RawHashes, Raw, Hidden}
+use Rattle.rl_restyle.specs.Rules.{rule_name}
+use Rattle.rl_restyle.specs.declared.rule.Rule.{Rule}
+use Rattle.rl_restyle.specs.declared.rule.Rule.TheVariants.{HexDigits, DropUnderscores, DropLeadingZeros, SuffixSeparator, BinaryGroups, OctalGroups, DecimalGroups, HexadecimalGroups, MinDigits, FloatZero, ExponentLetter, DropExponentPlus, EscapeDigits, FewestEscapeDigits, DropAsciiEscapes, NamedEscapes, DropQuoteEscapes, FewestHashes, DropRaw, EscapeInvisible}
 use Rattle.rl_style.specs.declared.style.Style.{Style}
-use Rattle.rl_scan.specs.Changes.{AreChangeLines, IsChangeLine, IsOwnChangeLine, bracketed_number, change_line, marked_label, more_labels, numbered_char, label_list}
+use Rattle.rl_scan.specs.Changes.{AreChangeLines, IsChangeLine, IsOwnChangeLine, bracketed_number, change_line, joined_names, marked_name, numbered_char}
+use Rattle.rl_scan.specs.EditRules.{AreRulesOfEdit}
 
 -- The loop's invariant stays true after one more character is appended, as the function `f` writes it.
 pub shown_more : (f : ℕ → List ℕ) (first old new done : List ℕ) (c : ℕ) → old ≡ first ++ flat_map f done
@@ -58,88 +58,65 @@ left places text rest lo hi old same u s is =
     rw (is, same) (omega (arith, length-drop lo text, cut.ordered, cut.within))
 
 -- A rule's name is ASCII.
-pub ascii_label : (rule : Rule) → list_all is_ascii (rule_label rule) ≡ true
-ascii_label HexDigits = refl
-ascii_label Underscores = refl
-ascii_label LeadingZeros = refl
-ascii_label SuffixSeparator = refl
-ascii_label DigitGroups = refl
-ascii_label FloatZero = refl
-ascii_label ExponentLetter = refl
-ascii_label ExponentPlus = refl
-ascii_label EscapeDigits = refl
-ascii_label CodeDigits = refl
-ascii_label AsciiEscapes = refl
-ascii_label NamedEscapes = refl
-ascii_label QuoteEscapes = refl
-ascii_label RawHashes = refl
-ascii_label Raw = refl
-ascii_label Hidden = refl
+pub ascii_name : (rule : Rule) → list_all is_ascii (rule_name rule) ≡ true
+ascii_name HexDigits = refl
+ascii_name DropUnderscores = refl
+ascii_name DropLeadingZeros = refl
+ascii_name SuffixSeparator = refl
+ascii_name BinaryGroups = refl
+ascii_name OctalGroups = refl
+ascii_name DecimalGroups = refl
+ascii_name HexadecimalGroups = refl
+ascii_name MinDigits = refl
+ascii_name FloatZero = refl
+ascii_name ExponentLetter = refl
+ascii_name DropExponentPlus = refl
+ascii_name EscapeDigits = refl
+ascii_name FewestEscapeDigits = refl
+ascii_name DropAsciiEscapes = refl
+ascii_name NamedEscapes = refl
+ascii_name DropQuoteEscapes = refl
+ascii_name FewestHashes = refl
+ascii_name DropRaw = refl
+ascii_name EscapeInvisible = refl
 
 -- The invariant of the loop over names of rules stays true after one more name.
-pub label_more : (mark whole now middle later : List ℕ) (rest after : List Rule) (rule : Rule) → rest ≡ rule ∷ after
-    → now ++ more_labels mark rest ≡ whole → middle ≡ now ++ codes "," → later ≡ middle ++ marked_label mark rule
-    → later ++ more_labels mark after ≡ whole
-label_more mark whole now middle later rest after rule is told comma label =
-    ap (λ (z : List ℕ). z ++ more_labels mark after)
-    (label ∙ ap (λ (z : List ℕ). z ++ marked_label mark rule) comma
-    ∙ append_assoc now (codes ",") (marked_label mark rule))
-    ∙ append_assoc now (codes "," ++ marked_label mark rule) (more_labels mark after)
-    ∙ subst (λ (z : List Rule). now ++ more_labels mark z ≡ whole) is told
+pub names_more : (separator mark whole now later lead : List ℕ) (rest after : List Rule) (rule : Rule)
+    → rest ≡ rule ∷ after → now ++ joined_names lead separator mark rest ≡ whole
+    → later ≡ now ++ (lead ++ marked_name mark rule)
+    → later ++ joined_names separator separator mark after ≡ whole
+names_more separator mark whole now later lead rest after rule is told written =
+    ap (λ (z : List ℕ). z ++ joined_names separator separator mark after) written
+    ∙ append_assoc now (lead ++ marked_name mark rule) (joined_names separator separator mark after)
+    ∙ ap (λ (z : List ℕ). now ++ z)
+    (append_assoc lead (marked_name mark rule) (joined_names separator separator mark after))
+    ∙ subst (λ (z : List Rule). now ++ joined_names lead separator mark z ≡ whole) is told
 
 -- After the last name, all names are written.
-pub label_end : (mark whole now : List ℕ) (rest : List Rule) → length rest ≡ 0 → now ++ more_labels mark rest ≡ whole
-    → now ≡ whole
-label_end mark whole now [] none told = sym (append-nil now) ∙ told
-label_end mark whole now (rule ∷ rest) none told = absurd (omega (arith, none))
-
--- The first name and those after it are all names. `list_none` is the lemma for no rule.
-pub list_told : (mark old middle later : List ℕ) (rules others : List Rule) (rule : Rule) → rules ≡ rule ∷ others
-    → middle ≡ old ++ marked_label mark rule → later ≡ middle ++ more_labels mark others
-    → later ≡ old ++ label_list mark rules
-list_told mark old middle later rules others rule is label more =
-    more ∙ ap (λ (z : List ℕ). z ++ more_labels mark others) label
-    ∙ append_assoc old (marked_label mark rule) (more_labels mark others)
-    ∙ ap (λ (z : List Rule). old ++ label_list mark z) (sym is)
-
-pub list_none : (mark old : List ℕ) (rules : List Rule) → length rules ≡ 0 → old ≡ old ++ label_list mark rules
-list_none mark old [] none = sym (append-nil old)
-list_none mark old (rule ∷ rules) none = absurd (omega (arith, none))
-
--- The text before a literal is a part of the source.
-pub front_between : (text : List ℕ) (lo hi : ℕ) (old : List ℕ) → (stands : IsTextBetween text lo hi old)
-    → IsTextBetween text 0 lo stands.front
-front_between text lo hi old stands = record {
-  front = [];
-  rest = old ++ stands.rest;
-  text_is = stands.text_is;
-  lo_is = refl;
-  hi_is = stands.lo_is;
-}
+pub names_end : (separator mark whole now lead : List ℕ) (rest : List Rule) → length rest ≡ 0
+    → now ++ joined_names lead separator mark rest ≡ whole → now ≡ whole
+names_end separator mark whole now lead [] none told = sym (append-nil now) ∙ told
+names_end separator mark whole now lead (rule ∷ rest) none told = absurd (omega (arith, none))
 
 -- The line that the code appends for one rewritten literal is the output line for it.
-pub change_told : (style : Style) (options : Options) (places text front front_text old old_text new : List ℕ)
-    (rules : List Rule) (lo hi : ℕ) (place : Place) (before after : List ℕ) → places ≡ text
-    → IsPlaceIn options (chars places) lo hi place → IsTextBetween (chars text) 0 lo front → front_text ≡ front
-    → IsTextBetween (chars text) lo hi old → old_text ≡ old → AreChangingRules style front_text old_text rules
+pub change_told : (style : Style) (options : Options) (places text old old_text new : List ℕ) (rules : List Rule) (lo hi : ℕ)
+    (place : Place) (before after : List ℕ) → places ≡ text → IsPlaceIn options (chars places) lo hi place
+    → IsTextBetween (chars text) lo hi old → old_text ≡ old → AreRulesOfEdit style (chars text) (lo, hi, new) rules
     → after ≡ before ++ change_line options.form options.path place old_text new rules
     → Appends (IsOwnChangeLine style options (chars text) (lo, hi, new)) before after
-change_told style options places text front front_text old old_text new rules lo hi place before after same is begins front_is
-    stands old_is changing told = (
-      change_line options.form options.path place old_text new rules,
-      (
-        place,
-        front_text,
-        old_text,
-        rules,
-        subst (λ (t : List ℕ). IsPlaceIn options (chars t) lo hi place) same is,
-        subst (λ (t : List ℕ). IsTextBetween (chars text) 0 lo t) (sym front_is) begins,
-        subst (λ (t : List ℕ). IsTextBetween (chars text) lo hi t) (sym old_is) stands,
-        changing,
-        refl,
-      ),
-      told,
-    )
+change_told style options places text old old_text new rules lo hi place before after same is stands old_is changing told = (
+  change_line options.form options.path place old_text new rules,
+  (
+    place,
+    old_text,
+    rules,
+    subst (λ (t : List ℕ). IsPlaceIn options (chars t) lo hi place) same is,
+    subst (λ (t : List ℕ). IsTextBetween (chars text) lo hi t) (sym old_is) stands,
+    changing,
+    refl,
+  ),
+  told,
+)
 
 -- The line for one rewritten literal, and then the lines of context below it, are the output for it.
 pub change_in_context : (style : Style) (options : Options) (places text new : List ℕ) (lo hi : ℕ) (before middle after : List ℕ)
