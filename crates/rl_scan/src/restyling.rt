@@ -181,15 +181,14 @@ fn report_fixed<A: Allocator + Copy, F: Replace>(
         r (F.handed files.old) (F.handed files.new)) }
     ensures kept { OnErr result (F.handed files.new ≡ F.handed files.old) }
 {
-    let edits = restyled.edits.len();
     if is_input(path) {
-        let new = restyled.text.into_bytes();
-        return Ok(report_out(alloc, new, edits != 0, count));
+        let found = !restyled.edits.as_slice().is_empty();
+        return Ok(report_out(alloc, restyled.text.into_bytes(), found, count));
     }
-    if edits == 0 {
+    if restyled.edits.as_slice().is_empty() {
         return Ok(report_out(alloc, Vec::new(alloc), false, count));
     }
-    let out = fixed(alloc, command, named, edits)?.into_bytes();
+    let out = fixed(alloc, command, named, restyled.edits.len())?.into_bytes();
     report_replaced(alloc, files, path, text, restyled.text.as_str(), out, count)
 }
 

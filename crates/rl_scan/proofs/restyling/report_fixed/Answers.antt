@@ -1,6 +1,6 @@
-use Rattle.rl_syntax.proofs.Common.{inl, inr, length-map, map, string_bytes, sym, [], ◌∙◌}
+use Rattle.rl_syntax.proofs.Common.{inl, inr, length, length-map, map, string_bytes, sym, [], ◌∙◌}
 use Rattle.rl_restyle.specs.Edits.{edit_in}
-use Rattle.rl_scan.specs.Restyling.{IsFixed, IsReplaced}
+use Rattle.rl_scan.specs.Restyling.{IsFixed, IsReplaced, fixed_of}
 use Rattle.rl_scan.proofs.Handing.{hands_none}
 use Rattle.rl_scan.proofs.VisitLemmas.{reports_as}
 use Rattle.rl_scan.proofs.restyling.report_fixed.Goals as goal
@@ -11,7 +11,35 @@ returns-then-is_input-clause-reports g c = (
   inl (
     sym c.is_input.ensures ∙ c.if-is_input.true,
     rw (length-map c.args.restyled.edits.items edit_in)
-        (rw (c.into_bytes-new.ensures.value, c.len-edits.ensures) at c.report_out.ensures),
+        (rw (c.into_bytes.ensures.value, c.is_empty.ensures, c.as_slice.ensures.value) at c.report_out.ensures),
   ),
   hands_none _,
 )
+
+pub returns-then-is_empty-clause-reports : goal.returns-then-is_empty-clause-reports
+returns-then-is_empty-clause-reports g c = (
+  [],
+  inr (inl (
+    sym c.is_input.ensures ∙ c.if-is_input.false,
+    rw (length-map c.args.restyled.edits.items edit_in)
+        (rw c.as_slice-2.ensures.value at (sym c.is_empty-2.ensures ∙ c.if-is_empty.true)),
+    rw c.new.ensures.items at c.report_out-then-is_empty.ensures,
+  )),
+  hands_none _,
+)
+
+pub returns-clause-reports : goal.returns-clause-reports
+returns-clause-reports g c = reports_as
+    (IsReplaced c.args.path.now c.args.text.now (string_bytes c.args.restyled.text) c.into_bytes-out.result.items
+    (c.args.count.literals, c.args.count.rules.items))
+    (IsFixed c.args.command c.args.path.now c.args.named c.args.text.now (string_bytes c.args.restyled.text)
+    (map edit_in c.args.restyled.edits.items) (c.args.count.literals, c.args.count.rules.items))
+    c.report_replaced.result _ _
+    (λ f is. inr (inr (
+      sym c.is_input.ensures ∙ c.if-is_input.false,
+      rw (length-map c.args.restyled.edits.items edit_in)
+          (rw c.as_slice-2.ensures.value at (sym c.is_empty-2.ensures ∙ c.if-is_empty.false)),
+      rw (length-map c.args.restyled.edits.items edit_in)
+          (rw (c.into_bytes-out.ensures.value, c.in_ok-fixed.ensures, c.len.ensures) at is),
+    )))
+    (rw c.as_str.ensures.value at c.report_replaced.ensures.reports)
