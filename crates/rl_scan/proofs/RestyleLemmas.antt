@@ -1,5 +1,5 @@
 -- Lemmas about the output for a source whose literals are rewritten.
-use Rattle.rl_syntax.proofs.Common.{List, Option, [], ◌∷◌, false, inl, inr, refl, subst, sym, ℕ, ◌≡◌, ◌∙◌}
+use Rattle.rl_syntax.proofs.Common.{List, Option, [], ◌∷◌, inl, inr, refl, subst, sym, true, ℕ, ◌≡◌, ◌∙◌}
 use Rattle.std.specs.Prelude.{IfOk, Ok, Err}
 use Rattle.std.specs.declared.result.Result.{Result}
 use Rattle.rl_files.specs.Replacements.{Replacement}

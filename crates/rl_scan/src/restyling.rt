@@ -18,7 +18,7 @@ use crate::{Outcome, push_changes, push_diff, rewrite_outcome, source_check_opti
 use rl_files::{Replace, push_visible};
 use rl_options::{Command, Output, Restyling, visible_text};
 use rl_restyle::{Macros, Restyled};
-use rl_sources::Options;
+use rl_sources::{Form, Options};
 use rl_style::Style;
 use std::alloc::{AllocError, Allocator};
 
@@ -124,20 +124,18 @@ fn report_compared<A: Allocator + Copy>(
 /// number.
 fn fixed<A: Allocator>(
     alloc: A,
-    command: Command<'_>,
+    output: Output,
+    nul: bool,
+    form: Form,
     path: Option<&str>,
     edits: usize,
 ) -> Result<String<A>, AllocError>
-    ensures { IfOk result (λ out. string_bytes out
-        ≡ fixed_of command.entry.output command.entry.nul_after_paths command.entry.form path.entry edits) }
+    ensures { IfOk result (λ out. string_bytes out ≡ fixed_of output nul form path.entry edits) }
 {
     let mut line = String::new(alloc);
-    let nul = command.nul_after_paths;
-    match command.output {
-        Output::Lines | Output::Count => {
-            push_count_line(&mut line, nul, command.form, path, edits)?
-        }
-        Output::Path => push_path_line(&mut line, nul, command.form, path)?,
+    match output {
+        Output::Lines | Output::Count => push_count_line(&mut line, nul, form, path, edits)?,
+        Output::Path => push_path_line(&mut line, nul, form, path)?,
         Output::Nothing => {}
     }
     Ok(line)
@@ -188,7 +186,9 @@ fn report_fixed<A: Allocator + Copy, F: Replace>(
     if restyled.edits.as_slice().is_empty() {
         return Ok(report_out(alloc, Vec::new(alloc), false, count));
     }
-    let out = fixed(alloc, command, named, restyled.edits.len())?.into_bytes();
+    let edits = restyled.edits.as_slice().len();
+    let nul = command.nul_after_paths;
+    let out = fixed(alloc, command.output, nul, command.form, named, edits)?.into_bytes();
     report_replaced(alloc, files, path, text, restyled.text.as_str(), out, count)
 }
 

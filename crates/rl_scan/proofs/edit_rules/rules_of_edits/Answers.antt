@@ -15,7 +15,7 @@ loop-edit-preserved g c = ruled_step c.args.style (chars c.args.text.now) (map e
     (map edit_in c.loop-edit.rest.now) (map edit_in c.in-Some.after.now) (edit_in c.in-Some.edit.now)
     c.loop-edit.rules.items c.in_ok-own.own.items c.extend_from_slice.new.self.items
     (ap (map edit_in) c.in-Some.ensures.cases.0) c.loop-edit.invariant.0 c.loop-edit.invariant.1 c.in_ok-own.ensures
-    (rw c.as_slice.ensures.value at c.in_ok-extend_from_slice.ensures.ok)
+    (rw c.as_slice.ensures.value at c.in_ok-extend_from_slice.ensures.items)
 
 pub returns : goal.returns
 returns g c = ruled_end edit_in c.loop-edit.rest.now c.args.style (chars c.args.text.now)

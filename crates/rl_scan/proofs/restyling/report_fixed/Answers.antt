@@ -1,4 +1,4 @@
-use Rattle.rl_syntax.proofs.Common.{inl, inr, length, length-map, map, string_bytes, sym, [], ◌∙◌}
+use Rattle.rl_syntax.proofs.Common.{List, ap, inl, inr, length, length-map, map, string_bytes, subst, sym, [], ℕ, ◌∙◌}
 use Rattle.rl_restyle.specs.Edits.{edit_in}
 use Rattle.rl_scan.specs.Restyling.{IsFixed, IsReplaced, fixed_of}
 use Rattle.rl_scan.proofs.Handing.{hands_none}
@@ -11,7 +11,7 @@ returns-then-is_input-clause-reports g c = (
   inl (
     sym c.is_input.ensures ∙ c.if-is_input.true,
     rw (length-map c.args.restyled.edits.items edit_in)
-        (rw (c.into_bytes.ensures.value, c.is_empty.ensures, c.as_slice.ensures.value) at c.report_out.ensures),
+        (rw (c.into_bytes.ensures.value, c.is_empty-found.ensures, c.as_slice.ensures.value) at c.report_out.ensures),
   ),
   hands_none _,
 )
@@ -22,7 +22,7 @@ returns-then-is_empty-clause-reports g c = (
   inr (inl (
     sym c.is_input.ensures ∙ c.if-is_input.false,
     rw (length-map c.args.restyled.edits.items edit_in)
-        (rw c.as_slice-2.ensures.value at (sym c.is_empty-2.ensures ∙ c.if-is_empty.true)),
+        (rw c.as_slice-2.ensures.value at (sym c.is_empty.ensures ∙ c.if-is_empty.true)),
     rw c.new.ensures.items at c.report_out-then-is_empty.ensures,
   )),
   hands_none _,
@@ -38,8 +38,10 @@ returns-clause-reports g c = reports_as
     (λ f is. inr (inr (
       sym c.is_input.ensures ∙ c.if-is_input.false,
       rw (length-map c.args.restyled.edits.items edit_in)
-          (rw c.as_slice-2.ensures.value at (sym c.is_empty-2.ensures ∙ c.if-is_empty.false)),
-      rw (length-map c.args.restyled.edits.items edit_in)
-          (rw (c.into_bytes-out.ensures.value, c.in_ok-fixed.ensures, c.len.ensures) at is),
+          (rw c.as_slice-2.ensures.value at (sym c.is_empty.ensures ∙ c.if-is_empty.false)),
+      subst (λ (out : List ℕ). IsReplaced c.args.path.now c.args.text.now (string_bytes c.args.restyled.text) out
+          (c.args.count.literals, c.args.count.rules.items) f) (ap (λ bytes. bytes.items) c.into_bytes-out.ensures.value ∙ c.in_ok-fixed.ensures
+          ∙ ap (fixed_of c.args.command.output c.args.command.nul_after_paths c.args.command.form c.args.named)
+          (ap length c.as_slice-edits.ensures.value ∙ sym (length-map c.args.restyled.edits.items edit_in))) is,
     )))
     (rw c.as_str.ensures.value at c.report_replaced.ensures.reports)

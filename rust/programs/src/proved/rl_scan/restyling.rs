@@ -11,7 +11,7 @@ use crate::rl_scan::{Outcome, push_changes, push_diff, rewrite_outcome, source_c
 use crate::rl_files::{Replace, push_visible};
 use crate::rl_options::{Command, Output, Restyling, visible_text};
 use crate::rl_restyle::{Macros, Restyled};
-use crate::rl_sources::Options;
+use crate::rl_sources::{Form, Options};
 use crate::rl_style::Style;
 use crate::rattle_std::alloc::{AllocError, Allocator};
 
@@ -104,17 +104,16 @@ fn report_compared<A: Allocator + Copy>(
 /// number.
 fn fixed<A: Allocator>(
     alloc: A,
-    command: Command<'_>,
+    output: Output,
+    nul: bool,
+    form: Form,
     path: Option<&str>,
     edits: usize,
 ) -> Result<String<A>, AllocError> {
     let mut line = String::new(alloc);
-    let nul = command.nul_after_paths;
-    match command.output {
-        Output::Lines | Output::Count => {
-            push_count_line(&mut line, nul, command.form, path, edits)?
-        }
-        Output::Path => push_path_line(&mut line, nul, command.form, path)?,
+    match output {
+        Output::Lines | Output::Count => push_count_line(&mut line, nul, form, path, edits)?,
+        Output::Path => push_path_line(&mut line, nul, form, path)?,
         Output::Nothing => {}
     }
     Ok(line)
@@ -156,7 +155,9 @@ fn report_fixed<A: Allocator + Copy, F: Replace>(
     if restyled.edits.as_slice().is_empty() {
         return Ok(report_out(alloc, Vec::new(alloc), false, count));
     }
-    let out = fixed(alloc, command, named, restyled.edits.len())?.into_bytes();
+    let edits = restyled.edits.as_slice().len();
+    let nul = command.nul_after_paths;
+    let out = fixed(alloc, command.output, nul, command.form, named, edits)?.into_bytes();
     report_replaced(alloc, files, path, text, restyled.text.as_str(), out, count)
 }
 
