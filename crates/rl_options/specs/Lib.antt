@@ -10,4 +10,5 @@ pub mod Words
 pub mod Listed
 pub mod Rules
 pub mod RulesPage
+pub mod Generated
 pub mod Settings

@@ -41,11 +41,13 @@ rewriting_mode (Some restyling.Fix) printing = mode.Fix
 rewriting_mode (Some restyling.Check) printing = mode.Check
 rewriting_mode (Some restyling.Diff) printing = mode.Diff
 
--- The mode of a command that prints the help, the version or the rules of a style, or else the mode `other`.
+-- The mode of a command that prints the help, the version, the rules of a style, or a text for another program, or else the mode
+-- `other`.
 abbrev pub acting_mode : Action → Mode → Mode
 acting_mode action.Help other = mode.Help
 acting_mode action.Version other = mode.Help
 acting_mode action.Rules other = mode.Help
+acting_mode (action.Generate which) other = mode.Help
 acting_mode action.Scan other = other
 acting_mode action.Files other = other
 
@@ -96,13 +98,13 @@ is_in m modes.Printing = not (rewrites m)
 is_in m modes.Rewriting = rewrites m
 is_in m modes.BadOrRewriting = rewrites m || is_bad_mode m
 
--- In the mode, the help or the version is printed.
+-- In the mode, the help, the version, the rules of a style, or a text for another program is printed.
 abbrev pub is_help_mode : Mode → Bool
 is_help_mode mode.Help = true
 is_help_mode _ = false
 
--- An option of these modes may be used in the mode. Beside `--help`, `--version` and `--rules`, any option may
--- be used.
+-- An option of these modes may be used in the mode. Beside `--help`, `--version`, `--rules` and `--generate`, any option may be
+-- used.
 abbrev pub goes_with : Modes → Mode → Bool
 goes_with among m = is_help_mode m || is_in m among
 
@@ -196,7 +198,7 @@ option_without_effect w =
 
 -- The words for a mode in a message.
 abbrev pub mode_words : Mode → List ℕ
-mode_words mode.Help = codes "with --help, --version or --rules"
+mode_words mode.Help = codes "with --help, --version, --rules or --generate"
 mode_words mode.Unselected = codes "without a mode"
 mode_words mode.Only = codes "with --only"
 mode_words mode.Find = codes "with --find"

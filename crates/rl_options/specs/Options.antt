@@ -62,6 +62,7 @@ options =
     option_entry (codes "--rule") None (Takes takes.Rule) modes.Rewriting ∷
     option_entry (codes "--macros") None (Takes takes.Macros) modes.BadOrRewriting ∷
     option_entry (codes "--rules") None (Sets Rules) modes.All ∷
+    option_entry (codes "--generate") None (Takes takes.Generated) modes.All ∷
     option_entry (codes "--help") (Some (code "h")) (Sets Help) modes.All ∷
     option_entry (codes "--version") (Some (code "V")) (Sets Version) modes.All ∷
     option_entry (codes "--") None EndsOptions modes.All ∷

@@ -8,6 +8,7 @@ use Rattle.rl_options.specs.declared.command.PlaceForm.TheVariants as form
 use Rattle.rl_options.specs.declared.command.Output.TheVariants as output
 use Rattle.rl_options.specs.declared.command.Restyling.TheVariants as restyling
 use Rattle.rl_restyle.specs.declared.edit.Macros.{Macros as AnyMacros}
+use Rattle.rl_options.specs.declared.command.GeneratedText.{GeneratedText as AnyGenerated}
 use Rattle.rl_output.specs.declared.form.Form.TheVariants as written
 use Rattle.rl_output.specs.declared.choice.Spelling.TheVariants.{Source}
 use Rattle.rl_options.specs.declared.flags.Flag.{Flag}
@@ -23,9 +24,9 @@ use Rattle.rl_options.specs.declared.flags.Next.{Next}
 use Rattle.rl_options.specs.declared.flags.Next.TheVariants as next
 use Rattle.rl_options.specs.declared.flags.When.{When}
 use Rattle.rl_options.specs.declared.argument_error.ArgumentError.{ArgumentError}
-use Rattle.rl_options.specs.declared.argument_error.ArgumentError.TheVariants.{Memory, UnknownOption, UnknownLetter, NoValue, UnknownKind, NoKinds, TwoChoices, NoText, EmptyText, BadAndFind, TextlessKinds, ObjectsOfPaths, StatsOfPaths, TwoRestylings, NoEffect, InputTwice, TwoStyles, NoStyle, NoRule, NoMacros, UnknownMacros, NoColor, UnknownColor, NoExtension, NoPattern, EmptyPattern, OtherPattern, UselessPattern, UnknownExtension, NoList, NoEdition, UnknownEdition, NoFormat, UnknownFormat, NoCount, UnknownCount}
+use Rattle.rl_options.specs.declared.argument_error.ArgumentError.TheVariants.{Memory, UnknownOption, UnknownLetter, NoValue, UnknownKind, NoKinds, TwoChoices, NoText, EmptyText, BadAndFind, TextlessKinds, ObjectsOfPaths, StatsOfPaths, TwoRestylings, NoEffect, InputTwice, TwoStyles, NoStyle, NoRule, NoMacros, UnknownMacros, NoGenerated, UnknownGenerated, NoColor, UnknownColor, NoExtension, NoPattern, EmptyPattern, OtherPattern, UselessPattern, UnknownExtension, NoList, NoEdition, UnknownEdition, NoFormat, UnknownFormat, NoCount, UnknownCount}
 use Rattle.rl_options.specs.Meant.{option_part}
-use Rattle.rl_options.specs.Flags.{AreKindWords, IsCountWord, IsSide, IsUnknownKind, color_word, colored_form, edition_word, format_word, formatted, has_other_mark, is_more_than_extension, matches_nothing, is_path_word, macros_word, recolored}
+use Rattle.rl_options.specs.Flags.{AreKindWords, IsCountWord, IsSide, IsUnknownKind, color_word, colored_form, edition_word, format_word, formatted, generated_word, has_other_mark, is_more_than_extension, matches_nothing, is_path_word, macros_word, recolored}
 use Rattle.rl_options.specs.Wishes.{AllWanted, BadWanted, HiddenWanted, OnlyWanted, Wishes, first_wishes}
 use Rattle.rl_options.specs.Clashes.{GoTogether, IsFirstClash}
 
@@ -152,6 +153,8 @@ IsTaken has_colors takes.Style old file new = new ≡ record old { style = Some 
 IsTaken has_colors takes.Rule old setting new = new ≡ with_setting setting old
 IsTaken has_colors takes.Macros old word new =
     (macros : AnyMacros) × (word ≡ macros_word macros) × (new ≡ record old { macros = Some macros })
+IsTaken has_colors takes.Generated old word new =
+    (which : AnyGenerated) × (word ≡ generated_word which) × (new ≡ record old { action = action.Generate which })
 
 -- `new` is the command `old` with a group of short options added, and `then` is what the next argument may be. The value of an
 -- option follows its letter, or is the next argument.
@@ -232,6 +235,10 @@ word_message NoStyle = codes "--style needs a value, such as --style style.txt"
 word_message NoRule = codes "--rule needs a value, such as --rule fewest_hashes: rl_scan --rules lists all rules"
 word_message NoMacros = codes "--macros needs a value: skip or all"
 word_message (UnknownMacros word) = codes "unknown value '" ++ (string_bytes word ++ codes "' of --macros: expected skip or all")
+word_message NoGenerated = codes "--generate needs a value: man, bash, zsh, fish, sarif-jq or problem-matcher"
+word_message (UnknownGenerated word) =
+    codes "unknown value '" ++ (string_bytes word
+    ++ codes "' of --generate: expected man, bash, zsh, fish, sarif-jq or problem-matcher")
 word_message NoColor = codes "--color needs a value: auto, always or never"
 word_message (UnknownColor word) =
     codes "unknown value '" ++ (string_bytes word ++ codes "' of --color: expected auto, always or never")
@@ -292,6 +299,9 @@ IsRejectedText operand text (UnknownCount said) =
     × (chars (string_bytes said) ≡ visible (chars text))
 IsRejectedText operand text (UnknownMacros said) =
     (operand ≡ takes.Macros) × ((macros : AnyMacros) → text ≢ macros_word macros)
+    × (chars (string_bytes said) ≡ visible (chars text))
+IsRejectedText operand text (UnknownGenerated said) =
+    (operand ≡ takes.Generated) × ((which : AnyGenerated) → text ≢ generated_word which)
     × (chars (string_bytes said) ≡ visible (chars text))
 IsRejectedText operand text _ = ⊥
 
@@ -375,6 +385,7 @@ IsMissing takes.After error = error ≡ NoCount
 IsMissing takes.Style error = error ≡ NoStyle
 IsMissing takes.Rule error = error ≡ NoRule
 IsMissing takes.Macros error = error ≡ NoMacros
+IsMissing takes.Generated error = error ≡ NoGenerated
 
 -- The error in the command-line arguments: an argument is invalid, an option's value is missing at the end, or options contradict
 -- each other.

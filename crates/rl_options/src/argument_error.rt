@@ -49,6 +49,10 @@ pub enum ArgumentError<A: Allocator = Global> {
     NoMacros,
     /// The value of `--macros` is unknown.
     UnknownMacros(String<A>),
+    /// `--generate` is the last argument, without its value.
+    NoGenerated,
+    /// The value of `--generate` is unknown.
+    UnknownGenerated(String<A>),
     /// `--color` is the last argument, without its value.
     NoColor,
     /// The value of `--color` is unknown.
@@ -169,6 +173,14 @@ impl<A: Allocator> fmt::Display for ArgumentError<A> {
                     "unknown value '{word}' of --macros: expected skip or all"
                 )
             }
+            ArgumentError::NoGenerated => write!(
+                f,
+                "--generate needs a value: man, bash, zsh, fish, sarif-jq or problem-matcher"
+            ),
+            ArgumentError::UnknownGenerated(word) => write!(
+                f,
+                "unknown value '{word}' of --generate: expected man, bash, zsh, fish, sarif-jq or problem-matcher"
+            ),
             ArgumentError::NoColor => write!(f, "--color needs a value: auto, always or never"),
             ArgumentError::UnknownColor(word) => {
                 write!(

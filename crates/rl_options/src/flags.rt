@@ -2,17 +2,18 @@
 
 ghost use Rattle.std.specs.Prelude.{◌≡◌, ◌≢◌, ◌++◌, ℕ, List, IfOk, IfErr, IfSome, IfNone, MatchBool};
 ghost use Rattle.rl_restyle.specs.declared.edit.Macros.{Macros as AnyMacros};
+ghost use Rattle.rl_options.specs.declared.command.GeneratedText.{GeneratedText as AnyGenerated};
 ghost use Rattle.rl_options.specs.declared.flags.Effect.TheVariants as effects;
 ghost use Rattle.rl_options.specs.declared.flags.Format.{Format as AnyFormat};
 ghost use Rattle.rl_flaws.specs.declared.before.Edition.{Edition as AnyEdition};
 ghost use Rattle.rl_options.specs.declared.flags.Operand.{Operand};
 ghost use Rattle.rl_options.specs.declared.flags.When.{When};
-ghost use Rattle.rl_options.specs.Flags.{IsCountWord, color_word, macros_word, colored_form, recolored as with_colors, edition_word, format_word, formatted, has_other_mark as other_mark, is_more_than_extension, matches_nothing as is_useless};
+ghost use Rattle.rl_options.specs.Flags.{IsCountWord, color_word, macros_word, colored_form, recolored as with_colors, edition_word, format_word, formatted, generated_word, has_other_mark as other_mark, is_more_than_extension, matches_nothing as is_useless};
 ghost use Rattle.rl_options.specs.Wishes.{wishes_of};
 ghost use Rattle.rl_options.specs.Words.{IsAllowed, GoesWithFind, GoesWithOptions, RestylesOnce, IsRejectedEffect, with_effect as affected, with_flag as flagged, next_after as follows};
 
 use crate::argument_error::ArgumentError;
-use crate::command::{Action, Command, Macros, Output, PlaceForm, Restyling};
+use crate::command::{Action, Command, GeneratedText, Macros, Output, PlaceForm, Restyling};
 use rl_flaws::Edition;
 use rl_output::{Form, Matching, Shown, Spelling};
 use std::alloc::Allocator;
@@ -77,6 +78,8 @@ pub(crate) enum Operand {
     Rule,
     /// A word that determines whether literals in macro code are treated as all others.
     Macros,
+    /// The name of a text for another program.
+    Generated,
 }
 
 /// The effect of an option.
@@ -335,6 +338,22 @@ pub(crate) fn macros_of(word: &str) -> Option<Macros>
     match word {
         "skip" => Some(Macros::Skip),
         "all" => Some(Macros::All),
+        _ => None,
+    }
+}
+
+/// Returns the text that `word` names as the value of `--generate`, or `None` if the value is unknown.
+pub(crate) fn generated_of(word: &str) -> Option<GeneratedText>
+    ensures known { IfSome result (λ which. word.now ≡ generated_word which) }
+    ensures unknown { IfNone result ((which : AnyGenerated) → word.now ≢ generated_word which) }
+{
+    match word {
+        "man" => Some(GeneratedText::Man),
+        "bash" => Some(GeneratedText::Bash),
+        "zsh" => Some(GeneratedText::Zsh),
+        "fish" => Some(GeneratedText::Fish),
+        "sarif-jq" => Some(GeneratedText::SarifJq),
+        "problem-matcher" => Some(GeneratedText::ProblemMatcher),
         _ => None,
     }
 }

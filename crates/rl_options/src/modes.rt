@@ -11,7 +11,7 @@ use rl_output::{Form, Shown, Spelling};
 /// The mode of a command: what is printed or rewritten.
 #[derive(Clone, Copy)]
 pub(crate) enum Mode {
-    /// The help, the version or the rules of a style are printed.
+    /// The help, the version, the rules of a style, or a text for another program is printed.
     Help,
     /// No option selects a mode: all literals are printed.
     Unselected,
@@ -66,7 +66,7 @@ pub(crate) fn mode_of(command: Command<'_>) -> Mode
     ensures { result ≡ selected (wishes_of command.entry [] [] [] [] [] []) }
 {
     match (command.action, command.restyle) {
-        (Action::Help | Action::Version | Action::Rules, _) => Mode::Help,
+        (Action::Help | Action::Version | Action::Rules | Action::Generate(_), _) => Mode::Help,
         (Action::Scan | Action::Files, Some(Restyling::Fix)) => Mode::Fix,
         (Action::Scan | Action::Files, Some(Restyling::Check)) => Mode::Check,
         (Action::Scan | Action::Files, Some(Restyling::Diff)) => Mode::Diff,
@@ -105,7 +105,7 @@ fn is_in(mode: Mode, modes: Modes) -> bool
     }
 }
 
-/// Whether an option may be used in a mode. Beside `--help`, `--version` and `--rules`, any option may be used.
+/// Whether an option may be used in a mode. Beside `--help`, `--version`, `--rules` and `--generate`, any option may be used.
 pub(crate) fn goes_with(modes: Modes, mode: Mode) -> bool
     ensures { result ≡ fits modes mode }
 {
@@ -170,7 +170,7 @@ pub(crate) fn mode_words(mode: Mode) -> &'static str
     ensures { result.now ≡ words_for mode }
 {
     match mode {
-        Mode::Help => "with --help, --version or --rules",
+        Mode::Help => "with --help, --version, --rules or --generate",
         Mode::Unselected => "without a mode",
         Mode::Only => "with --only",
         Mode::Find => "with --find",

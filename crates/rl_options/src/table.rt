@@ -26,7 +26,7 @@ pub(crate) struct OptionRow {
 }
 
 /// The options of `rl_scan`. If an unknown option is similar to several names, the first one is suggested.
-const OPTIONS: [OptionRow; 39] = [
+const OPTIONS: [OptionRow; 40] = [
     OptionRow {
         name: "--bad",
         letter: None,
@@ -241,6 +241,12 @@ const OPTIONS: [OptionRow; 39] = [
         name: "--rules",
         letter: None,
         effect: Effect::Sets(Flag::Rules),
+        modes: Modes::All,
+    },
+    OptionRow {
+        name: "--generate",
+        letter: None,
+        effect: Effect::Takes(Operand::Generated),
         modes: Modes::All,
     },
     OptionRow {

@@ -11,8 +11,8 @@ use crate::runs::{RunStop, Tally, run};
 use rl_files::{PathError, Replace, Selection, Tree, Walk, WalkError, escaped_non_utf8_path};
 use rl_options::{
     Action, ArgumentError, Command, Console, HELP, LineError, ParsedArguments, Restyling,
-    RulesError, VERSION, lists_files, parse_arguments, push_listed_paths, read_rules_file,
-    rules_page, style_of_settings, visible_text,
+    RulesError, VERSION, generated_text, lists_files, parse_arguments, push_listed_paths,
+    read_rules_file, rules_page, style_of_settings, visible_text,
 };
 use rl_program::{Ending, RunError, WriteError, write_bytes};
 use rl_restyle::default_style;
@@ -71,7 +71,7 @@ impl<A: Allocator> fmt::Display for CallError<A> {
     }
 }
 
-/// Returns the result of a call after a failed write of the help, the version or the rules of a style.
+/// Returns the result of a call after a failed write of a text, as the help.
 fn unwritten<A: Allocator>(error: WriteError) -> Ending<CallError<A>>
     ensures { IsUnwritten result }
 {
@@ -479,7 +479,8 @@ fn scan_styled<A: Allocator + Copy, T: Tree, W: Write, E: Write, F: Replace>(
     }
 }
 
-/// Runs the command of the parsed arguments: scans files, or prints the help, the version or the rules of a style.
+/// Runs the command of the parsed arguments: scans files, or prints the help, the version, the rules of a style, or a text for
+/// another program.
 fn answer<A: Allocator + Copy, T: Tree, W: Write, E: Write, F: Replace>(
     alloc: A,
     asked: ParsedArguments<'_, A>,
@@ -502,6 +503,7 @@ fn answer<A: Allocator + Copy, T: Tree, W: Write, E: Write, F: Replace>(
         Action::Help => write_text(out, HELP),
         Action::Version => write_text(out, VERSION),
         Action::Rules => write_text(out, rules_page()),
+        Action::Generate(which) => write_text(out, generated_text(which)),
         Action::Scan | Action::Files => scan_styled(
             alloc,
             asked,

@@ -7,8 +7,8 @@ use crate::rl_options::command::{Action, Command, Output, PlaceForm};
 use crate::rl_options::conflicts::clash_of;
 use crate::rl_options::flags::{
     Effect, Next, Operand, When, add_option, after_front, count_of, edition_of, form_in, form_when,
-    format_of, has_more_than_extension, has_other_mark, macros_of, matches_nothing, next_after,
-    operand_of, recolored, when_of,
+    format_of, generated_of, has_more_than_extension, has_other_mark, macros_of, matches_nothing,
+    next_after, operand_of, recolored, when_of,
 };
 use crate::rl_options::suggestion::option_part;
 use crate::rl_options::table::{effect_of, effect_of_letter, joined_of, meant_by};
@@ -69,6 +69,7 @@ fn missing<A: Allocator>(operand: Operand) -> ArgumentError<A> {
         Operand::Style => ArgumentError::NoStyle,
         Operand::Rule => ArgumentError::NoRule,
         Operand::Macros => ArgumentError::NoMacros,
+        Operand::Generated => ArgumentError::NoGenerated,
     }
 }
 
@@ -245,6 +246,15 @@ impl<'a, A: Allocator + Copy> ParsedArguments<'a, A> {
         Ok(())
     }
 
+    /// Sets the text for another program to print, from the value of `--generate`.
+    fn take_generated(&mut self, alloc: A, word: &str) -> Result<(), ArgumentError<A>> {
+        let Some(which) = generated_of(word) else {
+            return Err(ArgumentError::UnknownGenerated(visible_text(alloc, word)?));
+        };
+        self.command.action = Action::Generate(which);
+        Ok(())
+    }
+
     /// Adds a file extension to read, from the value of `--extension`.
     fn take_extension(&mut self, alloc: A, text: &'a str) -> Result<(), ArgumentError<A>> {
         if has_more_than_extension(text) {
@@ -306,6 +316,7 @@ impl<'a, A: Allocator + Copy> ParsedArguments<'a, A> {
             Operand::Style => self.take_style(text),
             Operand::Rule => self.take_setting(text),
             Operand::Macros => self.take_macros(alloc, text),
+            Operand::Generated => self.take_generated(alloc, text),
         }
     }
 

@@ -80,6 +80,10 @@ Output:
                        findings, and files with an error
       --               every argument that follows is a PATH
       --rules          print the rules of a style, with values and examples
+      --generate WHAT  man, bash, zsh, fish, sarif-jq or problem-matcher: print the
+                       manual page, the completions for this shell, a program for
+                       jq that makes SARIF of --json, or a file with problem
+                       matchers for GitHub
   -h, --help           print this help
   -V, --version        print the version
 

@@ -6,8 +6,8 @@ use crate::rl_scan::runs::{RunStop, Tally, run};
 use crate::rl_files::{PathError, Replace, Selection, Tree, Walk, WalkError, escaped_non_utf8_path};
 use crate::rl_options::{
     Action, ArgumentError, Command, Console, HELP, LineError, ParsedArguments, Restyling,
-    RulesError, VERSION, lists_files, parse_arguments, push_listed_paths, read_rules_file,
-    rules_page, style_of_settings, visible_text,
+    RulesError, VERSION, generated_text, lists_files, parse_arguments, push_listed_paths,
+    read_rules_file, rules_page, style_of_settings, visible_text,
 };
 use crate::rl_program::{Ending, RunError, WriteError, write_bytes};
 use crate::rl_restyle::default_style;
@@ -56,7 +56,7 @@ impl<A: Allocator> fmt::Display for CallError<A> {
     }
 }
 
-/// Returns the result of a call after a failed write of the help, the version or the rules of a style.
+/// Returns the result of a call after a failed write of a text, as the help.
 fn unwritten<A: Allocator>(error: WriteError) -> Ending<CallError<A>> {
     match error {
         WriteError::Closed => Ending::Closed,
@@ -375,7 +375,8 @@ fn scan_styled<A: Allocator + Copy, T: Tree, W: Write, E: Write, F: Replace>(
     }
 }
 
-/// Runs the command of the parsed arguments: scans files, or prints the help, the version or the rules of a style.
+/// Runs the command of the parsed arguments: scans files, or prints the help, the version, the rules of a style, or a text for
+/// another program.
 fn answer<A: Allocator + Copy, T: Tree, W: Write, E: Write, F: Replace>(
     alloc: A,
     asked: ParsedArguments<'_, A>,
@@ -389,6 +390,7 @@ fn answer<A: Allocator + Copy, T: Tree, W: Write, E: Write, F: Replace>(
         Action::Help => write_text(out, HELP),
         Action::Version => write_text(out, VERSION),
         Action::Rules => write_text(out, rules_page()),
+        Action::Generate(which) => write_text(out, generated_text(which)),
         Action::Scan | Action::Files => scan_styled(
             alloc,
             asked,
