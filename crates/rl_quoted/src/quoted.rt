@@ -224,9 +224,9 @@ impl<K: QuotedKind, A: Allocator> Quoted<K, A> {
 
     /// Returns the span in the file from which the bytes `lo` up to `hi` of the literal's decoded value come.
     ///
-    /// The span is from the start of the first byte's text ([`text_offset`](Quoted::text_offset)) to the end of the
-    /// last byte's text ([`text_offset_after`](Quoted::text_offset_after)). For an empty range the span is empty, where the next byte begins.
-    /// If the literal's span isn't as long as its text, the text isn't at that place in the file, and the result is the
+    /// The span is from the start of the first byte's text ([`text_offset`](Quoted::text_offset)) to the end of the last byte's
+    /// text ([`text_offset_after`](Quoted::text_offset_after)). For an empty range the span is empty, where the next byte
+    /// begins. If the literal's span isn't as long as its text, the text isn't at that place in the file, and the result is the
     /// literal's span. Nothing is allocated.
     ///
     /// See the example of [`text_offset`](Quoted::text_offset).

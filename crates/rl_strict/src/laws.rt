@@ -57,8 +57,8 @@ pub fn a_text_in_a_file_has_one_signed_flaw()
     ensures { ATextInAFileHasOneSignedFlaw }
 {}
 
-/// A literal's text in a file has at most one flaw that explains why it has no value. [`explain_missing_value`](crate::explain_missing_value)
-/// with `LineEnds::File` returns this flaw.
+/// A literal's text in a file has at most one flaw that explains why it has no value.
+/// [`explain_missing_value`](crate::explain_missing_value) with `LineEnds::File` returns this flaw.
 pub fn a_text_in_a_file_has_one_value_flaw()
     ensures { ATextInAFileHasOneValueFlaw }
 {}

@@ -41,8 +41,9 @@ pub fn explain(text: &str) -> Option<Flaw>
 
 /// Returns the flaw that explains why `text` has no value in Rust, or `None` if it has one.
 ///
-/// The flaw is the error that [`read`] returns, or [`flaw_above_128_bits`](crate::flaw_above_128_bits) for an integer above 128 bits. A text that
-/// is a float because of its suffix ([`is_float_by_suffix`](crate::is_float_by_suffix)) has a value. Nothing is allocated.
+/// The flaw is the error that [`read`] returns, or [`flaw_above_128_bits`](crate::flaw_above_128_bits) for an integer above 128
+/// bits. A text that is a float because of its suffix ([`is_float_by_suffix`](crate::is_float_by_suffix)) has a value. Nothing
+/// is allocated.
 ///
 /// # Example
 ///
@@ -50,7 +51,8 @@ pub fn explain(text: &str) -> Option<Flaw>
 /// use rl_grammar::{LineEnds, explain_missing_value};
 ///
 /// pub fn why_no_value(text: &str) -> Option<&'static str> {
-///     Some(explain_missing_value(text, LineEnds::Text, true)?.kind.message())
+///     let flaw = explain_missing_value(text, LineEnds::Text, true)?;
+///     Some(flaw.kind.message())
 /// }
 /// // why_no_value("-340282366920938463463374607431768211456") == Some("integer above 128 bits")
 /// // why_no_value("-1e") == Some("no digit in the exponent")

@@ -48,11 +48,8 @@ pub fn is_signed_literal(text: &str) -> bool {
 
 /// Returns the reason why the literal `text` has no value in Rust.
 pub fn why_no_value(text: &str) -> Option<&'static str> {
-    Some(
-        explain_missing_value(text, LineEnds::Text, true)?
-            .kind
-            .message(),
-    )
+    let flaw = explain_missing_value(text, LineEnds::Text, true)?;
+    Some(flaw.kind.message())
 }
 
 /// Returns the reason why `text`, a literal in a file, isn't a literal of Rust. In a file, CR LF counts as LF.

@@ -20,8 +20,9 @@ pub fn explain(text: &str) -> Option<Flaw> {
 
 /// Returns the flaw that explains why `text` has no value in Rust, or `None` if it has one.
 ///
-/// The flaw is the error that [`read`] returns, or [`flaw_above_128_bits`](crate::rl_strict::flaw_above_128_bits) for an integer above 128 bits. A text that
-/// is a float because of its suffix ([`is_float_by_suffix`](crate::rl_strict::is_float_by_suffix)) has a value. Nothing is allocated.
+/// The flaw is the error that [`read`] returns, or [`flaw_above_128_bits`](crate::rl_strict::flaw_above_128_bits) for an integer above 128
+/// bits. A text that is a float because of its suffix ([`is_float_by_suffix`](crate::rl_strict::is_float_by_suffix)) has a value. Nothing
+/// is allocated.
 #[inline]
 pub fn explain_missing_value(text: &str, ends: LineEnds, signed: bool) -> Option<Flaw> {
     match read(text, ends, signed) {
