@@ -50,6 +50,9 @@ For \-\-bad and without a mode: a stray character, at which no token begins, is 
 .B \-\-edition YEAR
 For \-\-bad and \-\-fix: the edition whose reserved prefixes are errors: 2015, 2018, 2021 (default) or 2024.
 .TP
+.B \-\-allow ID
+For \-\-bad and \-\-invisible: print no findings with this id, which \-\-json prints; for \-\-invisible, ID may also be a character, such as U+200B; may be repeated.
+.TP
 .B \-i, \-\-ignore\-case
 For \-\-find: ignore the case of ASCII letters.
 .TP
@@ -186,6 +189,7 @@ const BASH_TEXT: &str = r###"_rl_scan() {
     --only) at=; [[ $word == *,* ]] && at=${word%,*},; mapfile -t COMPREPLY < <(compgen -W "Str ByteStr CStr Byte Char Int Float Bool Verbatim" -P "$at" -- "${word##*,}"); return ;;
     -e|--find) mapfile -t COMPREPLY < <(compgen -W "" -- "$word"); return ;;
     --edition) mapfile -t COMPREPLY < <(compgen -W "2015 2018 2021 2024" -- "$word"); return ;;
+    --allow) mapfile -t COMPREPLY < <(compgen -W "" -- "$word"); return ;;
     --style) mapfile -t COMPREPLY < <(compgen -f -- "$word"); return ;;
     --rule) mapfile -t COMPREPLY < <(compgen -W "" -- "$word"); return ;;
     --macros) mapfile -t COMPREPLY < <(compgen -W "skip all" -- "$word"); return ;;
@@ -200,7 +204,7 @@ const BASH_TEXT: &str = r###"_rl_scan() {
     --generate) mapfile -t COMPREPLY < <(compgen -W "man bash zsh fish sarif-jq problem-matcher" -- "$word"); return ;;
     esac
     if [[ $word == -* ]]; then
-        mapfile -t COMPREPLY < <(compgen -W "--bad --invisible --only -e --find --fix --check --diff --any-suffix --no-stray --edition -i --ignore-case -w --word --style --rule --macros --all --extension --exclude --files-from --files --lines --bytes --text --json --format -C --context -B --before-context -A --after-context --color -c --count -l --files-with-matches -Z --null -q --quiet --no-messages --stats -- --rules --generate -h --help -V --version" -- "$word")
+        mapfile -t COMPREPLY < <(compgen -W "--bad --invisible --only -e --find --fix --check --diff --any-suffix --no-stray --edition --allow -i --ignore-case -w --word --style --rule --macros --all --extension --exclude --files-from --files --lines --bytes --text --json --format -C --context -B --before-context -A --after-context --color -c --count -l --files-with-matches -Z --null -q --quiet --no-messages --stats -- --rules --generate -h --help -V --version" -- "$word")
     else
         mapfile -t COMPREPLY < <(compgen -f -- "$word")
     fi
@@ -222,6 +226,7 @@ _arguments -s -S \
     '--any-suffix[for --bad: accept any suffix, and numbers out of range, as macros do]' \
     '--no-stray[for --bad and without a mode: a stray character, at which no token begins, is an error]' \
     '--edition=[for --bad and --fix: the edition whose reserved prefixes are errors: 2015, 2018, 2021 (default) or 2024]:YEAR:(2015 2018 2021 2024)' \
+    '*--allow=[for --bad and --invisible: print no findings with this id, which --json prints; for --invisible, ID may also be a character, such as U+200B; may be repeated]:ID: ' \
     '-i[for --find: ignore the case of ASCII letters]' \
     '--ignore-case[for --find: ignore the case of ASCII letters]' \
     '-w[for --find: match only whole words]' \
@@ -277,6 +282,7 @@ complete -c rl_scan -l diff -d 'print these changes as a unified diff'
 complete -c rl_scan -l any-suffix -d 'for --bad: accept any suffix, and numbers out of range, as macros do'
 complete -c rl_scan -l no-stray -d 'for --bad and without a mode: a stray character, at which no token begins, is an error'
 complete -c rl_scan -l edition -x -a '2015 2018 2021 2024' -d 'for --bad and --fix: the edition whose reserved prefixes are errors: 2015, 2018, 2021 (default) or 2024'
+complete -c rl_scan -l allow -x -d 'for --bad and --invisible: print no findings with this id, which --json prints; for --invisible, ID may also be a character, such as U+200B; may be repeated'
 complete -c rl_scan -s i -l ignore-case -d 'for --find: ignore the case of ASCII letters'
 complete -c rl_scan -s w -l word -d 'for --find: match only whole words'
 complete -c rl_scan -l style -r -d 'for --fix: rewrite by the rules in FILE; without it, drop needless escapes of quotes and needless hashes, and write 1e5 for 1E5'
