@@ -51,7 +51,7 @@ For \-\-bad and without a mode: a stray character, at which no token begins, is 
 For \-\-bad and \-\-fix: the edition whose reserved prefixes are errors: 2015, 2018, 2021 (default) or 2024.
 .TP
 .B \-\-allow ID
-For \-\-bad and \-\-invisible: print no findings with this id, which \-\-json prints; for \-\-invisible, ID may also be a character, such as U+200B; may be repeated.
+For \-\-bad and \-\-invisible: print no findings with the id ID, which \-\-json prints; for \-\-invisible, ID may also be a character, such as U+200B; may be repeated.
 .TP
 .B \-i, \-\-ignore\-case
 For \-\-find: ignore the case of ASCII letters.
@@ -137,7 +137,7 @@ Every argument that follows is a PATH.
 Print the rules of a style, with values and examples.
 .TP
 .B \-\-generate WHAT
-man, bash, zsh, fish, sarif\-jq or problem\-matcher: print the manual page, the completions for this shell, a program for jq that makes SARIF of \-\-json, or a file with problem matchers for GitHub.
+man, bash, zsh, fish, sarif\-jq or problem\-matcher: print the manual page, the completions for this shell, a jq program that makes SARIF of \-\-json, or a file with problem matchers for GitHub.
 .TP
 .B \-h, \-\-help
 Print this help.
@@ -226,7 +226,7 @@ _arguments -s -S \
     '--any-suffix[for --bad: accept any suffix, and numbers out of range, as macros do]' \
     '--no-stray[for --bad and without a mode: a stray character, at which no token begins, is an error]' \
     '--edition=[for --bad and --fix: the edition whose reserved prefixes are errors: 2015, 2018, 2021 (default) or 2024]:YEAR:(2015 2018 2021 2024)' \
-    '*--allow=[for --bad and --invisible: print no findings with this id, which --json prints; for --invisible, ID may also be a character, such as U+200B; may be repeated]:ID: ' \
+    '*--allow=[for --bad and --invisible: print no findings with the id ID, which --json prints; for --invisible, ID may also be a character, such as U+200B; may be repeated]:ID: ' \
     '-i[for --find: ignore the case of ASCII letters]' \
     '--ignore-case[for --find: ignore the case of ASCII letters]' \
     '-w[for --find: match only whole words]' \
@@ -262,7 +262,7 @@ _arguments -s -S \
     '--no-messages[print no errors about unreadable or skipped files]' \
     '--stats[print totals at the end: files read, files with findings, findings, and files with an error]' \
     '--rules[print the rules of a style, with values and examples]' \
-    '--generate=[man, bash, zsh, fish, sarif-jq or problem-matcher: print the manual page, the completions for this shell, a program for jq that makes SARIF of --json, or a file with problem matchers for GitHub]:WHAT:(man bash zsh fish sarif-jq problem-matcher)' \
+    '--generate=[man, bash, zsh, fish, sarif-jq or problem-matcher: print the manual page, the completions for this shell, a jq program that makes SARIF of --json, or a file with problem matchers for GitHub]:WHAT:(man bash zsh fish sarif-jq problem-matcher)' \
     '-h[print this help]' \
     '--help[print this help]' \
     '-V[print the version]' \
@@ -282,7 +282,7 @@ complete -c rl_scan -l diff -d 'print these changes as a unified diff'
 complete -c rl_scan -l any-suffix -d 'for --bad: accept any suffix, and numbers out of range, as macros do'
 complete -c rl_scan -l no-stray -d 'for --bad and without a mode: a stray character, at which no token begins, is an error'
 complete -c rl_scan -l edition -x -a '2015 2018 2021 2024' -d 'for --bad and --fix: the edition whose reserved prefixes are errors: 2015, 2018, 2021 (default) or 2024'
-complete -c rl_scan -l allow -x -d 'for --bad and --invisible: print no findings with this id, which --json prints; for --invisible, ID may also be a character, such as U+200B; may be repeated'
+complete -c rl_scan -l allow -x -d 'for --bad and --invisible: print no findings with the id ID, which --json prints; for --invisible, ID may also be a character, such as U+200B; may be repeated'
 complete -c rl_scan -s i -l ignore-case -d 'for --find: ignore the case of ASCII letters'
 complete -c rl_scan -s w -l word -d 'for --find: match only whole words'
 complete -c rl_scan -l style -r -d 'for --fix: rewrite by the rules in FILE; without it, drop needless escapes of quotes and needless hashes, and write 1e5 for 1E5'
@@ -309,7 +309,7 @@ complete -c rl_scan -s q -l quiet -d 'print no findings; errors, totals and the 
 complete -c rl_scan -l no-messages -d 'print no errors about unreadable or skipped files'
 complete -c rl_scan -l stats -d 'print totals at the end: files read, files with findings, findings, and files with an error'
 complete -c rl_scan -l rules -d 'print the rules of a style, with values and examples'
-complete -c rl_scan -l generate -x -a 'man bash zsh fish sarif-jq problem-matcher' -d 'man, bash, zsh, fish, sarif-jq or problem-matcher: print the manual page, the completions for this shell, a program for jq that makes SARIF of --json, or a file with problem matchers for GitHub'
+complete -c rl_scan -l generate -x -a 'man bash zsh fish sarif-jq problem-matcher' -d 'man, bash, zsh, fish, sarif-jq or problem-matcher: print the manual page, the completions for this shell, a jq program that makes SARIF of --json, or a file with problem matchers for GitHub'
 complete -c rl_scan -s h -l help -d 'print this help'
 complete -c rl_scan -s V -l version -d 'print the version'
 "###;

@@ -1,10 +1,14 @@
 // Rendered from crates/rl_output/src/code_points.rt by tools/render, which erases contracts: change that file, and render again.
 //! Parses the number of a character, as in `U+200B`.
 
+/// Whether all bytes are hexadecimal digits.
+fn are_hex_digits(bytes: &[u8]) -> bool {
+    bytes.iter().all(|b| b.is_ascii_hexdigit())
+}
+
 /// Whether the text is four to six hexadecimal digits.
 fn is_code_number(digits: &str) -> bool {
-    let bytes = digits.as_bytes();
-    4 <= bytes.len() && bytes.len() <= 6 && bytes.iter().all(|b| b.is_ascii_hexdigit())
+    4 <= digits.len() && digits.len() <= 6 && are_hex_digits(digits.as_bytes())
 }
 
 /// Returns the number that four to six hexadecimal digits represent, or `None` for another text.
