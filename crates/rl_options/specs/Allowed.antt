@@ -79,12 +79,17 @@ ids_of AllWanted = []
 abbrev pub is_id : List (List ℕ) → List ℕ → Bool
 is_id ids id = list_any (λ other. bytes_eq other id) ids
 
--- `--allow` may name `id`: an identifier of these findings, or with `--invisible` the number of a character, such as `U+200B`.
+-- `--allow` may name a text that isn't an identifier: with `--invisible` the number of a character, such as `U+200B`, and any text
+-- without `--bad` and `--invisible`.
+abbrev pub is_other : Wanted → List ℕ → Bool
+is_other BadWanted id = false
+is_other HiddenWanted id = is_some (code_point id)
+is_other (OnlyWanted list) id = true
+is_other AllWanted id = true
+
+-- `--allow` may name `id`.
 abbrev pub is_known : Wanted → List ℕ → Bool
-is_known BadWanted id = is_id bad_ids id
-is_known HiddenWanted id = is_id character_ids id || is_some (code_point id)
-is_known (OnlyWanted list) id = true
-is_known AllWanted id = true
+is_known wanted id = is_id (ids_of wanted) id || is_other wanted id
 
 -- The first of the identifiers that `--allow` may not name, or `None`.
 abbrev pub first_unknown : Wanted → List (List ℕ) → Option (List ℕ)

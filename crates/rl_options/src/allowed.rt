@@ -1,11 +1,11 @@
 //! The identifiers of findings that `--allow` may leave out.
 
-ghost use Rattle.std.specs.Prelude.{◌≡◌, ◌×◌, IfNone, IfOk, IfSome, None, Some, List, find, map, option_copied};
+ghost use Rattle.std.specs.Prelude.{◌≡◌, not, IfNone, IfOk, IfSome, None, Some, find, option_copied};
 ghost use Rattle.std.specs.List.{list_any};
 ghost use Rattle.std.specs.Option.{option_map};
 ghost use Rattle.std.specs.Str.{bytes_eq};
 ghost use Rattle.rl_files.specs.Globs.{borrowed_texts};
-ghost use Rattle.rl_options.specs.Allowed.{IsIdError, IsUnknownAllowed, first_unknown as unknown_in, ids_hint as hint_for, ids_of as listed_ids, is_known as is_known_id, is_unclosed as ends_reading, near_id as nearest_id};
+ghost use Rattle.rl_options.specs.Allowed.{IsIdError, IsUnknownAllowed, first_unknown as unknown_in, ids_hint as hint_for, ids_of as listed_ids, is_known as is_known_id, is_other as other_known, is_unclosed as ends_reading, near_id as nearest_id};
 ghost use Rattle.rl_options.specs.Meant.{is_near as near};
 ghost use Rattle.rl_options.specs.Wishes.{wanted_of};
 
@@ -77,6 +77,7 @@ fn contains_id(ids: &[&str], id: &str) -> bool
 }
 
 /// Returns the identifiers that `--allow` may name, for the findings that are shown.
+#[tactic(auto, unfolding(crate::specs::Allowed::bad_ids, crate::specs::Allowed::character_ids))]
 fn ids_of(shown: Shown<'_>) -> &'static [&'static str]
     ensures { borrowed_texts result.now ≡ listed_ids (wanted_of shown.entry) }
 {
@@ -87,15 +88,23 @@ fn ids_of(shown: Shown<'_>) -> &'static [&'static str]
     }
 }
 
-/// Whether `--allow` may name `id`. Beside `--help` and similar options, without `--bad` and `--invisible`, it may name any text.
+/// Whether `--allow` may name a text that isn't an identifier: the number of a character for `--invisible`, and any text beside
+/// `--help` and similar options, without `--bad` and `--invisible`.
+fn is_other(shown: Shown<'_>, id: &str) -> bool
+    ensures { result ≡ other_known (wanted_of shown.entry) id.now }
+{
+    match shown {
+        Shown::Bad => false,
+        Shown::Hidden => code_point(id).is_some(),
+        Shown::All | Shown::Only(_) => true,
+    }
+}
+
+/// Whether `--allow` may name `id`, for the findings that are shown.
 fn is_known(shown: Shown<'_>, id: &str) -> bool
     ensures { result ≡ is_known_id (wanted_of shown.entry) id.now }
 {
-    match shown {
-        Shown::Bad => contains_id(ids_of(shown), id),
-        Shown::Hidden => contains_id(ids_of(shown), id) || code_point(id).is_some(),
-        Shown::All | Shown::Only(_) => true,
-    }
+    contains_id(ids_of(shown), id) || is_other(shown, id)
 }
 
 /// Returns the first of the identifiers that `--allow` may not name, or `None`.
@@ -167,7 +176,9 @@ pub(crate) fn allowed_error<A: Allocator>(
     ensures some { IfSome result (IsUnknownAllowed (wanted_of shown.entry) (borrowed_texts ids.now)) }
     ensures none { IfNone result (unknown_in (wanted_of shown.entry) (borrowed_texts ids.now) ≡ None) }
 {
-    let id = first_unknown(shown, ids)?;
+    let Some(id) = first_unknown(shown, ids) else {
+        return None;
+    };
     match id_error(alloc, shown, id) {
         Ok(error) => Some(error),
         Err(_) => Some(ArgumentError::Memory),

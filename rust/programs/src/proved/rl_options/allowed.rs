@@ -75,13 +75,19 @@ fn ids_of(shown: Shown<'_>) -> &'static [&'static str] {
     }
 }
 
-/// Whether `--allow` may name `id`. Beside `--help` and similar options, without `--bad` and `--invisible`, it may name any text.
-fn is_known(shown: Shown<'_>, id: &str) -> bool {
+/// Whether `--allow` may name a text that isn't an identifier: the number of a character for `--invisible`, and any text beside
+/// `--help` and similar options, without `--bad` and `--invisible`.
+fn is_other(shown: Shown<'_>, id: &str) -> bool {
     match shown {
-        Shown::Bad => contains_id(ids_of(shown), id),
-        Shown::Hidden => contains_id(ids_of(shown), id) || code_point(id).is_some(),
+        Shown::Bad => false,
+        Shown::Hidden => code_point(id).is_some(),
         Shown::All | Shown::Only(_) => true,
     }
+}
+
+/// Whether `--allow` may name `id`, for the findings that are shown.
+fn is_known(shown: Shown<'_>, id: &str) -> bool {
+    contains_id(ids_of(shown), id) || is_other(shown, id)
 }
 
 /// Returns the first of the identifiers that `--allow` may not name, or `None`.
@@ -138,7 +144,9 @@ pub(crate) fn allowed_error<A: Allocator>(
     shown: Shown<'_>,
     ids: &[&str],
 ) -> Option<ArgumentError<A>> {
-    let id = first_unknown(shown, ids)?;
+    let Some(id) = first_unknown(shown, ids) else {
+        return None;
+    };
     match id_error(alloc, shown, id) {
         Ok(error) => Some(error),
         Err(_) => Some(ArgumentError::Memory),
