@@ -81,15 +81,15 @@ is_id ids id = list_any (λ other. bytes_eq other id) ids
 
 -- `--allow` may name a text that isn't an identifier: with `--invisible` the number of a character, such as `U+200B`, and any text
 -- without `--bad` and `--invisible`.
-abbrev pub is_other : Wanted → List ℕ → Bool
-is_other BadWanted id = false
-is_other HiddenWanted id = is_some (code_point id)
-is_other (OnlyWanted list) id = true
-is_other AllWanted id = true
+abbrev pub is_other_value : Wanted → List ℕ → Bool
+is_other_value BadWanted id = false
+is_other_value HiddenWanted id = is_some (code_point id)
+is_other_value (OnlyWanted list) id = true
+is_other_value AllWanted id = true
 
 -- `--allow` may name `id`.
 abbrev pub is_known : Wanted → List ℕ → Bool
-is_known wanted id = is_id (ids_of wanted) id || is_other wanted id
+is_known wanted id = is_id (ids_of wanted) id || is_other_value wanted id
 
 -- The first of the identifiers that `--allow` may not name, or `None`.
 abbrev pub first_unknown : Wanted → List (List ℕ) → Option (List ℕ)

@@ -5,7 +5,7 @@ ghost use Rattle.std.specs.List.{list_any};
 ghost use Rattle.std.specs.Option.{option_map};
 ghost use Rattle.std.specs.Str.{bytes_eq};
 ghost use Rattle.rl_files.specs.Globs.{borrowed_texts};
-ghost use Rattle.rl_options.specs.Allowed.{IsIdError, IsUnknownAllowed, first_unknown as unknown_in, ids_hint as hint_for, ids_of as listed_ids, is_known as is_known_id, is_other as other_known, is_unclosed as ends_reading, near_id as nearest_id};
+ghost use Rattle.rl_options.specs.Allowed.{IsIdError, IsUnknownAllowed, first_unknown as unknown_in, ids_hint as hint_for, ids_of as listed_ids, is_known as is_known_id, is_other_value as other_known, is_unclosed as ends_reading, near_id as nearest_id};
 ghost use Rattle.rl_options.specs.Meant.{is_near as near};
 ghost use Rattle.rl_options.specs.Wishes.{wanted_of};
 
@@ -90,7 +90,7 @@ fn ids_of(shown: Shown<'_>) -> &'static [&'static str]
 
 /// Whether `--allow` may name a text that isn't an identifier: the number of a character for `--invisible`, and any text beside
 /// `--help` and similar options, without `--bad` and `--invisible`.
-fn is_other(shown: Shown<'_>, id: &str) -> bool
+fn is_other_value(shown: Shown<'_>, id: &str) -> bool
     ensures { result ≡ other_known (wanted_of shown.entry) id.now }
 {
     match shown {
@@ -104,7 +104,7 @@ fn is_other(shown: Shown<'_>, id: &str) -> bool
 fn is_known(shown: Shown<'_>, id: &str) -> bool
     ensures { result ≡ is_known_id (wanted_of shown.entry) id.now }
 {
-    contains_id(ids_of(shown), id) || is_other(shown, id)
+    contains_id(ids_of(shown), id) || is_other_value(shown, id)
 }
 
 /// Returns the first of the identifiers that `--allow` may not name, or `None`.

@@ -77,7 +77,7 @@ fn ids_of(shown: Shown<'_>) -> &'static [&'static str] {
 
 /// Whether `--allow` may name a text that isn't an identifier: the number of a character for `--invisible`, and any text beside
 /// `--help` and similar options, without `--bad` and `--invisible`.
-fn is_other(shown: Shown<'_>, id: &str) -> bool {
+fn is_other_value(shown: Shown<'_>, id: &str) -> bool {
     match shown {
         Shown::Bad => false,
         Shown::Hidden => code_point(id).is_some(),
@@ -87,7 +87,7 @@ fn is_other(shown: Shown<'_>, id: &str) -> bool {
 
 /// Whether `--allow` may name `id`, for the findings that are shown.
 fn is_known(shown: Shown<'_>, id: &str) -> bool {
-    contains_id(ids_of(shown), id) || is_other(shown, id)
+    contains_id(ids_of(shown), id) || is_other_value(shown, id)
 }
 
 /// Returns the first of the identifiers that `--allow` may not name, or `None`.
