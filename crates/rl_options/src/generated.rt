@@ -1,7 +1,7 @@
 //! The texts that `rl_scan --generate` prints. `tools/manual` writes this file.
 
 ghost use Rattle.std.specs.Prelude.{◌≡◌};
-ghost use Rattle.rl_options.specs.Generated.{generated_text as text_of};
+ghost use Rattle.rl_options.specs.Generated.{generated_text as text_of, bash_text as bash_text_said, fish_text as fish_text_said, man_text as man_text_said, problem_matcher_text as problem_matcher_text_said, sarif_jq_text as sarif_jq_text_said, zsh_text as zsh_text_said};
 
 use crate::command::GeneratedText;
 
@@ -170,6 +170,14 @@ Print the version.
 .fi
 "###;
 
+/// Returns the manual page of `rl_scan`.
+#[tactic(auto, unfolding(crate::specs::Generated::man_text))]
+fn man_text() -> &'static str
+    ensures { result.now ≡ man_text_said }
+{
+    MAN_TEXT
+}
+
 /// The completions for bash.
 const BASH_TEXT: &str = r###"_rl_scan() {
     local word=${COMP_WORDS[COMP_CWORD]} before=${COMP_WORDS[COMP_CWORD - 1]} at
@@ -211,6 +219,14 @@ const BASH_TEXT: &str = r###"_rl_scan() {
 }
 complete -o filenames -F _rl_scan rl_scan
 "###;
+
+/// Returns the completions for bash.
+#[tactic(auto, unfolding(crate::specs::Generated::bash_text))]
+fn bash_text() -> &'static str
+    ensures { result.now ≡ bash_text_said }
+{
+    BASH_TEXT
+}
 
 /// The completions for zsh.
 const ZSH_TEXT: &str = r###"#compdef rl_scan
@@ -270,6 +286,14 @@ _arguments -s -S \
     '*:PATH:_files'
 "###;
 
+/// Returns the completions for zsh.
+#[tactic(auto, unfolding(crate::specs::Generated::zsh_text))]
+fn zsh_text() -> &'static str
+    ensures { result.now ≡ zsh_text_said }
+{
+    ZSH_TEXT
+}
+
 /// The completions for fish.
 const FISH_TEXT: &str =
     r###"complete -c rl_scan -l bad -d 'print the literals that Rust rejects, and unclosed quotes and comments'
@@ -313,6 +337,14 @@ complete -c rl_scan -l generate -x -a 'man bash zsh fish sarif-jq problem-matche
 complete -c rl_scan -s h -l help -d 'print this help'
 complete -c rl_scan -s V -l version -d 'print the version'
 "###;
+
+/// Returns the completions for fish.
+#[tactic(auto, unfolding(crate::specs::Generated::fish_text))]
+fn fish_text() -> &'static str
+    ensures { result.now ≡ fish_text_said }
+{
+    FISH_TEXT
+}
 
 /// The program for `jq` that makes SARIF of JSON objects.
 const SARIF_JQ_TEXT: &str =
@@ -365,6 +397,14 @@ map(select(has("files_with_findings") | not))
 }
 "###;
 
+/// Returns the program for `jq` that makes SARIF of JSON objects.
+#[tactic(auto, unfolding(crate::specs::Generated::sarif_jq_text))]
+fn sarif_jq_text() -> &'static str
+    ensures { result.now ≡ sarif_jq_text_said }
+{
+    SARIF_JQ_TEXT
+}
+
 /// The problem matchers for GitHub.
 const PROBLEM_MATCHER_TEXT: &str = r###"{
   "problemMatcher": [
@@ -386,17 +426,24 @@ const PROBLEM_MATCHER_TEXT: &str = r###"{
 }
 "###;
 
+/// Returns the problem matchers for GitHub.
+#[tactic(auto, unfolding(crate::specs::Generated::problem_matcher_text))]
+fn problem_matcher_text() -> &'static str
+    ensures { result.now ≡ problem_matcher_text_said }
+{
+    PROBLEM_MATCHER_TEXT
+}
+
 /// Returns the text that `rl_scan --generate` prints.
-#[tactic(auto, unfolding(crate::specs::Generated::man_text, crate::specs::Generated::bash_text, crate::specs::Generated::zsh_text, crate::specs::Generated::fish_text, crate::specs::Generated::sarif_jq_text, crate::specs::Generated::problem_matcher_text))]
 pub fn generated_text(which: GeneratedText) -> &'static str
     ensures { result.now ≡ text_of which }
 {
     match which {
-        GeneratedText::Man => MAN_TEXT,
-        GeneratedText::Bash => BASH_TEXT,
-        GeneratedText::Zsh => ZSH_TEXT,
-        GeneratedText::Fish => FISH_TEXT,
-        GeneratedText::SarifJq => SARIF_JQ_TEXT,
-        GeneratedText::ProblemMatcher => PROBLEM_MATCHER_TEXT,
+        GeneratedText::Man => man_text(),
+        GeneratedText::Bash => bash_text(),
+        GeneratedText::Zsh => zsh_text(),
+        GeneratedText::Fish => fish_text(),
+        GeneratedText::SarifJq => sarif_jq_text(),
+        GeneratedText::ProblemMatcher => problem_matcher_text(),
     }
 }
