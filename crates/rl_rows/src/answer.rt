@@ -1,16 +1,13 @@
 //! Prints the result of a test on a text.
 
 use crate::Page;
-use crate::flaws::put_flaw;
 use crate::lists::{put_lines, put_spans};
 use crate::literals::{call, call_literal};
 use crate::pairs::pairs;
-use crate::sources::put_source;
 use crate::turns::turns;
 use crate::values::equal;
 use rl_commands::Command;
 use rl_grammar::strict::is_token;
-use rl_grammar::{LineEnds, explain, explain_value};
 use rl_tokens::{Error, ErrorKind, Span, whitespace};
 use rust_literals::{Lit, LitFloat, LitInt};
 
@@ -20,11 +17,7 @@ use rust_literals::{Lit, LitFloat, LitInt};
 /// - `int` and `float` print the output line of the number, or `None` for another text, or `TooLarge`.
 /// - `skip` prints the number of bytes after white space and comments.
 /// - `strict` prints whether the text is a token of Rust.
-/// - `explain` prints the reason why the text isn't a token of Rust, and its range, or `None`. `explain-value` prints the reason
-///   why it has no value.
-/// - `read`, `spans`, `attr` and `source` print lines, and then a line with a full stop. `read` and `attr` are the commands of
-///   `rl_tool`.
-///
+/// - `read`, `spans` and `attr` print lines, and then a line with a full stop. `read` and `attr` are the commands of `rl_tool`.
 /// - `equal`, `pairs` and `turns` are tests of two literals, described with their functions.
 ///
 /// Any other name prints an error.
@@ -38,9 +31,6 @@ pub(crate) fn told(name: &str, text: &str, out: &mut Page) {
         "read" => put_lines(Command::Read, text, out),
         "spans" => put_spans(text, out),
         "attr" => put_lines(Command::Attr, text, out),
-        "source" => put_source(text, out),
-        "explain" => put_flaw(explain(text), out),
-        "explain-value" => put_flaw(explain_value(text, LineEnds::Text, true), out),
         "equal" => equal(text, out),
         "pairs" => pairs(text, out),
         "turns" => turns(text, out),

@@ -1,7 +1,6 @@
 //! Prints results of several lines: the lines of a command, or the ranges of literals. A line with a full stop ends the result.
 
 use crate::Page;
-use crate::sources::put_bytes;
 use rl_commands::Command;
 use rl_commands::run::run;
 use rl_program::{Rejection, label_of};
@@ -17,6 +16,14 @@ pub(crate) fn put_lines(command: Command, text: &str, out: &mut Page) {
         Err(error) => out.put_display(&error, "\n"),
     }
     out.put(".\n")
+}
+
+/// Prints bytes as text.
+pub(crate) fn put_bytes(bytes: &[u8], out: &mut Page) {
+    match std::str::from_utf8(bytes) {
+        Ok(text) => out.put(text),
+        Err(_) => out.is_short = true,
+    }
 }
 
 /// Parses a list of literals, and prints the kind, the range and the text of each, one literal a line. If parsing fails, it prints

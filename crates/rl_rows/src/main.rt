@@ -5,7 +5,6 @@
 mod answer;
 mod borrowed;
 mod failing;
-mod flaws;
 mod hostile;
 mod lists;
 mod literals;
@@ -15,7 +14,6 @@ mod page;
 mod pairs;
 mod plain;
 mod row;
-mod sources;
 mod streams;
 mod turns;
 mod values;

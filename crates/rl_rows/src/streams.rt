@@ -2,7 +2,7 @@
 
 use crate::Page;
 use crate::noted::parts_of;
-use crate::sources::put_bytes;
+use crate::lists::put_bytes;
 use rl_commands::Command;
 use rl_commands::run::run;
 use rl_program::RunError;

@@ -5,10 +5,9 @@ use crate::noted::put_places;
 use rl_attributes::Attrs;
 use rl_program::ProgramError;
 use rl_quoted::{Quoted, QuotedKind};
-use rl_sources::ScanError;
 use rl_tokens::{CString, Error, Ident, Kept, LexError, Literal, Span, TokenStream, TokenTree};
 use rust_literals::{Lit, LitBool, Number, NumberKind};
-use std::alloc::{AllocError, Allocator};
+use std::alloc::Allocator;
 
 /// A result that can be printed, with its spans.
 pub(crate) trait FormatResult {
@@ -126,20 +125,6 @@ impl<A: Allocator> FormatResult for Vec<Lit<A>, A> {
     }
 }
 
-impl<A: Allocator> FormatResult for Vec<Span, A> {
-    fn append_result(&self, page: &mut Page) {
-        for span in self.as_slice() {
-            put_places(" ", *span, page)
-        }
-    }
-}
-
-impl FormatResult for AllocError {
-    fn append_result(&self, page: &mut Page) {
-        page.put("out of memory")
-    }
-}
-
 impl<A: Allocator> FormatResult for Error<A> {
     fn append_result(&self, page: &mut Page) {
         page.put_display(self, "");
@@ -157,15 +142,6 @@ impl FormatResult for LexError {
 impl<A: Allocator> FormatResult for ProgramError<A> {
     fn append_result(&self, page: &mut Page) {
         page.put_display(self, "")
-    }
-}
-
-impl<A: Allocator> FormatResult for ScanError<A> {
-    fn append_result(&self, page: &mut Page) {
-        match self {
-            ScanError::Program(ProgramError::Memory) => page.put("out of memory"),
-            _ => page.put("another error"),
-        }
     }
 }
 
