@@ -3,7 +3,7 @@
 //! `oracle/one_walk/run` builds and runs it; docs/COMPARISON.md has its result.
 use n::rl_flaws::Flaws;
 use n::rl_strict::LineEnds::{File, Text};
-use n::rl_strict::{explain, explain_value, read};
+use n::rl_strict::{explain, explain_missing_value, read};
 use new::rendered as n;
 use o::{rl_file_reasons as in_file, rl_reasons as in_text};
 use old::rendered as o;
@@ -71,10 +71,10 @@ fn check(t: &str, count: &mut Count) {
         ("read", of_new(read(t, Text, false)) == of_old(in_text::read(t))),
         ("read_signed", of_new(read(t, Text, true)) == of_old(in_text::read_signed(t))),
         ("explain", explain(t).map(new_flaw) == in_text::explain(t).map(old_flaw)),
-        ("explain_value", explain_value(t, Text, true).map(new_flaw) == in_text::explain_value(t).map(old_flaw)),
+        ("explain_missing_value", explain_missing_value(t, Text, true).map(new_flaw) == in_text::explain_missing_value(t).map(old_flaw)),
         ("explain_in_file", read(t, File, false).err().map(new_flaw) == in_file::explain_in_file(t).map(old_flaw)),
-        ("explain_value_in_file", explain_value(t, File, false).map(new_flaw) == in_file::explain_value_in_file(t).map(old_flaw)),
-        ("signed", explain_value(t, File, true).map(new_flaw) == in_file::explain_signed_value_in_file(t).map(old_flaw)),
+        ("explain_value_in_file", explain_missing_value(t, File, false).map(new_flaw) == in_file::explain_value_in_file(t).map(old_flaw)),
+        ("signed", explain_missing_value(t, File, true).map(new_flaw) == in_file::explain_signed_value_in_file(t).map(old_flaw)),
         ("read in a file", [false, true].iter().all(|it| of_new(read(t, File, *it)) == by_hand(t, *it))),
         ("flaws", news == olds),
     ];

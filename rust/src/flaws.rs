@@ -4,7 +4,7 @@
 use crate::kind::Kind;
 use crate::parse_error::{FlawKind, ParseError};
 use crate::rl_flaws;
-use crate::rl_strict::{explain_value, LineEnds};
+use crate::rl_strict::{explain_missing_value, LineEnds};
 use crate::segments::Segment;
 use core::fmt;
 use core::iter::FusedIterator;
@@ -128,7 +128,7 @@ impl<'t> Flaws<'t> {
         if rl_flaws::Pieces::of(text).is_some() {
             return flaws(text);
         }
-        Flaws(Left::One(explain_value(text, LineEnds::Text, true).map(
+        Flaws(Left::One(explain_missing_value(text, LineEnds::Text, true).map(
             |flaw| {
                 let end = flaw.hi;
                 rl_flaws::InvalidPiece { flaw, end }

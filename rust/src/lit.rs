@@ -4,12 +4,12 @@ use crate::kind::Kind;
 use crate::parse_error::ParseError;
 use crate::rl_lenient::{is_plain_integer, parse_literal, Body, Found};
 #[cfg(any(feature = "sources", feature = "settings"))]
-use crate::rl_strict::explain_value;
+use crate::rl_strict::explain_missing_value;
 use crate::rl_strict::strict_reading::{
     classify_start, read, read_character, read_non_digit_start, read_string, read_unsigned_number,
     Front, Reading,
 };
-use crate::rl_strict::{is_float_by_suffix, limit_flaw, LineEnds};
+use crate::rl_strict::{is_float_by_suffix, flaw_above_128_bits, LineEnds};
 use crate::rl_syntax;
 use crate::segments::{OffsetMap, Segments};
 use crate::{
@@ -216,7 +216,7 @@ impl<'t> Lit<'t> {
     #[cfg(any(feature = "sources", feature = "settings"))]
     #[inline]
     pub fn check(&self) -> Result<(), ParseError> {
-        match explain_value(self.text(), LineEnds::File, true) {
+        match explain_missing_value(self.text(), LineEnds::File, true) {
             None => Ok(()),
             Some(flaw) => Err(ParseError::of_flaw(flaw)),
         }
@@ -285,7 +285,7 @@ impl<'t> Lit<'t> {
                 if is_float_by_suffix(&text) {
                     return Ok(Lit::Verbatim(LitVerbatim::of(text)));
                 }
-                return Err(ParseError::of_flaw(limit_flaw(&text, suffix_at)));
+                return Err(ParseError::of_flaw(flaw_above_128_bits(&text, suffix_at)));
             }
             Reading::Float(suffix_at) => Lit::Float(LitFloat::of(text, suffix_at)),
             Reading::Truth(truth) => Lit::Bool(LitBool::of(text, truth)),
@@ -620,7 +620,7 @@ impl FromStr for Lit<'static> {
 mod tests {
     use super::*;
     use crate::is_token;
-    use crate::rl_strict::limits::limit_flaw_of_reading;
+    use crate::rl_strict::limits::flaw_if_above_128_bits;
     use std::format;
 
     /// Calls `check` for each text that consists of `front` and up to `most` characters of `characters` after it.
@@ -669,7 +669,7 @@ mod tests {
             }
             Err(error) => {
                 let flaw = match read(text, LineEnds::Text, true) {
-                    Ok(reading) => limit_flaw_of_reading(text, reading),
+                    Ok(reading) => flaw_if_above_128_bits(text, reading),
                     Err(flaw) => Some(flaw),
                 };
                 assert_eq!(flaw.map(ParseError::of_flaw), Some(error), "{text:?}");

@@ -2,7 +2,7 @@
 
 use crate::kind::Kind;
 use crate::lit::Lit;
-use crate::rl_lenient::number_forms::read_integer;
+use crate::rl_lenient::number_forms::integer_magnitude_and_suffix;
 /// The reason why a text isn't a literal. [`ParseError::kind`] returns it. Printing it gives the message without the byte offset.
 ///
 /// ```
@@ -14,7 +14,7 @@ use crate::rl_lenient::number_forms::read_integer;
 /// assert_eq!(FlawKind::InvalidDigit.id(), "digit-of-base");
 /// ```
 pub use crate::rl_strict::FlawKind;
-use crate::rl_strict::{explain_value, limit_flaw, Flaw, LineEnds};
+use crate::rl_strict::{explain_missing_value, flaw_above_128_bits, Flaw, LineEnds};
 use crate::words::LitVerbatim;
 use core::fmt;
 use core::ops::Range;
@@ -91,7 +91,7 @@ impl ParseError {
     #[cold]
     #[inline]
     pub(crate) fn of(text: &str) -> Option<ParseError> {
-        explain_value(text, LineEnds::Text, true).map(ParseError::of_flaw)
+        explain_missing_value(text, LineEnds::Text, true).map(ParseError::of_flaw)
     }
 
     #[inline]
@@ -110,9 +110,9 @@ impl ParseError {
     #[inline]
     pub(crate) fn of_integer(literal: LitVerbatim<'_>) -> ParseError {
         let text = literal.text();
-        match read_integer(text) {
+        match integer_magnitude_and_suffix(text) {
             Some(integer) => {
-                ParseError::of_flaw(limit_flaw(text, text.len() - integer.suffix.len()))
+                ParseError::of_flaw(flaw_above_128_bits(text, text.len() - integer.suffix.len()))
             }
             None => ParseError::of_kind(Kind::Int, Lit::Verbatim(literal)),
         }

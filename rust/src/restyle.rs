@@ -1,7 +1,7 @@
 //! Rewriting of the literals of whole sources in a style.
 
 use crate::list_error::ListError;
-use crate::rl_style::{all_rules, is_changed_by_style, may_restyle, Restylable, Restylables};
+use crate::rl_style::{all_rules, is_changed_by_style, is_safe_to_restyle, Restylable, Restylables};
 use crate::style::{rewrite_in_context, Style};
 use alloc::borrow::Cow;
 use alloc::string::String;
@@ -131,7 +131,7 @@ pub fn rewrite_source(text: &str, style: Style) -> Edits<'_> {
         literals: Restylables::new(text),
         passed: 0,
         skips_macros: false,
-        is_done: !may_restyle(text),
+        is_done: !is_safe_to_restyle(text),
     }
 }
 

@@ -21,7 +21,7 @@ EXAMPLES = {
     'rl_quoted': """
         LitStr LitByteStr LitCStr LitByte LitChar LitStr::new LitStr::value LitStr::value_ref LitByteStr::value
         LitByteStr::value_ref LitCStr::value LitByte::value LitChar::value LitStr::parse LitStr::parse_with""",
-    'rust_literals': 'Lit Lit::new LitInt LitFloat LitBool Number::base10_digits Number::base10_parse read_all push_next_literal',
+    'rust_literals': 'Lit Lit::new LitInt LitFloat LitBool Number::base10_digits Number::base10_parse read_all push_leading_literal',
     'rl_attributes': 'Attrs Attrs::get read',
 }
 # Words that other projects define, and names that no crate has.

@@ -72,7 +72,7 @@ class Prover:
         libraries = list(dict.fromkeys(it for name in names for it in self.crates.below(name)))
         if not libraries:
             return None
-        # This folder makes it the top of a repository.
+        # `rt` takes a folder that contains `.git` for the top of a repository.
         os.makedirs(f'{self.libraries}/.git')
         shutil.copy(f'{self.crates.top}/HANDLES', self.libraries)
         with open(f'{self.libraries}/crates.txt', 'w', encoding='utf-8') as it:

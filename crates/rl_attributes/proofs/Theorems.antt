@@ -8,14 +8,14 @@ use Rattle.std.proofs.Common.{◌↔◌, List, All, Any}
 use Rattle.rl_attributes.specs.declared.attributes.Entry.{Entry}
 use Rattle.rl_attributes.specs.Attributes.{Attribute}
 use Rattle.rl_attributes.specs.Entries.{attribute_of, attributes_of}
-use Rattle.rl_attributes.specs.Laws.{AStringReadsFromItsText, ABoolReadsFromItsText, TheTextTellsTheKind, TheTextTellsTheSuffix, AMalformedLiteralHasNoReading, OnlyAnAllocationFailureRejectsAString, ABoolIsAccepted, KnownNamesAreTheSettings}
+use Rattle.rl_attributes.specs.Laws.{AStringIsParsedFromItsText, ABoolIsParsedFromItsText, TheTextTellsTheKind, TheTextTellsTheSuffix, AMalformedLiteralHasNoReading, OnlyAnAllocationFailureRejectsAString, ABoolIsAccepted, KnownNamesAreTheSettings}
 use Rattle.rl_attributes.proofs.TextLemmas.{string_in_text, truth_reads, is_kind, suffix_is, malformed, string_memory, truth_fits, knows_one, one_known, all_map, all_unmap, any_map, any_unmap}
 
-pub a_string_reads_from_its_text : {A B : Type 0} → AStringReadsFromItsText A B
-a_string_reads_from_its_text = string_in_text
+pub a_string_is_parsed_from_its_text : {A B : Type 0} → AStringIsParsedFromItsText A B
+a_string_is_parsed_from_its_text = string_in_text
 
-pub a_bool_reads_from_its_text : {A : Type 0} → ABoolReadsFromItsText A
-a_bool_reads_from_its_text = truth_reads
+pub a_bool_is_parsed_from_its_text : {A : Type 0} → ABoolIsParsedFromItsText A
+a_bool_is_parsed_from_its_text = truth_reads
 
 pub the_text_tells_the_kind : {A : Type 0} → TheTextTellsTheKind A
 the_text_tells_the_kind = is_kind

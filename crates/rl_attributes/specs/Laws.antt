@@ -14,14 +14,14 @@ use Rattle.rl_attributes.specs.Settings.{knows, IsStringSet, IsTruthSet, Rejects
 use Rattle.rl_attributes.specs.TextSettings.{IsOneOf, setting_names, IsMemoryError}
 
 -- A theorem: if an attribute's value is a string without a suffix, the text of the value is parsed as that string.
-abbrev pub AStringReadsFromItsText : (A B : Type 0) → Type 0
-AStringReadsFromItsText A B =
+abbrev pub AStringIsParsedFromItsText : (A B : Type 0) → Type 0
+AStringIsParsedFromItsText A B =
     (l : Lit A) (v : String B) → IsStringSet l v → HasLitSuffix l []
     → Reads (chars (token_of l).text) StrKind (Characters (chars (string_bytes v))) []
 
 -- A theorem: if an attribute's value is a `bool`, the text of the value is parsed as that `bool`.
-abbrev pub ABoolReadsFromItsText : (A : Type 0) → Type 0
-ABoolReadsFromItsText A =
+abbrev pub ABoolIsParsedFromItsText : (A : Type 0) → Type 0
+ABoolIsParsedFromItsText A =
     (l : Lit A) (b : Truth) → IsTruthSet l b → Reads (chars (token_of l).text) BoolKind (TruthContents b) []
 
 -- A theorem: the kind of an attribute's value is the kind as which the text of the value is parsed.

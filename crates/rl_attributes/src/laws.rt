@@ -1,18 +1,18 @@
 //! Theorems about the values of attributes and about settings. Each function here does nothing when it is called: its
 //! contract is a theorem.
 
-ghost use Rattle.rl_attributes.specs.Laws.{AStringReadsFromItsText, ABoolReadsFromItsText, TheTextTellsTheKind, TheTextTellsTheSuffix, AMalformedLiteralHasNoReading, OnlyAnAllocationFailureRejectsAString, ABoolIsAccepted, KnownNamesAreTheSettings};
+ghost use Rattle.rl_attributes.specs.Laws.{AStringIsParsedFromItsText, ABoolIsParsedFromItsText, TheTextTellsTheKind, TheTextTellsTheSuffix, AMalformedLiteralHasNoReading, OnlyAnAllocationFailureRejectsAString, ABoolIsAccepted, KnownNamesAreTheSettings};
 
 use std::alloc::Allocator;
 
 /// Proves that if an attribute's value is a string without a suffix, the text of the value is parsed as that string.
-pub fn a_string_reads_from_its_text<A: Allocator, B: Allocator>()
-    ensures { AStringReadsFromItsText A B }
+pub fn a_string_is_parsed_from_its_text<A: Allocator, B: Allocator>()
+    ensures { AStringIsParsedFromItsText A B }
 {}
 
 /// Proves that if an attribute's value is a `bool`, the text of the value is parsed as that `bool`.
-pub fn a_bool_reads_from_its_text<A: Allocator>()
-    ensures { ABoolReadsFromItsText A }
+pub fn a_bool_is_parsed_from_its_text<A: Allocator>()
+    ensures { ABoolIsParsedFromItsText A }
 {}
 
 /// Proves that the kind of an attribute's value is the kind as which the text of the value is parsed.

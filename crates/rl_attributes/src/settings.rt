@@ -49,7 +49,7 @@ pub enum SettingError<A: Allocator = Global> {
     /// value's span.
     Kind(Setting, Span),
     /// The value of a setting isn't a valid literal, or is an integer above 128 bits. The fields are the setting and
-    /// the value's span. `explain_value` of `rl_grammar` returns the reason for the literal's text.
+    /// the value's span. `explain_missing_value` of `rl_grammar` returns the reason for the literal's text.
     Malformed(Setting, Span),
     /// The number type of a setting rejected the value. The fields are the setting and the error, which `base10_parse`
     /// returned.

@@ -1,5 +1,5 @@
 -- Texts with escapes for control, invisible and bidirectional characters. Texts are lists of characters.
-pub use Rattle.rl_writing.specs.Hiding.{is_invisible_or_bidi, needs_escape}
+pub use Rattle.rl_writing.specs.Hiding.{is_invisible_or_bidi, is_control_invisible_or_bidi}
 use Rattle.std.specs.Prelude.{ℕ, ◌==◌, Bool, ◌||◌, ◌&&◌, nat_le, nat_lt, cond, List, [], ◌∷◌}
 use Prim.Native.Char.{code}
 use Rattle.std.specs.Char.Escape.{escape_default}
@@ -7,7 +7,7 @@ use Rattle.std.specs.List.{flat_map}
 
 -- A character, or its escape if it is a control, invisible or bidirectional character.
 abbrev pub visible_char : ℕ → List ℕ
-visible_char c = cond (needs_escape c) (escape_default c) (c ∷ [])
+visible_char c = cond (is_control_invisible_or_bidi c) (escape_default c) (c ∷ [])
 
 -- A text with escapes for control, invisible and bidirectional characters.
 abbrev pub visible : List ℕ → List ℕ

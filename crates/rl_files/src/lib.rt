@@ -21,4 +21,4 @@ pub use crate::replace::Replace;
 pub use crate::tree::{PathError, Tree};
 pub use crate::visible::{make_visible, push_visible};
 pub use crate::walk::{Selection, Visit, Walk, WalkEntry, WalkError};
-pub use rl_writing::{is_invisible_or_bidi, needs_escape};
+pub use rl_writing::{is_control_invisible_or_bidi, is_invisible_or_bidi};

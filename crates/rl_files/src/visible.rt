@@ -6,7 +6,7 @@ ghost use Rattle.std.specs.Str.{chars, IsCharBoundary};
 ghost use Rattle.std.specs.Char.Escape.{escape_default};
 ghost use Rattle.rl_files.specs.Visible.{visible_char, visible, visible_in_line, visible_lines, is_plain_byte};
 
-use rl_writing::needs_escape;
+use rl_writing::is_control_invisible_or_bidi;
 use std::alloc::{AllocError, Allocator};
 
 /// Appends the escape of a character: `\n`, `\r`, `\t`, or its number, as `\u{202e}`.
@@ -25,7 +25,7 @@ fn push_visible_char<A: Allocator>(out: &mut String<A>, c: char) -> Result<(), A
     ensures { OnOk result (string_bytes out.new
         ≡ string_bytes out.old ++ encode_utf8_all (visible_char c)) }
 {
-    if needs_escape(c) {
+    if is_control_invisible_or_bidi(c) {
         return push_escape(out, c);
     }
     out.push(c)?;

@@ -10,7 +10,7 @@ ghost use Rattle.rl_lenient.specs.Bodies.{HasBody, IsStringBody, Represents};
 ghost use Rattle.rl_lenient.specs.Decoded.{HoldsBytes};
 ghost use Rattle.rl_lenient.specs.Mirrors.Decodes.{Decodes};
 
-use rl_lenient::contents::decode_into;
+use rl_lenient::contents::decode_string_content_into;
 use rl_lenient::found::parse_known_literal;
 use rl_tokens::{Error, Kind};
 use std::alloc::{AllocError, Allocator};
@@ -22,7 +22,7 @@ fn decode<A: Allocator>(alloc: A, kind: Kind, text: &str) -> Result<Vec<u8, A>, 
     ensures { IfOk result (λ bytes. Decodes kind (chars text.now) bytes.items) }
 {
     let mut bytes = vec![in alloc; 0; text.len()]?;
-    let len = decode_into(kind, text, bytes.as_mut_slice());
+    let len = decode_string_content_into(kind, text, bytes.as_mut_slice());
     bytes.truncate(len);
     Ok(bytes)
 }

@@ -12,7 +12,7 @@ ghost use Rattle.rl_lenient.specs.NumberShapes.{AreDigits, IsNumber};
 
 use rl_lenient::digit_runs::is_negative;
 use rl_lenient::found::parse_known_literal;
-use rl_lenient::{Found, find_float, float_digits_into};
+use rl_lenient::{Found, float_digits_into, parse_float_literal};
 use rl_tokens::{Error, Kind};
 use std::alloc::{AllocError, Allocator};
 
@@ -46,7 +46,7 @@ fn found_number(kind: Kind, text: &str) -> Found
 {
     match kind {
         Kind::Int => parse_known_literal(text),
-        _ => match find_float(text) {
+        _ => match parse_float_literal(text) {
             Some(found) => found,
             None => unreachable!(),
         },

@@ -12,7 +12,7 @@ ghost use Rattle.rl_fronts.specs.Fronts.{IsFront, HasNoFront, HasFrontOf, RunsAs
 ghost use Rattle.rl_lenient.specs.Founds.{IsFound};
 ghost use Rattle.rl_fronts.specs.FrontTokens.{HasNoWord, HasNoMinus};
 
-use rl_lenient::{Found, bool_of, find_negative, parse_literal};
+use rl_lenient::{Found, bool_of, parse_literal, parse_with_added_minus};
 use rl_tokens::{Error, Ident, Kind, Literal, ParseBuffer, Punct, Span};
 use std::alloc::Allocator;
 use std::marker::Model;
@@ -83,7 +83,7 @@ fn take_negative<'a, A: Allocator>(input: &mut ParseBuffer<'a, A>) -> Option<Neg
         return None;
     }
     let number = ahead.literal()?;
-    let found = find_negative(number.text())?;
+    let found = parse_with_added_minus(number.text())?;
     *input = ahead;
     Some(Negative {
         minus,

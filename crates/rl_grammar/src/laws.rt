@@ -3,9 +3,9 @@
 
 pub use rl_lenient::laws::{
     a_next_literal_is_parsed_as_its_text, a_parsed_literal_has_the_value_of_its_text,
-    a_segment_has_one_value, byte_literals_without_cr_are_strict, decoding_keeps_a_leading_minus,
-    segments_join_to_the_literal, text_offsets_are_in_the_body,
-    text_offsets_keep_the_order_of_bytes,
+    a_segment_has_one_value, byte_literals_without_cr_are_strict, segments_join_to_the_literal,
+    text_offsets_are_in_the_body, text_offsets_keep_the_order_of_bytes,
+    utf8_decoding_keeps_a_leading_minus,
 };
 pub use rl_strict::laws::{
     a_bad_quote_is_not_a_literal, a_strict_literal_is_a_syn_literal_or_above_128_bits,

@@ -29,12 +29,13 @@ pub use rl_fronts::{
 pub use rl_lenient::{
     Body, FloatParts, Found, IntegerParts, ListStep, NextLiteral, Parts, Rejection, RejectionKind,
     Segment, SegmentValue, Segments, SourceStep, bool_of, byte_of, byte_of_body, char_of,
-    char_of_body, decode_bytes_into, decode_str_into, find_float, find_int, find_negative,
-    float_digits_into, float_parts, float_shape, int_shape, integer_parts, is_plain,
-    next_list_literal, next_literal, next_source_literal, parse_literal, shape, shape_negative,
-    text_offset, text_range,
+    char_of_body, decode_bytes_into, decode_str_into, float_digits_into, float_parts, float_shape,
+    int_shape, integer_parts, is_plain, next_list_literal, next_literal, next_source_literal,
+    parse_float_literal, parse_int_literal, parse_literal, parse_with_added_minus, shape,
+    shape_negative, text_offset, text_range,
 };
 pub use rl_strict::{
-    Flaw, FlawKind, LineEnds, explain, explain_value, is_float_by_suffix, limit_flaw,
+    Flaw, FlawKind, LineEnds, explain, explain_missing_value, flaw_above_128_bits,
+    is_float_by_suffix,
 };
 pub use rl_syntax::Kind;

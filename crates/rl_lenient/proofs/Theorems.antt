@@ -1,5 +1,5 @@
 -- The laws of src/laws.rt, as lemmas that callers can cite.
-use Rattle.rl_lenient.specs.Laws.{BytesWithoutReturnsAreStrict, SegmentsMakeTheLiteral, ASegmentHasOneValue, ThePlacesOfBytesAreInOrder, TheOffsetsOfBytesAreInTheBody, DecodingKeepsALeadingMinus, ATakenLiteralIsRead, AFoundLiteralReads}
+use Rattle.rl_lenient.specs.Laws.{BytesWithoutReturnsAreStrict, SegmentsMakeTheLiteral, ASegmentHasOneValue, ThePlacesOfBytesAreInOrder, TheOffsetsOfBytesAreInTheBody, Utf8DecodingKeepsALeadingMinus, ATakenLiteralIsRead, AFoundLiteralReads}
 use Rattle.rl_lenient.proofs.StrictBytesLemmas.{bytes_are_strict}
 use Rattle.rl_lenient.proofs.SegmentLawLemmas.{all_make, keep_order, stands_in}
 use Rattle.rl_lenient.proofs.SegmentValues.{one_segment}
@@ -21,8 +21,8 @@ the_places_of_bytes_are_in_order = keep_order
 pub the_offsets_of_bytes_are_in_the_body : TheOffsetsOfBytesAreInTheBody
 the_offsets_of_bytes_are_in_the_body = stands_in
 
-pub decoding_keeps_a_leading_minus : DecodingKeepsALeadingMinus
-decoding_keeps_a_leading_minus = minus_chars
+pub utf8_decoding_keeps_a_leading_minus : Utf8DecodingKeepsALeadingMinus
+utf8_decoding_keeps_a_leading_minus = minus_chars
 
 pub a_taken_literal_is_read : ATakenLiteralIsRead
 a_taken_literal_is_read = taken_read

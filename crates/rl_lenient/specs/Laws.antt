@@ -50,8 +50,8 @@ TheOffsetsOfBytesAreInTheBody =
     → IsQuotedAt kind text body → OffsetsAreIn kind text body
 
 -- Decoding a minus and the bytes after it gives the minus and the decoded characters of the bytes.
-abbrev pub DecodingKeepsALeadingMinus : Type 0
-DecodingKeepsALeadingMinus = (bytes : List ℕ) → chars (code "-" ∷ bytes) ≡ code "-" ∷ chars bytes
+abbrev pub Utf8DecodingKeepsALeadingMinus : Type 0
+Utf8DecodingKeepsALeadingMinus = (bytes : List ℕ) → chars (code "-" ∷ bytes) ≡ code "-" ∷ chars bytes
 
 -- The parse result of a literal that was consumed from tokens is that of the literal's text.
 abbrev pub ATakenLiteralIsRead : Type 0

@@ -12,7 +12,7 @@ ghost use Rattle.rl_syntax.specs.declared.kind.Kind.TheVariants.{Float};
 ghost use Rattle.rl_lenient.specs.Decoded.{piece_bytes};
 ghost use Rattle.rl_lenient.specs.Mirrors.Decodes.{Decodes};
 
-use crate::found::{find_float, parse_known_literal, parse_literal};
+use crate::found::{parse_float_literal, parse_known_literal, parse_literal};
 use crate::units::{Piece, parse_char_or_escape, piece_code, split_plain};
 use rl_syntax::Kind;
 use rl_syntax::slice_writer::{put, put_byte, put_char};
@@ -53,7 +53,7 @@ fn put_run(out: &mut [u8], at: usize, run: &str) -> usize
 ///
 /// Decoding ends at the end of `text`, or at a character that isn't allowed or an invalid escape. A sequence of plain
 /// characters is copied at once.
-pub fn decode_into(kind: Kind, text: &str, out: &mut [u8]) -> usize
+pub fn decode_string_content_into(kind: Kind, text: &str, out: &mut [u8]) -> usize
     requires string { IsTrue (is_string kind) }
     requires room { length text.now ≤ length out.old }
     ensures decodes { Decodes kind (chars text.now) (take result out.new) }
@@ -86,7 +86,7 @@ pub fn decode_str_into(body: &str, out: &mut [u8]) -> usize
     ensures within { result ≤ length body.now }
     ensures len { length out.new ≡ length out.old }
 {
-    decode_into(Kind::Str, body, out)
+    decode_string_content_into(Kind::Str, body, out)
 }
 
 /// Decodes the body of a byte string or C string literal into `out`, and returns the length of the decoded value in
@@ -102,7 +102,7 @@ pub fn decode_bytes_into(kind: Kind, body: &str, out: &mut [u8]) -> usize
     ensures within { result ≤ length body.now }
     ensures len { length out.new ≡ length out.old }
 {
-    decode_into(kind, body, out)
+    decode_string_content_into(kind, body, out)
 }
 
 /// Returns the value of a character or byte literal as a number, from the text between its quotes.
@@ -200,7 +200,7 @@ fn reads_plain(kind: Kind, text: &str) -> bool
 fn float_is_plain(text: &str) -> bool
     ensures { IsTrue result ↔ IsPlain Float text.now }
 {
-    match find_float(text) {
+    match parse_float_literal(text) {
         Some(found) => found.body.plain,
         None => false,
     }

@@ -18,7 +18,7 @@ ghost use Rattle.rl_lenient.specs.WholeShapes.{IsSplit, is_number_front, IsPlain
 
 use crate::digit_runs::is_negative;
 use crate::digits::{is_plain_float, is_plain_integer};
-use crate::number_forms::{Number, float_suffix, read_integer, read_number};
+use crate::number_forms::{Number, float_suffix, integer_magnitude_and_suffix, read_number};
 use crate::quoted_forms::{
     QuotedForm, begins_character, find_bare_character, find_character, find_cooked, find_raw,
     find_single, split_opener,
@@ -183,14 +183,14 @@ fn float_found<'t>(text: &'t str, suffix: &'t str) -> Found
 
 /// Parses the text as an integer literal. Returns `None` if the text isn't an integer literal, and `Some(None)` for an
 /// integer above 128 bits.
-pub fn find_int(text: &str) -> Option<Option<Found>>
+pub fn parse_int_literal(text: &str) -> Option<Option<Found>>
     ensures none { IfNone result (HasNoInteger (chars text.now)) }
     ensures past { IfSome result (λ o. IfNone o (IsPast (chars text.now))) }
     ensures found { IfSome result (λ o. IfSome o (IsFound text.now)) }
     ensures kind { IfSome result (λ o. IfSome o (λ f. f.kind ≡ Int)) }
     ensures once { HasOneInteger (chars text.now) }
 {
-    let integer = read_integer(text)?;
+    let integer = integer_magnitude_and_suffix(text)?;
     match integer.magnitude {
         Some(magnitude) => Some(Some(integer_found(text, integer.suffix, magnitude))),
         None => Some(None),
@@ -199,7 +199,7 @@ pub fn find_int(text: &str) -> Option<Option<Found>>
 
 /// Parses the text as a float literal, even if it is an integer literal too. Returns `None` if it isn't a float
 /// literal.
-pub fn find_float(text: &str) -> Option<Found>
+pub fn parse_float_literal(text: &str) -> Option<Found>
     ensures none { IfNone result (HasNoFloat (chars text.now)) }
     ensures found { IfSome result (IsFoundFloat text.now) }
     ensures once { HasOneFloat (chars text.now) }
@@ -211,7 +211,7 @@ pub fn find_float(text: &str) -> Option<Found>
 /// Parses the text as a number: as an integer literal if it is one, and otherwise as a float literal. Returns `None` if
 /// it is neither, or an integer above 128 bits.
 #[inline(never)]
-fn find_number(text: &str) -> Option<Found>
+fn parse_number_literal(text: &str) -> Option<Found>
     ensures none { IfNone result (ReadsNoNumber (chars text.now)) }
     ensures found { IfSome result (IsFound text.now) }
     ensures number { IfSome result (λ f. (f.kind ≡ Int) ⊎ (f.kind ≡ Float)) }
@@ -228,7 +228,7 @@ fn find_number(text: &str) -> Option<Found>
 /// Parses the text as a number that follows a minus. Returns `None` if the text isn't a number, or begins with a minus
 /// itself.
 #[inline(always)]
-pub(crate) fn find_unsigned(text: &str) -> Option<Found>
+pub(crate) fn parse_unsigned_literal(text: &str) -> Option<Found>
     ensures none { IfNone result (HasNoReading (code "-" ∷ chars text.now)) }
     ensures found { IfSome result (IsFound text.now) }
     ensures number { IfSome result (λ f. (f.kind ≡ Int) ⊎ (f.kind ≡ Float)) }
@@ -237,18 +237,18 @@ pub(crate) fn find_unsigned(text: &str) -> Option<Found>
     if is_negative(text) {
         return None;
     }
-    find_number(text)
+    parse_number_literal(text)
 }
 
 /// Parses the literal that consists of a minus and `text`. Byte offsets in the result count from the minus.
 ///
 /// Returns `Some` exactly if a minus and the text are a literal. That literal is an integer or a float.
-pub fn find_negative(text: &str) -> Option<Found>
+pub fn parse_with_added_minus(text: &str) -> Option<Found>
     ensures none { IfNone result (HasNoReading (code "-" ∷ chars text.now)) }
     ensures found { IfSome result (IsFound (code "-" ∷ text.now)) }
     ensures number { IfSome result (λ f. (f.kind ≡ Int) ⊎ (f.kind ≡ Float)) }
 {
-    let found = find_unsigned(text)?;
+    let found = parse_unsigned_literal(text)?;
     Some(Found {
         kind: found.kind,
         body: Body::up_to(found.body.suffix_at + 1, found.body.plain),
@@ -259,7 +259,7 @@ pub fn find_negative(text: &str) -> Option<Found>
 }
 
 /// Parses the text as a boolean literal. Returns `None` if it is neither `true` nor `false`.
-pub(crate) fn find_truth(text: &str) -> Option<Found>
+pub(crate) fn parse_bool_literal(text: &str) -> Option<Found>
     ensures none { IfNone result (HasNoTruth (chars text.now)) }
     ensures found { IfSome result (IsFound text.now) }
     ensures kind { IfSome result (λ f. f.kind ≡ BoolKind) }
@@ -302,7 +302,7 @@ pub fn parse_literal(text: &str) -> Option<Found>
         return find_character(text);
     }
     if begins_number(text) {
-        return find_number(text);
+        return parse_number_literal(text);
     }
     find_word_or_quoted(text)
 }
@@ -315,7 +315,7 @@ fn find_word_or_quoted(text: &str) -> Option<Found>
     ensures found { IfSome result (IsFound text.now) }
 {
     let Some((form, kind, inside)) = split_opener(text) else {
-        return find_truth(text);
+        return parse_bool_literal(text);
     };
     // Each arm of the `match` returns by itself. A value that all arms make would be copied once more.
     match form {

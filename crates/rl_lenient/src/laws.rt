@@ -1,6 +1,6 @@
 //! Laws of the definitions of `syn`'s grammar of literals. Each function does nothing, and its contract is the law.
 
-ghost use Rattle.rl_lenient.specs.Laws.{BytesWithoutReturnsAreStrict, SegmentsMakeTheLiteral, ASegmentHasOneValue, ThePlacesOfBytesAreInOrder, TheOffsetsOfBytesAreInTheBody, DecodingKeepsALeadingMinus, ATakenLiteralIsRead, AFoundLiteralReads};
+ghost use Rattle.rl_lenient.specs.Laws.{BytesWithoutReturnsAreStrict, SegmentsMakeTheLiteral, ASegmentHasOneValue, ThePlacesOfBytesAreInOrder, TheOffsetsOfBytesAreInTheBody, Utf8DecodingKeepsALeadingMinus, ATakenLiteralIsRead, AFoundLiteralReads};
 ghost use Rattle.rl_lenient.specs.PartLaws.{AnIntegerHasOneBase, AFloatHasOneOfEachPart};
 
 /// `syn`'s and Rust's grammar agree on whether a text without CR is a byte literal, or a byte string literal that
@@ -36,8 +36,8 @@ pub fn text_offsets_are_in_the_body()
 {}
 
 /// Decoding a minus and the bytes after it gives the minus and the decoded characters of the bytes.
-pub fn decoding_keeps_a_leading_minus()
-    ensures { DecodingKeepsALeadingMinus }
+pub fn utf8_decoding_keeps_a_leading_minus()
+    ensures { Utf8DecodingKeepsALeadingMinus }
 {}
 
 /// The parse result of a literal that [`next_literal`](crate::next_literal) returns is that of the literal's text.

@@ -46,7 +46,8 @@ pub use crate::contents::{
 };
 pub use crate::digits::{float_digits_into, is_plain_integer};
 pub use crate::found::{
-    Body, Found, Parts, bool_of, find_float, find_int, find_negative, parse_literal, shape,
+    Body, Found, Parts, bool_of, parse_float_literal, parse_int_literal, parse_literal,
+    parse_with_added_minus, shape,
 };
 pub use crate::next_literals::{
     ListStep, NextLiteral, Rejection, RejectionKind, next_list_literal, next_literal,

@@ -5,7 +5,7 @@ ghost use Rattle.rl_lexer.specs.Cursors.{form_view};
 ghost use Rattle.rl_lenient.specs.NextLiterals.{FindsReading, TakesNextLiteral, HasNoNextLiteral, token_rejection, RejectsNext, StepsList};
 ghost use Rattle.rl_lenient.specs.Values.{IsReadLiteral};
 
-use crate::found::{Found, find_negative, find_truth, parse_literal};
+use crate::found::{Found, parse_bool_literal, parse_literal, parse_with_added_minus};
 use rl_lexer::{Form, LexKind, Lexeme, Tokens};
 
 /// The next literal of a list: its token, the minus before it, and its parse result. The token may be an invalid
@@ -79,7 +79,7 @@ fn take_literal<'t>(tokens: &mut Tokens<'t>) -> Option<NextLiteral<'t>>
     match token.form {
         Form::Literal => Some(alone(token, parse_literal(token.text))),
         Form::Identifier => {
-            let found = find_truth(token.text)?;
+            let found = parse_bool_literal(token.text)?;
             Some(alone(token, Some(found)))
         }
         Form::Mark('-') => {
@@ -87,7 +87,7 @@ fn take_literal<'t>(tokens: &mut Tokens<'t>) -> Option<NextLiteral<'t>>
             let Form::Literal = number.form else {
                 return None;
             };
-            let found = find_negative(number.text)?;
+            let found = parse_with_added_minus(number.text)?;
             Some(NextLiteral {
                 token: number,
                 minus_at: Some(token.lo),

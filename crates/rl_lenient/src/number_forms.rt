@@ -15,7 +15,7 @@ ghost use Rattle.rl_lenient.specs.NumbersRead.{IsNumberOf};
 use crate::digit_runs::{
     DigitRun, after_minus, begins_digit, is_exponent_suffix, is_suffix, read_digit_run, skip_digits,
 };
-use crate::found::{Parts, find_float, find_int, find_unsigned};
+use crate::found::{Parts, parse_float_literal, parse_int_literal, parse_unsigned_literal};
 use rl_syntax::classes::{CharClass, skip_class};
 use rl_syntax::text::{split_ascii, split_char};
 
@@ -112,7 +112,7 @@ pub(crate) fn integer_of(head: Head<'_>) -> Option<Integer<'_>>
 }
 
 /// Parses the text as an integer literal. Returns `None` if it isn't one.
-pub fn read_integer(text: &str) -> Option<Integer<'_>>
+pub fn integer_magnitude_and_suffix(text: &str) -> Option<Integer<'_>>
     ensures value { option_map {U = Option ℕ × List ℕ}
         (λ i. (i.magnitude, chars i.suffix.now)) result
         ≡ capped_int (int_at (chars text.now)) }
@@ -138,7 +138,7 @@ pub fn int_shape(text: &str) -> Option<Option<Parts<'_>>>
     ensures following { IfSome result (λ o. IfSome o (λ p. IsTail text.now p.suffix.now)) }
     ensures once { HasOneInteger (chars text.now) }
 {
-    match find_int(text) {
+    match parse_int_literal(text) {
         Some(Some(found)) => Some(Some(found.parts(text))),
         Some(None) => Some(None),
         None => None,
@@ -251,7 +251,7 @@ pub fn float_shape(text: &str) -> Option<Parts<'_>>
     ensures following { IfSome result (λ p. IsTail text.now p.suffix.now) }
     ensures once { HasOneFloat (chars text.now) }
 {
-    let found = find_float(text)?;
+    let found = parse_float_literal(text)?;
     Some(found.parts(text))
 }
 
@@ -287,6 +287,6 @@ pub fn shape_negative(text: &str) -> Option<Parts<'_>>
     ensures number { IfSome result (λ p. (p.kind ≡ Int) ⊎ (p.kind ≡ Float)) }
     ensures cut { IfSome result (λ p. text.now ≡ p.body.now ++ p.suffix.now) }
 {
-    let found = find_unsigned(text)?;
+    let found = parse_unsigned_literal(text)?;
     Some(found.parts(text))
 }

@@ -5,7 +5,7 @@ use Prim.Native.Char.{code}
 use Rattle.std.specs.Char.Escape.{escape_default}
 use Rattle.std.specs.List.{count_by, flat_map, list_any}
 use Rattle.rl_syntax.specs.Texts.{begins_char, byte_len}
-use Rattle.rl_files.specs.Visible.{needs_escape, visible_char}
+use Rattle.rl_files.specs.Visible.{is_control_invisible_or_bidi, visible_char}
 use Rattle.rl_lexer.specs.Sources.{without_byte_order_mark}
 use Rattle.rl_output.specs.Spots.{covered}
 use Rattle.rl_output.specs.Widths.{width}
@@ -44,7 +44,7 @@ line_text text = flat_map line_char text
 abbrev pub mark_below : ℕ → ℕ → ℕ → List ℕ
 mark_below mark tab c =
     cond (c == code "\t") (tab ∷ [])
-    (cond (needs_escape c) (flat_map (λ _. mark ∷ []) (escape_default c)) (replicate (width c) mark))
+    (cond (is_control_invisible_or_bidi c) (flat_map (λ _. mark ∷ []) (escape_default c)) (replicate (width c) mark))
 
 abbrev pub marks_below : ℕ → ℕ → List ℕ → List ℕ
 marks_below mark tab text = flat_map (mark_below mark tab) text

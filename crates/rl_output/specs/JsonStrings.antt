@@ -5,7 +5,7 @@ use Rattle.std.specs.Char.{digit_char, digit_value}
 use Rattle.std.specs.Char.Escape.{encode_utf16}
 use Rattle.std.specs.List.{AllByRecursion, flat_map}
 use Rattle.rl_syntax.specs.Quoted.{is_hex_digit}
-use Rattle.rl_files.specs.Visible.{needs_escape}
+use Rattle.rl_files.specs.Visible.{is_control_invisible_or_bidi}
 use Rattle.rl_program.specs.Lines.{Joins}
 
 -- ---- the strings of RFC 8259
@@ -60,7 +60,7 @@ IsJsonPiece c piece =
 
 -- The character is neither invisible nor bidirectional.
 abbrev pub HidesNothing : ℕ → Type 0
-HidesNothing c = needs_escape c ≡ false
+HidesNothing c = is_control_invisible_or_bidi c ≡ false
 
 -- `string` is a JSON string that represents the text: a quote, one part for each character of the text, and a quote. No character
 -- of it is invisible or bidirectional.
@@ -87,7 +87,7 @@ letter_escape letter = code "\\" ∷ letter ∷ []
 -- A character in a JSON string that has no escape by a letter. A control, invisible or bidirectional character is escaped by its
 -- number.
 abbrev pub other_char : ℕ → List ℕ
-other_char c = cond (needs_escape c) (flat_map unit_escape (encode_utf16 c)) (c ∷ [])
+other_char c = cond (is_control_invisible_or_bidi c) (flat_map unit_escape (encode_utf16 c)) (c ∷ [])
 
 -- A character in a JSON string. Quotes, backslashes, LF, CR and tabs are escaped by a letter.
 abbrev pub json_char : ℕ → List ℕ

@@ -9,9 +9,9 @@ ghost use Rattle.rl_output.specs.Contexts.{ends_line as is_end, first_line as up
 ghost use Rattle.rl_output.specs.Widths.{width};
 
 use crate::line_column::front_covered;
-use crate::member::push_ascii;
+use crate::member::push_ascii_str;
 use crate::width::width_of;
-use rl_files::{needs_escape, push_visible};
+use rl_files::{is_control_invisible_or_bidi, push_visible};
 use rl_syntax::text::{before, begins_with_char, split_char};
 use std::alloc::{AllocError, Allocator};
 
@@ -68,7 +68,7 @@ fn push_line_char<A: Allocator>(
         ≡ chars (string_bytes out.old) ++ line_char c) }
 {
     if c == '\t' {
-        return push_ascii(out, "\t");
+        return push_ascii_str(out, "\t");
     }
     push_visible(out, before(rest, after))
 }
@@ -133,7 +133,7 @@ fn push_mark<A: Allocator>(
         out.push(tab)?;
         return Ok(());
     }
-    if needs_escape(c) {
+    if is_control_invisible_or_bidi(c) {
         return push_escape_marks(out, c, mark);
     }
     push_column_marks(out, c, mark)
@@ -165,7 +165,7 @@ fn push_carets<A: Allocator>(out: &mut String<A>, text: &str) -> Result<(), Allo
     if out.len() > before {
         return Ok(());
     }
-    push_ascii(out, "^")
+    push_ascii_str(out, "^")
 }
 
 /// Whether a line is longer than 1,024 bytes. `before` and `after` are its two parts.
@@ -194,9 +194,9 @@ fn push_whole_line<A: Allocator>(out: &mut String<A>, line: &str) -> Result<(), 
     ensures { OnOk result (chars (string_bytes out.new)
         ≡ chars (string_bytes out.old) ++ (codes "    " ++ (line_text (chars line.now) ++ codes "\n"))) }
 {
-    push_ascii(out, MARGIN)?;
+    push_ascii_str(out, MARGIN)?;
     push_line(out, line)?;
-    push_ascii(out, "\n")
+    push_ascii_str(out, "\n")
 }
 
 /// Appends the first line of a text, indented by four columns, or a message if it is longer than 1,024 bytes.
@@ -206,7 +206,7 @@ fn push_shown_line<A: Allocator>(out: &mut String<A>, text: &str) -> Result<(), 
 {
     let line = first_line(text);
     if is_long("", line) {
-        return push_ascii(out, LEFT_OUT);
+        return push_ascii_str(out, LEFT_OUT);
     }
     push_whole_line(out, line)
 }
@@ -245,14 +245,14 @@ fn push_marked_line<A: Allocator>(
     ensures { OnOk result (chars (string_bytes out.new) ≡ chars (string_bytes out.old)
         ++ marked_line (chars before.now) (chars rest.now) bytes) }
 {
-    push_ascii(out, MARGIN)?;
+    push_ascii_str(out, MARGIN)?;
     push_line(out, before)?;
     push_line(out, first_line(rest))?;
-    push_ascii(out, "\n")?;
-    push_ascii(out, MARGIN)?;
+    push_ascii_str(out, "\n")?;
+    push_ascii_str(out, MARGIN)?;
     push_marks(out, before, ' ', '\t')?;
     push_carets(out, first_line(front_covered(rest, bytes)))?;
-    push_ascii(out, "\n")
+    push_ascii_str(out, "\n")
 }
 
 /// Whether the line at a position is longer than 1,024 bytes. `before` is the line before the position, and `rest` the text from
@@ -306,7 +306,7 @@ pub fn push_context<A: Allocator>(
         ++ context_lines context.before context.after (chars lines.now) (chars before.now) (chars rest.now) bytes) }
 {
     if is_long_about(before, rest) {
-        return push_ascii(out, LEFT_OUT);
+        return push_ascii_str(out, LEFT_OUT);
     }
     push_whole_context(out, context, lines, before, rest, bytes)
 }

@@ -8,9 +8,9 @@ ghost use Rattle.std.specs.Str.{chars};
 ghost use Rattle.rl_files.specs.Visible.{visible, visible_char};
 ghost use Rattle.rl_output.specs.Github.{data_char, property_char, github_data, github_property, level_word, annotation_path, annotation_end, message_text};
 
-use crate::member::push_ascii;
+use crate::member::push_ascii_str;
 use crate::path::strip_dot_slash;
-use rl_files::needs_escape;
+use rl_files::is_control_invisible_or_bidi;
 use std::alloc::{AllocError, Allocator};
 
 /// The level of a GitHub annotation.
@@ -100,7 +100,7 @@ fn push_shown_char<A: Allocator>(out: &mut String<A>, c: char) -> Result<(), All
     ensures { OnOk result (string_bytes out.new
         ≡ string_bytes out.old ++ encode_utf8_all (github_data (visible_char c))) }
 {
-    if needs_escape(c) {
+    if is_control_invisible_or_bidi(c) {
         return push_escape_data(out, c);
     }
     push_data_char(out, c)
@@ -146,9 +146,9 @@ pub(crate) fn push_annotation_path<A: Allocator>(
     match path {
         None => Ok(()),
         Some(path) => {
-            push_ascii(out, "file=")?;
+            push_ascii_str(out, "file=")?;
             push_property(out, strip_dot_slash(path))?;
-            push_ascii(out, ",")
+            push_ascii_str(out, ",")
         }
     }
 }
@@ -170,9 +170,9 @@ pub fn push_annotation_end<A: Allocator>(
     ensures { OnOk result (chars (string_bytes out.new) ≡ chars (string_bytes out.old)
         ++ annotation_end title.now (message_text (chars words.now) (chars piece.now))) }
 {
-    push_ascii(out, "title=")?;
-    push_ascii(out, title)?;
-    push_ascii(out, "::")?;
+    push_ascii_str(out, "title=")?;
+    push_ascii_str(out, title)?;
+    push_ascii_str(out, "::")?;
     push_message(out, words, piece)?;
-    push_ascii(out, "\n")
+    push_ascii_str(out, "\n")
 }

@@ -7,7 +7,7 @@ ghost use Rattle.std.specs.List.{flat_map};
 ghost use Rattle.std.specs.Str.{chars};
 ghost use Rattle.rl_output.specs.JsonStrings.{IsJsonStringOf, two_digits, unit_escape, letter_escape, other_char, json_char, json_body, json_string};
 
-use rl_files::needs_escape;
+use rl_files::is_control_invisible_or_bidi;
 use rl_program::need_no_escapes;
 use std::alloc::{AllocError, Allocator};
 
@@ -77,7 +77,7 @@ fn push_other<A: Allocator>(out: &mut String<A>, c: char) -> Result<(), AllocErr
     ensures { OnOk result (string_bytes out.new
         ≡ string_bytes out.old ++ encode_utf8_all (other_char c)) }
 {
-    if needs_escape(c) {
+    if is_control_invisible_or_bidi(c) {
         return push_number(out, c);
     }
     out.push(c)?;

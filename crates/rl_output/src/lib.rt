@@ -29,7 +29,7 @@ pub use crate::github::{Level, push_annotation_end, push_annotation_text};
 pub use crate::json_string::{a_json_string_represents_its_text, push_json_string};
 pub use crate::last_lines::count_line_feeds;
 pub use crate::line_column::{Extent, Places, Position};
-pub use crate::member::{push_ascii, push_member};
+pub use crate::member::{push_ascii_str, push_member};
 pub use crate::path::strip_dot_slash;
 pub use crate::place::{LineColumn, Place, push_line_start};
 pub use crate::selector::{is_variation_selector, takes_variation_selector};

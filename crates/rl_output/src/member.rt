@@ -14,7 +14,7 @@ use std::alloc::{AllocError, Allocator};
 /// # Errors
 ///
 /// Returns an error if an allocation fails.
-pub fn push_ascii<A: Allocator>(out: &mut String<A>, piece: &str) -> Result<(), AllocError>
+pub fn push_ascii_str<A: Allocator>(out: &mut String<A>, piece: &str) -> Result<(), AllocError>
     requires { list_all is_ascii piece.now ≡ true }
     ensures { OnOk result
         (chars (string_bytes out.new) ≡ chars (string_bytes out.old) ++ piece.now) }
@@ -32,11 +32,11 @@ pub(crate) fn push_object_front<A: Allocator>(
         ≡ chars (string_bytes out.old) ++ object_front path.entry) }
 {
     match path {
-        None => push_ascii(out, "{"),
+        None => push_ascii_str(out, "{"),
         Some(path) => {
-            push_ascii(out, "{\"path\":")?;
+            push_ascii_str(out, "{\"path\":")?;
             push_json_string(out, path)?;
-            push_ascii(out, ",")
+            push_ascii_str(out, ",")
         }
     }
 }
@@ -55,8 +55,8 @@ pub fn push_member<A: Allocator>(
     ensures { OnOk result (chars (string_bytes out.new)
         ≡ chars (string_bytes out.old) ++ string_member name.now (chars text.now)) }
 {
-    push_ascii(out, ",\"")?;
-    push_ascii(out, name)?;
-    push_ascii(out, "\":")?;
+    push_ascii_str(out, ",\"")?;
+    push_ascii_str(out, name)?;
+    push_ascii_str(out, "\":")?;
     push_json_string(out, text)
 }

@@ -10,7 +10,7 @@ use crate::color::{PAINT_END, Paint, has_colors, start_of};
 use crate::form::Form;
 use crate::github::{Level, push_annotation_path, word_of};
 use crate::line_column::Extent;
-use crate::member::{push_ascii, push_object_front};
+use crate::member::{push_ascii_str, push_object_front};
 use std::alloc::{AllocError, Allocator};
 use std::fmt;
 
@@ -154,9 +154,9 @@ fn push_annotation_front<A: Allocator>(
     ensures { OnOk result (chars (string_bytes out.new)
         ≡ chars (string_bytes out.old) ++ annotation_front level path.entry place.now) }
 {
-    push_ascii(out, "::")?;
-    push_ascii(out, word_of(level))?;
-    push_ascii(out, " ")?;
+    push_ascii_str(out, "::")?;
+    push_ascii_str(out, word_of(level))?;
+    push_ascii_str(out, " ")?;
     push_annotation_path(out, path)?;
     push_annotation_place(out, place)
 }

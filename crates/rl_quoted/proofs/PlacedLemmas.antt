@@ -3,7 +3,7 @@ use Rattle.rl_lenient.proofs.Names.{Kind, SpannedText, Str}
 use Rattle.rl_syntax.proofs.Common.{Bool, IsUtf8, List, [], ap, arith, chars, cond, encodes-chars, false, get_or, length, ltb, ltb-false, ltb-true, map, refl, subst, sym, true, ℕ, ◌+◌, ◌-◌, ◌∙◌, ◌∷◌, ◌≡◌, ◌≤◌}
 use Rattle.std.proofs.Common.{min}
 use Rattle.rl_syntax.specs.declared.span.Span.{Span}
-use Rattle.rl_syntax.specs.Spans.{nowhere, entry_at, mapped_by}
+use Rattle.rl_syntax.specs.Spans.{nowhere, entry_at, mapped_by_byte_spans}
 use Rattle.rl_tokens.specs.Trees.{Tree, Trees, GroupTree, IdentTree, PunctTree, LiteralTree, NoTrees, MoreTrees, all_relocated, all_respanned, relocated, respanned}
 use Rattle.rl_lenient.specs.Segments.{IsByteEnd, IsBytePlace, IsSegmentsOf, IsSpanTable, SegmentsState, begins_in, ends_in, unit_place, span_from, units_bytes}
 use Rattle.rl_lenient.proofs.SegmentLemmas.{place_at_end, unit_span}
@@ -66,7 +66,7 @@ record LooksUp (kind : Kind) (text : List ℕ) (base : Span) (table : List Span)
   pub first : ℕ
   pub last : ℕ
   pub range : IsRangeOf kind text span.lo span.hi first last
-  pub is : mapped_by table span ≡ span_from base first last
+  pub is : mapped_by_byte_spans table span ≡ span_from base first last
 
 looks_up : (kind : Kind) (text : List ℕ) (s : SegmentsState) (base : Span) (table : List Span) (span : Span)
     → IsSegmentsOf kind text s → IsSpanTable s base table → LooksUp kind text base table span
@@ -86,7 +86,7 @@ looks_up kind text s base table span whole t = go (ltb span.lo span.hi) refl
     ends at = given_in_whole ends_in kind text s at (end at) whole
         (record { units = t.units; are_left = t.are_left; place_is = refl })
 
-    first_is : mapped_by table span ≡ record { file = base.file; lo = base.lo + place span.lo; hi = cond (ltb span.lo span.hi) (entry_at table (span.hi - 1)).hi (base.lo + place span.lo) }
+    first_is : mapped_by_byte_spans table span ≡ record { file = base.file; lo = base.lo + place span.lo; hi = cond (ltb span.lo span.hi) (entry_at table (span.hi - 1)).hi (base.lo + place span.lo) }
     first_is = ap (λ (x : Span). record { file = x.file; lo = x.lo; hi = cond (ltb span.lo span.hi) (entry_at table (span.hi - 1)).hi x.lo }) (entry_is s base table t span.lo)
 
     go : (b : Bool) → ltb span.lo span.hi ≡ b → LooksUp kind text base table span
@@ -107,7 +107,7 @@ looks_up kind text s base table span whole t = go (ltb span.lo span.hi) refl
 -- range comes.
 spans_by : (token : SpannedText) (s : SegmentsState) (table : List Span) → IsSegmentsOf Str (chars token.text) s
     → IsSpanTable s token.span table → token.span.lo + length token.text ≡ token.span.hi → (span : Span)
-    → IsReportedAt InFile token span (mapped_by table span)
+    → IsReportedAt InFile token span (mapped_by_byte_spans table span)
 spans_by token s table whole t long span =
     let found = looks_up Str (chars token.text) s token.span table span whole t in
     record { placed = λ e. (found.first, found.last, found.range, found.is); other = λ e. absurd (e long) }
@@ -115,20 +115,20 @@ spans_by token s table whole t long span =
 -- ---- lemmas about the spans of token trees
 
 mutual
-  tree_relocated : (goes : Span → Span → Type 0) (table : List Span) → ((s : Span) → goes s (mapped_by table s))
+  tree_relocated : (goes : Span → Span → Type 0) (table : List Span) → ((s : Span) → goes s (mapped_by_byte_spans table s))
       → (t : Tree) → IsMoved goes t (relocated table t)
   tree_relocated goes table h (GroupTree d inside span) = (
     all_relocated table inside,
-    mapped_by table span,
+    mapped_by_byte_spans table span,
     inside_relocated goes table h inside,
     h span,
     refl,
   )
-  tree_relocated goes table h (IdentTree i) = (mapped_by table i.span, h i.span, refl)
-  tree_relocated goes table h (PunctTree p) = (mapped_by table p.span, h p.span, refl)
-  tree_relocated goes table h (LiteralTree l) = (mapped_by table l.span, h l.span, refl)
+  tree_relocated goes table h (IdentTree i) = (mapped_by_byte_spans table i.span, h i.span, refl)
+  tree_relocated goes table h (PunctTree p) = (mapped_by_byte_spans table p.span, h p.span, refl)
+  tree_relocated goes table h (LiteralTree l) = (mapped_by_byte_spans table l.span, h l.span, refl)
 
-  inside_relocated : (goes : Span → Span → Type 0) (table : List Span) → ((s : Span) → goes s (mapped_by table s))
+  inside_relocated : (goes : Span → Span → Type 0) (table : List Span) → ((s : Span) → goes s (mapped_by_byte_spans table s))
       → (ts : Trees) → AreMovedInside goes ts (all_relocated table ts)
   inside_relocated goes table h NoTrees = refl
   inside_relocated goes table h (MoreTrees t ts) = (
@@ -140,7 +140,7 @@ mutual
     refl,
   )
 
-are_relocated : (goes : Span → Span → Type 0) (table : List Span) → ((s : Span) → goes s (mapped_by table s))
+are_relocated : (goes : Span → Span → Type 0) (table : List Span) → ((s : Span) → goes s (mapped_by_byte_spans table s))
     → (ts : List Tree) → AreMoved goes ts (map (relocated table) ts)
 are_relocated goes table h [] = refl
 are_relocated goes table h (t ∷ ts) = (

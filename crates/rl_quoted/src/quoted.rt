@@ -207,11 +207,11 @@ impl<K: QuotedKind, A: Allocator> Quoted<K, A> {
     /// Returns the byte offset in the literal's text after the text from which the byte at the offset `at` of the
     /// decoded value comes: after the byte itself, or after its escape. An escaped line end that follows isn't
     /// included.
-    pub fn end_of(&self, at: usize) -> usize
+    pub fn text_offset_after(&self, at: usize) -> usize
         requires { IsTrue (is_quoted K.KIND) }
         ensures { IsByteEnd K.KIND (chars self.now.text) at result }
     {
-        self.segments().text_end_offset(at)
+        self.segments().text_offset_after(at)
     }
 
     /// Returns the byte range of the literal's text from which the bytes `lo` up to `hi` of the decoded value come.
@@ -224,9 +224,9 @@ impl<K: QuotedKind, A: Allocator> Quoted<K, A> {
 
     /// Returns the span in the file from which the bytes `lo` up to `hi` of the literal's decoded value come.
     ///
-    /// The span is from the start of the first byte's text ([`text_offset`](Quoted::text_offset)) to the end of the
-    /// last byte's text ([`end_of`](Quoted::end_of)). For an empty range the span is empty, where the next byte begins.
-    /// If the literal's span isn't as long as its text, the text isn't at that place in the file, and the result is the
+    /// The span is from the start of the first byte's text ([`text_offset`](Quoted::text_offset)) to the end of the last byte's
+    /// text ([`text_offset_after`](Quoted::text_offset_after)). For an empty range the span is empty, where the next byte
+    /// begins. If the literal's span isn't as long as its text, the text isn't at that place in the file, and the result is the
     /// literal's span. Nothing is allocated.
     ///
     /// See the example of [`text_offset`](Quoted::text_offset).

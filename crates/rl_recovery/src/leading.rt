@@ -5,7 +5,7 @@ ghost use Rattle.std.specs.Str.{chars};
 ghost use Rattle.rl_recovery.specs.Leading.{Leads, LeadsNone, LeadsNegative, LeadsSigned, LeadsNoneSigned, LeadsNoNegative, may_lead};
 
 use rl_lenient::digit_runs::begins_digit;
-use rl_lenient::{Found, find_negative, parse_literal};
+use rl_lenient::{Found, parse_literal, parse_with_added_minus};
 use rl_lexer::{SourceToken, first_source_token};
 use rl_syntax::text::{before, begins, strip_byte};
 
@@ -75,7 +75,7 @@ fn leading_negative(text: &str) -> Option<LeadingLiteral<'_>>
 {
     let unsigned = strip_byte(text, b'-')?;
     let number = leading_literal(unsigned)?;
-    let found = find_negative(number.text)?;
+    let found = parse_with_added_minus(number.text)?;
     Some(LeadingLiteral {
         text: before(text, number.following),
         found: Some(found),

@@ -47,6 +47,6 @@ in_style style macros t seen (w ∷ ws) (Some new ∷ es) (first, sound)
 in_style style macros t seen (w ∷ ws) (Some new ∷ es) (first, sound)
     ((front, rest, around, inr (not_taken, none)), are) = absurd (none-some new (sym none))
 
-pub keeps_the_restyled_source : KeepsTheWholeSource
-keeps_the_restyled_source style macros t new edits r sound = keeps_the_edited_source style t r.cuts r.texts new []
+pub keeps_the_source_around_a_restyled_literal : KeepsTheWholeSource
+keeps_the_source_around_a_restyled_literal style macros t new edits r sound = keeps_the_edited_source style t r.cuts r.texts new []
     r.is_code r.are_cuts sound r.is_edited (in_style style macros t nothing_seen r.cuts r.texts sound r.are_edits)

@@ -4,7 +4,7 @@ ghost use Rattle.rl_restyle.specs.Edits.{HasOneText, KeepsTheWholeSource};
 
 /// A rewritten source is lexed into the old number of tokens, of the old kinds. Each token is the old one, or its new text.
 /// Excepted are invalid quotes and stray characters, which no valid Rust source contains.
-pub fn the_tokens_are_kept()
+pub fn only_rewritten_tokens_change()
     ensures { KeepsTheWholeSource }
 {}
 

@@ -9,7 +9,7 @@ ghost use Rattle.rl_restyle.specs.declared.edit.RestyleError.TheVariants.{Memory
 use crate::draft::{Draft, put_literal};
 use crate::edit::{Macros, RestyleError, Restyled};
 use crate::slices::between;
-use rl_style::{Restylables, Style, may_restyle};
+use rl_style::{Restylables, Style, is_safe_to_restyle};
 use std::alloc::{AllocError, Allocator};
 
 /// Returns the complete new text: the draft, with the rest of the source appended.
@@ -51,7 +51,7 @@ pub fn rewrite_source<A: Allocator + Copy>(
         (map edit_in r.edits.items)) }
     ensures error { IfErr result (IsRestyleError (chars text.now)) }
 {
-    if !may_restyle(text) {
+    if !is_safe_to_restyle(text) {
         return Err(RestyleError::Script);
     }
     let mut literals = Restylables::new(text);

@@ -4,7 +4,7 @@ use Rattle.std.proofs.lemmas.Grind.{flat_map-append}
 use Rattle.std.proofs.lemmas.List.{length-drop}
 use Rattle.std.specs.List.{flat_map}
 use Rattle.rl_files.proofs.VisibleLemmas.{chars_written}
-use Rattle.rl_files.specs.Visible.{needs_escape}
+use Rattle.rl_files.specs.Visible.{is_control_invisible_or_bidi}
 use Rattle.rl_lexer.specs.Cursors.{IsCursorState}
 use Rattle.rl_program.proofs.LineLemmas.{pushed}
 use Rattle.rl_program.specs.Lines.{Appends}
@@ -25,12 +25,12 @@ shown_more f first old new done c before now =
     (ap (λ (z : List ℕ). flat_map f done ++ z) (sym (append-nil (f c))) ∙ sym (flat_map-append f done (c ∷ [])))
 
 -- A control, invisible or bidirectional character is appended as its number.
-pub number_appended : (old new : List ℕ) (c : ℕ) → IsUtf8 old → needs_escape c ≡ true → new ≡ old ++ bracketed_number c
+pub number_appended : (old new : List ℕ) (c : ℕ) → IsUtf8 old → is_control_invisible_or_bidi c ≡ true → new ≡ old ++ bracketed_number c
     → chars new ≡ chars old ++ numbered_char c
 number_appended old new c utf8 escaped is = rw escaped (pushed old new (bracketed_number c) utf8 is)
 
 -- Another character is appended unchanged.
-pub character_appended : (old new : List ℕ) (c : ℕ) → IsUtf8 old → IsUtf8 new → needs_escape c ≡ false
+pub character_appended : (old new : List ℕ) (c : ℕ) → IsUtf8 old → IsUtf8 new → is_control_invisible_or_bidi c ≡ false
     → new ≡ old ++ encode_utf8 c → chars new ≡ chars old ++ numbered_char c
 character_appended old new c utf8 valid plain is = rw plain (chars_written old new (c ∷ []) utf8 valid
     (is ∙ ap (λ (z : List ℕ). old ++ z) (sym (append-nil (encode_utf8 c)))))

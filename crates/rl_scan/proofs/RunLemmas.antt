@@ -36,7 +36,7 @@ told_nothing command = go command.prints_errors
     go true = refl
     go false = refl
 
--- The invariant of a run before the first visit.
+-- Before a run of the program visits its first file, the run's invariant holds.
 pub ran_start : (command : Command) (holds : Option World) (waypoints : List Waypoint) (o e : Option (List ℕ))
     (h : Option (List Replacement)) (tally : Tally) → tally ≡ tally_of nothing
     → IfSome holds (λ w. Ran command w waypoints waypoints (written_on o o e e h h) tally)

@@ -4,7 +4,7 @@ use denote.Ref.{Bor}
 use Prim.Native.Char.{code}
 use Rattle.std.specs.List.{flat_map}
 use Rattle.std.specs.Str.{chars}
-use Rattle.rl_files.specs.Visible.{needs_escape}
+use Rattle.rl_files.specs.Visible.{is_control_invisible_or_bidi}
 use Rattle.rl_output.specs.declared.form.Form.{Form}
 use Rattle.rl_output.specs.declared.form.Form.TheVariants.{Plain, Colored, Json, Github}
 use Rattle.rl_output.specs.declared.place.Place.{Place}
@@ -22,7 +22,7 @@ bracketed_number c = codes "<U+" ++ (four_digits c ++ codes ">")
 
 -- A character, or its number in angle brackets if it is a control, invisible or bidirectional character.
 abbrev pub numbered_char : ℕ → List ℕ
-numbered_char c = cond (needs_escape c) (chars (bracketed_number c)) (c ∷ [])
+numbered_char c = cond (is_control_invisible_or_bidi c) (chars (bracketed_number c)) (c ∷ [])
 
 -- A character of a literal in the output. LF, CR and a tab are escapes. Another control, invisible or bidirectional character is its
 -- number in angle brackets, which differs from its escape.

@@ -5,9 +5,9 @@ ghost use Rattle.std.specs.Str.{chars};
 ghost use Rattle.rl_output.specs.Github.{annotation_end};
 ghost use Rattle.rl_scan.specs.Changes.{bracketed_number, change_end, change_line, change_members, change_words, literal_char, literal_text, numbered_char};
 
-use rl_files::needs_escape;
+use rl_files::is_control_invisible_or_bidi;
 use rl_output::{
-    Form, Level, Place, push_annotation_end, push_ascii, push_line_start, push_member,
+    Form, Level, Place, push_annotation_end, push_ascii_str, push_line_start, push_member,
 };
 use std::alloc::{AllocError, Allocator};
 
@@ -23,7 +23,7 @@ fn push_number<A: Allocator>(out: &mut String<A>, c: char) -> Result<(), AllocEr
 fn push_numbered_char<A: Allocator>(out: &mut String<A>, c: char) -> Result<(), AllocError>
     ensures { OnOk result (chars (string_bytes out.new) ≡ chars (string_bytes out.old) ++ numbered_char c) }
 {
-    if needs_escape(c) {
+    if is_control_invisible_or_bidi(c) {
         return push_number(out, c);
     }
     out.push(c)?;
@@ -36,9 +36,9 @@ fn push_literal_char<A: Allocator>(out: &mut String<A>, c: char) -> Result<(), A
     ensures { OnOk result (chars (string_bytes out.new) ≡ chars (string_bytes out.old) ++ literal_char c) }
 {
     match c {
-        '\n' => push_ascii(out, "\\n"),
-        '\r' => push_ascii(out, "\\r"),
-        '\t' => push_ascii(out, "\\t"),
+        '\n' => push_ascii_str(out, "\\n"),
+        '\r' => push_ascii_str(out, "\\r"),
+        '\t' => push_ascii_str(out, "\\t"),
         _ => push_numbered_char(out, c),
     }
 }
@@ -64,7 +64,7 @@ fn push_change_words<A: Allocator>(
         ≡ chars (string_bytes out.old) ++ change_words (chars old.now) (chars new.now)) }
 {
     push_literal(out, old)?;
-    push_ascii(out, " -> ")?;
+    push_ascii_str(out, " -> ")?;
     push_literal(out, new)
 }
 
@@ -78,7 +78,7 @@ fn push_worded_change<A: Allocator>(
         ++ (change_words (chars old.now) (chars new.now) ++ codes "\n")) }
 {
     push_change_words(out, old, new)?;
-    push_ascii(out, "\n")
+    push_ascii_str(out, "\n")
 }
 
 /// Appends the JSON members for a rewritten literal, `}` and a line end. The members are the old text and the new text.
@@ -92,7 +92,7 @@ fn push_change_members<A: Allocator>(
 {
     push_member(out, "text", old)?;
     push_member(out, "new", new)?;
-    push_ascii(out, "}\n")
+    push_ascii_str(out, "}\n")
 }
 
 /// Appends a GitHub annotation's text after its position, for a rewritten literal.

@@ -8,7 +8,7 @@ ghost use Rattle.rl_output.specs.Contexts.{has_end as with_end};
 ghost use Rattle.rl_scan.specs.Diffs.{IsFirstLine, diff, diff_head, first_of, full_hunk, has_space as with_space, hunk, hunks, is_same as are_same, lines_of, diff_path, range, signed_line};
 
 use rl_files::push_visible;
-use rl_output::{push_ascii, strip_dot_slash};
+use rl_output::{push_ascii_str, strip_dot_slash};
 use rl_syntax::lines::after_first_line_feed;
 use rl_syntax::text::{before, split_char};
 use std::alloc::{AllocError, Allocator};
@@ -114,7 +114,7 @@ fn push_signed_line<A: Allocator>(
     if has_end(line) {
         return Ok(());
     }
-    push_ascii(out, NO_LINE_END)
+    push_ascii_str(out, NO_LINE_END)
 }
 
 /// Appends each line of a text with a sign before it, `-` or `+`.
@@ -161,11 +161,11 @@ fn push_full_hunk<A: Allocator>(
     ensures { OnOk result (chars (string_bytes out.new) ≡ chars (string_bytes out.old)
         ++ full_hunk at (lines_of (chars gone.now)) (lines_of (chars added.now))) }
 {
-    push_ascii(out, "@@ -")?;
+    push_ascii_str(out, "@@ -")?;
     push_range(out, at, count_lines(gone))?;
-    push_ascii(out, " +")?;
+    push_ascii_str(out, " +")?;
     push_range(out, at, count_lines(added))?;
-    push_ascii(out, " @@\n")?;
+    push_ascii_str(out, " @@\n")?;
     push_lines(out, '-', gone)?;
     push_lines(out, '+', added)
 }
@@ -234,9 +234,9 @@ fn push_path<A: Allocator>(out: &mut String<A>, path: &str) -> Result<(), AllocE
 {
     push_visible(out, path)?;
     if has_space(path) {
-        return push_ascii(out, "\t\n");
+        return push_ascii_str(out, "\t\n");
     }
-    push_ascii(out, "\n")
+    push_ascii_str(out, "\n")
 }
 
 /// Appends the head of a diff: the path as that of the old text, and as that of the new text.
@@ -245,9 +245,9 @@ fn push_head<A: Allocator>(out: &mut String<A>, path: &str) -> Result<(), AllocE
         ≡ chars (string_bytes out.old) ++ diff_head (chars path.now)) }
 {
     let path = strip_dot_slash(path);
-    push_ascii(out, "--- ")?;
+    push_ascii_str(out, "--- ")?;
     push_path(out, path)?;
-    push_ascii(out, "+++ ")?;
+    push_ascii_str(out, "+++ ")?;
     push_path(out, path)
 }
 

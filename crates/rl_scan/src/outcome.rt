@@ -8,7 +8,7 @@ ghost use Rattle.rl_scan.specs.Outcomes.{AreRejections, IsJudging, IsOutcome, Is
 use rl_output::Form;
 use rl_restyle::{Macros, RestyleError, Restyled, rewrite_source};
 use rl_sources::{Edition, Matching, Options, Shown, Spelling, scan};
-use rl_style::{Style, may_restyle};
+use rl_style::{Style, is_safe_to_restyle};
 use std::alloc::{AllocError, Allocator, Global};
 
 /// The result of rewriting a source in a style.
@@ -102,7 +102,7 @@ pub fn rewrite_outcome<A: Allocator + Copy>(
     if !lines.is_empty() {
         return Ok(Outcome::Rejected(lines));
     }
-    if !may_restyle(text) {
+    if !is_safe_to_restyle(text) {
         return Ok(Outcome::Script);
     }
     Ok(Outcome::Restyled(restyled(alloc, style, macros, text)?))

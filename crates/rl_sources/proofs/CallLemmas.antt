@@ -2,7 +2,7 @@
 use Rattle.rl_syntax.proofs.Common.{Bool, IsTrue, List, [], ap, chars, encode_utf8_all, false, inl, inr, not, refl, subst, sym, true, ℕ, ◌++◌, ◌+◌, ◌&&◌, ◌||◌, ◌∙◌, ◌∷◌, ◌≡◌}
 use Rattle.std.specs.Prelude.{Option, Some, None}
 use Rattle.std.proofs.lemmas.Bool.{false≢true}
-use Rattle.rl_lexer.specs.Sources.{CutSource, IsBorrowedSource, SourceKind, PlainKind, StrayKind, source_kind, source_text, source_view}
+use Rattle.rl_lexer.specs.Sources.{CutSource, IsBorrowedSource, SourceKind, PlainKind, StrayKind, source_text, source_view}
 use Rattle.rl_lexer.specs.Lexemes.{LiteralForm, IdentifierForm}
 use Rattle.rl_lexer.specs.declared.sources.SourceToken.{SourceToken}
 use Rattle.rl_program.specs.Lines.{Appends}

@@ -1,4 +1,4 @@
--- A sought text begins with a character, and its match begins with one in the literal's text.
+-- A sought text begins with a whole character. So each match of it begins at a character boundary of the literal's text.
 use Rattle.rl_syntax.proofs.Common.{◌≡◌, ◌⊎◌, inl, inr, ℕ, zero, suc, ◌+◌, ◌-◌, ◌<◌, ◌≤◌, ◌==◌, Bool, true, false, cond, ltb, List, and_parts, eqb-true, [], ◌∷◌, ◌++◌, length, drop, get_or, refl, replicate, sym, ap, subst, ◌∙◌, arith, append-nil, append_assoc, encode_utf8, length-encode, IsUtf8, IsCharBoundary-start, map, nat_tests, ⊤}
 use Rattle.std.proofs.lemmas.Bool.{cases_lt, false≢true}
 use Rattle.std.proofs.lemmas.List.{get_or_append_left}

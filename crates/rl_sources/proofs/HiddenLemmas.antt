@@ -8,13 +8,13 @@ use Rattle.rl_sources.specs.declared.options.Options.{Options}
 use Rattle.rl_output.specs.declared.place.Place.{Place}
 use Rattle.rl_sources.specs.Hidden.{AreHiddenLines, IsHiddenLine, IsShownCharacter, hidden_end, hides}
 use Rattle.rl_output.specs.Selectors.{is_variation_selector}
-use Rattle.rl_files.specs.Visible.{needs_escape}
+use Rattle.rl_files.specs.Visible.{is_control_invisible_or_bidi}
 use Rattle.rl_sources.specs.Places.{IsContextIn, IsPlaceIn}
 use Rattle.rl_output.specs.Fronts.{line_front}
 use Rattle.rl_output.proofs.Pieces.{three_pieces}
 
 -- Printable ASCII characters are neither invisible nor bidirectional.
-plain_shown : (c : ℕ) → 32 ≤ c → c ≤ 126 → needs_escape c ≡ false
+plain_shown : (c : ℕ) → 32 ≤ c → c ≤ 126 → is_control_invisible_or_bidi c ≡ false
 plain_shown c low high = grind (arith, nat_tests)
 
 plain_character : (c : ℕ) → c ≤ 126 → is_variation_selector c ≡ false

@@ -4,7 +4,7 @@ use Rattle.std.specs.Str.{chars}
 use Rattle.std.specs.Fmt.{digits, format_spec, padded_integral}
 use Rattle.rl_syntax.specs.Texts.{byte_len, begins_char}
 use Rattle.std.specs.Char.{is_control}
-use Rattle.rl_files.specs.Visible.{needs_escape}
+use Rattle.rl_files.specs.Visible.{is_control_invisible_or_bidi}
 use Rattle.rl_lexer.specs.Sources.{without_byte_order_mark}
 use Rattle.rl_output.specs.declared.form.Form.{Form}
 use Rattle.rl_output.specs.declared.form.Form.TheVariants.{Plain, Colored, Json, Github}
@@ -24,7 +24,7 @@ is_layout c after = (c == 9) || (c == 10) || (c == 12) || ((c == 13) && begins_c
 -- that doesn't take it. `previous` is the character before `c`, or NUL at the start. `after` is the text after `c`.
 abbrev pub hides : ℕ → ℕ → List ℕ → Bool
 hides previous c after =
-    cond (is_variation_selector c) (not (takes previous c)) (needs_escape c && not (is_layout c after))
+    cond (is_variation_selector c) (not (takes previous c)) (is_control_invisible_or_bidi c && not (is_layout c after))
 
 -- A space and Unicode's name of a character that changes the direction of text. It is empty for other characters.
 abbrev pub direction_name : ℕ → List ℕ

@@ -1,5 +1,5 @@
 -- Steps of a scan.
-use Rattle.std.specs.Prelude.{◌≡◌, ◌≢◌, ◌⊎◌, ℕ, ◌+◌, ◌<◌, ◌≤◌, Bool, false, true, List, [], ◌++◌, length, IsFalse, IsTrue, Option, IfNone, IfSome}
+use Rattle.std.specs.Prelude.{◌≡◌, ◌≢◌, ◌⊎◌, ℕ, ◌+◌, ◌<◌, ◌≤◌, Bool, false, true, List, [], ◌++◌, length, IsFalse, IsTrue, MatchOption, Option, IfNone, IfSome}
 use Rattle.std.specs.Str.{chars}
 use Rattle.rl_syntax.specs.Texts.{byte_len, IsTail}
 use Rattle.rl_lexer.specs.Cursors.{CursorState, IsCursorState}
@@ -139,6 +139,12 @@ PassesUnshown options old new = (seen : CallState) → (now : CallState) × IsUn
 abbrev pub EndsUnshown : Options → CursorState → CallState → Type 0
 EndsUnshown options old seen =
     (end : CursorState) × (now : CallState) × IsUnshown options old seen end now × (end.rest ≡ [])
+
+-- The tokens up to the next one that may have output have no output. The result is that token, or `None` at the end of the source.
+-- `seen` is the position of the old cursor relative to macro calls, and `now` that of the token.
+abbrev pub ReachesShown : Options → CursorState → CallState → CursorState → CallState → Option SourceToken → Type 0
+ReachesShown options old seen new now result =
+    MatchOption result (EndsUnshown options old seen) (λ l. TakesShown options old seen l now new)
 
 -- The tokens up to the error of the source have no output. `seen` is the position of the cursor relative to macro calls.
 pub record StopsUnshown (options : Options) (old : CursorState) (seen : CallState) (e : LexError) : Type 0 where

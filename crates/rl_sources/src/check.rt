@@ -12,7 +12,7 @@ use crate::options::Options;
 use rl_flaws::{TypeError, may_be_negated, type_error};
 use rl_lenient::{Found, parse_literal};
 use rl_output::Shown;
-use rl_strict::{Flaw, LineEnds, explain_value, read};
+use rl_strict::{Flaw, LineEnds, explain_missing_value, read};
 use rl_syntax::Kind;
 
 /// Whether literals are checked for errors: if `options` request the reasons of errors, or only invalid literals.
@@ -52,7 +52,7 @@ fn flaw_in(any_value: bool, text: &str) -> Option<Flaw>
     ensures none { IfNone result (FindsNoFlaw any_value (chars text.now)) }
 {
     if !any_value {
-        return explain_value(text, LineEnds::File, false);
+        return explain_missing_value(text, LineEnds::File, false);
     }
     match read(text, LineEnds::File, false) {
         Ok(_) => None,

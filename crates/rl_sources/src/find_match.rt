@@ -107,7 +107,7 @@ fn matched_range(text: &str, found: &Found, first: usize, last: usize) -> (usize
     let hi = found
         .body
         .segments_in(found.kind, text)
-        .text_end_offset(last);
+        .text_offset_after(last);
     (lo, hi)
 }
 

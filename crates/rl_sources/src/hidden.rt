@@ -12,11 +12,11 @@ ghost use Rattle.rl_sources.specs.Hidden.{IsHiddenLine, IsShownCharacter, ShowsH
 
 use crate::options::Options;
 use crate::place::{displayed_place, push_context_of};
-use rl_files::needs_escape;
+use rl_files::is_control_invisible_or_bidi;
 use rl_lexer::without_byte_order_mark;
 use rl_output::{
-    Form, Level, Places, is_variation_selector, push_annotation_end, push_ascii, push_line_start,
-    push_member, takes_variation_selector,
+    Form, Level, Places, is_variation_selector, push_annotation_end, push_ascii_str,
+    push_line_start, push_member, takes_variation_selector,
 };
 use rl_tokens::text::{begins_with_char, split_char};
 use std::alloc::{AllocError, Allocator};
@@ -42,7 +42,7 @@ fn hides(previous: char, c: char, after: &str) -> bool
     if is_variation_selector(c) {
         return !takes_variation_selector(previous, c);
     }
-    needs_escape(c) && !is_layout(c, after)
+    is_control_invisible_or_bidi(c) && !is_layout(c, after)
 }
 
 /// Returns a space and Unicode's name of a character that changes the direction of text. The result is empty for other characters.
@@ -96,7 +96,7 @@ fn push_hidden_words<A: Allocator>(out: &mut String<A>, words: &str) -> Result<(
         ≡ chars (string_bytes out.old) ++ (chars words.now ++ codes "\n")) }
 {
     out.push_str(words)?;
-    push_ascii(out, "\n")
+    push_ascii_str(out, "\n")
 }
 
 /// Appends the JSON members `id` and `hidden` for an invisible or bidirectional character, `}` and a line end. `words` is the
@@ -113,7 +113,7 @@ fn push_hidden_member<A: Allocator>(
 {
     push_member(out, "id", id)?;
     push_member(out, "hidden", words)?;
-    push_ascii(out, "}\n")
+    push_ascii_str(out, "}\n")
 }
 
 /// Appends a GitHub annotation's text after its position. `words` is the message for an invisible or bidirectional character.

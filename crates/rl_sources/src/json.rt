@@ -15,7 +15,7 @@ use crate::find_match::{byte_contents, bytes_contents};
 use crate::finding::Reason;
 use rl_fronts::{digits_of_found, str_of_body};
 use rl_lenient::Found;
-use rl_output::{id_of, push_ascii, push_json_string, push_member};
+use rl_output::{id_of, push_ascii_str, push_json_string, push_member};
 use rl_program::label_of;
 use rl_syntax::Kind;
 use rl_tokens::LexKind;
@@ -41,11 +41,11 @@ fn push_array<A: Allocator>(out: &mut String<A>, numbers: &[u8]) -> Result<(), A
         ≡ chars (string_bytes out.old) ++ number_array numbers.now) }
 {
     let Some((first, others)) = numbers.split_first() else {
-        return push_ascii(out, "[]");
+        return push_ascii_str(out, "[]");
     };
     write!(out, "[{first}")?;
     push_more_numbers(out, others)?;
-    push_ascii(out, "]")
+    push_ascii_str(out, "]")
 }
 
 /// Appends the value of the string literal `text` as a JSON string, from its parse result `found`.
@@ -150,9 +150,9 @@ fn push_truth<A: Allocator>(out: &mut String<A>, value: bool) -> Result<(), Allo
         (chars (string_bytes out.new) ≡ chars (string_bytes out.old) ++ truth_text value) }
 {
     if value {
-        push_ascii(out, "true")
+        push_ascii_str(out, "true")
     } else {
-        push_ascii(out, "false")
+        push_ascii_str(out, "false")
     }
 }
 
@@ -183,7 +183,7 @@ fn push_suffix<A: Allocator>(out: &mut String<A>, suffix: &str) -> Result<(), Al
         ++ (string_member (codes "suffix") (chars suffix.now) ++ codes "}\n")) }
 {
     push_member(out, "suffix", suffix)?;
-    push_ascii(out, "}\n")
+    push_ascii_str(out, "}\n")
 }
 
 /// Appends the JSON members for the literal `text`, `}` and a line end. The members are kind, text, value and suffix, and `found`
@@ -200,7 +200,7 @@ fn push_found_members<A: Allocator>(
 {
     push_member(out, "kind", label_of(Some(found.kind)))?;
     push_member(out, "text", text)?;
-    push_ascii(out, ",\"value\":")?;
+    push_ascii_str(out, ",\"value\":")?;
     push_value(alloc, out, text, found)?;
     push_suffix(out, found.suffix_in(text))
 }
@@ -213,7 +213,7 @@ fn push_verbatim_members<A: Allocator>(out: &mut String<A>, text: &str) -> Resul
 {
     push_member(out, "kind", "Verbatim")?;
     push_member(out, "text", text)?;
-    push_ascii(out, ",\"value\":null")?;
+    push_ascii_str(out, ",\"value\":null")?;
     push_suffix(out, "")
 }
 
@@ -245,7 +245,7 @@ fn push_flawed_text<A: Allocator>(out: &mut String<A>, text: &str) -> Result<(),
         ≡ chars (string_bytes out.old) ++ flawed_text_member (chars text.now)) }
 {
     if text.len() > MOST_BYTES {
-        return push_ascii(out, ",\"text\":null");
+        return push_ascii_str(out, ",\"text\":null");
     }
     push_member(out, "text", text)
 }
@@ -265,7 +265,7 @@ pub(crate) fn push_json_finding<A: Allocator>(
     push_member(out, "id", reason.id())?;
     push_member(out, "error", reason.message())?;
     push_member(out, "piece", piece)?;
-    push_ascii(out, "}\n")
+    push_ascii_str(out, "}\n")
 }
 
 /// Appends the JSON member `piece`, if the text isn't empty.
@@ -293,5 +293,5 @@ pub(crate) fn push_json_error<A: Allocator>(
     push_member(out, "id", id_of(kind))?;
     push_member(out, "error", kind.message())?;
     push_piece(out, piece)?;
-    push_ascii(out, "}\n")
+    push_ascii_str(out, "}\n")
 }

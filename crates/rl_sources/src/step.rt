@@ -13,7 +13,7 @@ ghost use Rattle.rl_sources.specs.Scans.{IsErrorAt, IsHeldLine, IsLineAt, IsLine
 ghost use Rattle.rl_output.specs.declared.form.Form.TheVariants.{Github};
 ghost use Rattle.rl_output.specs.declared.choice.Spelling.TheVariants.{Value};
 ghost use Rattle.rl_output.specs.declared.choice.Shown.TheVariants.{Bad};
-ghost use Rattle.rl_sources.specs.Steps.{BeginsRest, EndsUnshown, IsAcceptedToken, IsCursorOver, FollowsCalls, IsLiteralOf, IsShownAt, IsStepOf, IsStopAt, IsValidUnshown, MayShow, PassesUnshown, ShowsNothing, StopsUnshown, TakesShown};
+ghost use Rattle.rl_sources.specs.Steps.{BeginsRest, IsAcceptedToken, IsCursorOver, FollowsCalls, IsLiteralOf, IsShownAt, IsStepOf, IsStopAt, IsValidUnshown, MayShow, PassesUnshown, ReachesShown, ShowsNothing, StopsUnshown};
 ghost use Rattle.rl_sources.specs.Findings.{IsFoundIn};
 ghost use Rattle.rl_style.specs.Calls.{advance_calls, calls_seen, is_in_call};
 ghost use Rattle.rl_sources.specs.Options.{options_at as options_in};
@@ -437,8 +437,7 @@ fn next_token<'t>(
     ensures token { IfOk result (λ token. MatchOption token (tokens.old.rest ≡ [])
         (λ l. TakesSource tokens.old l tokens.new)) }
     ensures accepted { IfOk result (IsAcceptedToken ends_at_strays) }
-    ensures shorter { IfOk result (λ token. IfSome token
-        (λ l. length tokens.new.rest < length tokens.old.rest)) }
+    ensures shorter { IfOk result (λ token. IfSome token (λ l. length tokens.new.rest < length tokens.old.rest)) }
     ensures error { IfErr result (λ e. IsErrorAt ends_at_strays e.kind (chars tokens.old.rest)) }
     ensures place { IfErr result (λ e. e.at + length tokens.old.rest ≡ length tokens.old.text) }
 {
@@ -504,11 +503,9 @@ fn next_strictly<'t>(
 ) -> Result<Option<SourceToken<'t>>, LexError>
     requires stands { IsCursorOver tokens.old places.now }
     requires follows { FollowsCalls options → IsTrue follows }
-    ensures literal { IfOk result (λ token. MatchOption token
-        (EndsUnshown options.entry tokens.old (calls_seen calls.old))
-        (λ l. TakesShown options.entry tokens.old (calls_seen calls.old) l (calls_seen calls.new) tokens.new)) }
-    ensures shorter { IfOk result (λ token. IfSome token
-        (λ l. length tokens.new.rest < length tokens.old.rest)) }
+    ensures literal { IfOk result
+        (ReachesShown options.entry tokens.old (calls_seen calls.old) tokens.new (calls_seen calls.new)) }
+    ensures shorter { IfOk result (λ token. IfSome token (λ l. length tokens.new.rest < length tokens.old.rest)) }
     ensures error { IfErr result (StopsUnshown options.entry tokens.old (calls_seen calls.old)) }
 {
     let ends = ends_at_strays(&options);
@@ -553,8 +550,8 @@ fn same_position<'t>(tokens: &Sources<'t>, places: &Places<'t>) -> Sources<'t>
     Sources::resume(places.rest_at(0), tokens.rest())
 }
 
-/// Lexes tokens up to the next literal that is invalid outside of macro calls, and returns that literal. `calls` becomes its position
-/// relative to macro calls. Only invalid literals are shown.
+/// Lexes tokens up to the next literal that is invalid outside of macro calls, and returns that literal. `calls` becomes its
+/// position relative to macro calls. Only invalid literals are shown.
 ///
 /// Most sources have no such literal. So another cursor first looks for one without following macro calls, which takes less than
 /// half of the instructions. Then at most one pass follows macro calls up to that literal.
@@ -567,11 +564,9 @@ fn next_invalid<'t>(
     requires stands { IsCursorOver tokens.old places.now }
     requires bad { options.shown ≡ Bad }
     requires lax { options.rejects_strays ≡ false }
-    ensures literal { IfOk result (λ token. MatchOption token
-        (EndsUnshown options.entry tokens.old (calls_seen calls.old))
-        (λ l. TakesShown options.entry tokens.old (calls_seen calls.old) l (calls_seen calls.new) tokens.new)) }
-    ensures shorter { IfOk result (λ token. IfSome token
-        (λ l. length tokens.new.rest < length tokens.old.rest)) }
+    ensures literal { IfOk result
+        (ReachesShown options.entry tokens.old (calls_seen calls.old) tokens.new (calls_seen calls.new)) }
+    ensures shorter { IfOk result (λ token. IfSome token (λ l. length tokens.new.rest < length tokens.old.rest)) }
     ensures error { IfErr result (StopsUnshown options.entry tokens.old (calls_seen calls.old)) }
 {
     let mut ahead = same_position(tokens, places);
@@ -598,11 +593,9 @@ fn next_followed<'t>(
 ) -> Result<Option<SourceToken<'t>>, LexError>
     requires stands { IsCursorOver tokens.old places.now }
     requires follows { FollowsCalls options → IsTrue follows }
-    ensures literal { IfOk result (λ token. MatchOption token
-        (EndsUnshown options.entry tokens.old (calls_seen calls.old))
-        (λ l. TakesShown options.entry tokens.old (calls_seen calls.old) l (calls_seen calls.new) tokens.new)) }
-    ensures shorter { IfOk result (λ token. IfSome token
-        (λ l. length tokens.new.rest < length tokens.old.rest)) }
+    ensures literal { IfOk result
+        (ReachesShown options.entry tokens.old (calls_seen calls.old) tokens.new (calls_seen calls.new)) }
+    ensures shorter { IfOk result (λ token. IfSome token (λ l. length tokens.new.rest < length tokens.old.rest)) }
     ensures error { IfErr result (StopsUnshown options.entry tokens.old (calls_seen calls.old)) }
 {
     match options.shown {
@@ -625,11 +618,9 @@ fn next_literal<'t>(
 ) -> Result<Option<SourceToken<'t>>, LexError>
     requires stands { IsCursorOver tokens.old places.now }
     requires follows { FollowsCalls options → IsTrue follows }
-    ensures literal { IfOk result (λ token. MatchOption token
-        (EndsUnshown options.entry tokens.old (calls_seen calls.old))
-        (λ l. TakesShown options.entry tokens.old (calls_seen calls.old) l (calls_seen calls.new) tokens.new)) }
-    ensures shorter { IfOk result (λ token. IfSome token
-        (λ l. length tokens.new.rest < length tokens.old.rest)) }
+    ensures literal { IfOk result
+        (ReachesShown options.entry tokens.old (calls_seen calls.old) tokens.new (calls_seen calls.new)) }
+    ensures shorter { IfOk result (λ token. IfSome token (λ l. length tokens.new.rest < length tokens.old.rest)) }
     ensures error { IfErr result (StopsUnshown options.entry tokens.old (calls_seen calls.old)) }
 {
     if options.rejects_strays || follows {

@@ -84,7 +84,7 @@ word_bare c [] each some d x plain e = some refl
 word_bare c (k ∷ more) each some d x plain e = both_ways (k == 39) (not_among k 39 is_continue (and_parts (is_continue
     k) (list_all is_continue more) each).0 continue_39) (second_is c k d (more ++ (39 ∷ [])) x e)
 
--- ---- all other texts up to a quote
+-- ---- texts between apostrophes that are longer than one character or escape
 
 suffix_39 : (suffix after : List ℕ) → IsLexedSuffix suffix after → first_passes (λ c. c == 39) suffix ≡ false
 suffix_39 [] after is = refl

@@ -1,5 +1,5 @@
 -- Integers above 128 bits: the byte offset of their suffix. Any other literal token parses by `syn`'s grammar.
-use Rattle.rl_strict.proofs.Names.{◌≡◌, ℕ, ◌+◌, ◌-◌, ◌<◌, ◌≤◌, ◌⊎◌, ◌||◌, ◌==◌, Bool, true, false, cond, List, [], ◌∷◌, ◌++◌, length, take, Some, None, refl, sym, ap, subst, ◌∙◌, inl, inr, cases_Bool, cases_lt, is_ascii_digit, IsUtf8, IsUtf8-take, Int, Float, Contents, Digits, NoSign, Sign, first_passes, limit, HasNoReading, HasReading, IsPast, byte_len, drop, IsCharBoundary, le-leb, lt-leb, IsTail, IntReads, dec, StrictFloat, StrictInt, begins_number, int_front, float_strict_reads, minus_int, signed_float, strict_float, strict_int, suffix_in, is_number_front, only_number, Reading, Unit, Integer, AFloat, Truth, oversized_suffix_at, IsSignedToken, in_128_bits, IsSignedRead, IsToken, cut_boundary, cut_chars, within_reads, place_value}
+use Rattle.rl_strict.proofs.Names.{◌≡◌, ℕ, ◌+◌, ◌-◌, ◌<◌, ◌≤◌, ◌⊎◌, ◌||◌, ◌==◌, Bool, true, false, cond, List, [], ◌∷◌, ◌++◌, length, take, Some, None, refl, sym, ap, subst, ◌∙◌, inl, inr, cases_Bool, cases_lt, is_ascii_digit, IsUtf8, IsUtf8-take, Int, Float, Contents, Digits, NoSign, Sign, first_passes, limit, HasNoReading, HasReading, IsPast, byte_len, drop, IsCharBoundary, le-leb, lt-leb, IsTail, IntReads, dec, StrictFloat, StrictInt, begins_number, int_front, float_strict_reads, minus_int, signed_float, strict_float, strict_int, suffix_in, is_number_front, only_number, Reading, Unit, Integer, AFloat, Truth, suffix_at_if_above_128_bits, IsSignedToken, in_128_bits, IsSignedRead, IsToken, cut_boundary, cut_chars, within_reads, place_value}
 use Rattle.rl_syntax.proofs.Common.{chars}
 use Rattle.rl_lenient.proofs.Names.{Minus}
 use Rattle.rl_lenient.proofs.NumberLemmas.{past_number}
@@ -135,7 +135,7 @@ within_of t x s n m r h =
 
 -- An integer whose parse result has the magnitude `None` is above 128 bits. The byte offset in the parse result is where the
 -- integer's suffix begins.
-pub signed_past : (t : List ℕ) (r : Reading) (at : ℕ) → IsSignedRead t r → oversized_suffix_at r ≡ Some at → IsCharBoundary t at
+pub signed_past : (t : List ℕ) (r : Reading) (at : ℕ) → IsSignedRead t r → suffix_at_if_above_128_bits r ≡ Some at → IsCharBoundary t at
     × ((past : IsPast (chars t)) × (past.suffix ≡ chars (drop at t)))
 signed_past t (Integer None k) at y e =
     let same : k ≡ at = cc in
@@ -153,10 +153,10 @@ signed_past t (Integer None k) at y e =
 signed_past t r at y e = absurd (cc)
 
 -- The parse result of an integer above 128 bits is an integer with the magnitude `None`.
-pub signed_within : (t : List ℕ) (r : Reading) → IsSignedRead t r → oversized_suffix_at r ≡ None → IsPast (chars t) → ⊥
+pub signed_within : (t : List ℕ) (r : Reading) → IsSignedRead t r → suffix_at_if_above_128_bits r ≡ None → IsPast (chars t) → ⊥
 signed_within t r y e p = read_within (chars t) (reading t r y e) p
   where
-    reading : (t : List ℕ) (r : Reading) → IsSignedRead t r → oversized_suffix_at r ≡ None → HasReading (chars t)
+    reading : (t : List ℕ) (r : Reading) → IsSignedRead t r → suffix_at_if_above_128_bits r ≡ None → HasReading (chars t)
     reading t (Text kind body) (inl f) e = (kind, (f.reads.0, chars (suffix_in t body), f.reads.1))
     reading t (Unit kind body unit) (inl f) e = (kind, (f.reads.0, chars (suffix_in t body), f.reads.1))
     reading t (Integer (Some m) at) (inl (b, i)) e = within_of (chars t) (chars (drop at t)) NoSign i.0 m

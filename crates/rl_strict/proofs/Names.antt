@@ -38,7 +38,7 @@ pub use Rattle.rl_lexer.specs.Sources.{BadQuoteToken, BeginsProper, IsSource, Pl
 pub use Rattle.rl_strict.specs.FileTexts.{ExplainsInFile, ExplainsSignedInFile, ExplainsSignedValueInFile, ExplainsValueInFile, IsPlaceInFile}
 pub use Rattle.rl_strict.specs.FlawKinds.{AfterBrace, AfterDigits, AsItIs, AtBrace, AtSixth, ByDigits, ByLetter, ByNumber, FirstDigit, HasNoCode, IsBraced, IsNoCode, IsUnopened, SecondDigit, UnitFlaw, digit_count, is_quote, number_of}
 pub use Rattle.rl_strict.specs.Flaws.{HasKind, IsCompletable, IsPlaced, StopsBefore, first_len}
-pub use Rattle.rl_strict.specs.Limits.{ExplainsLimit, ExplainsValue, IsFloatBySuffix, IsFloatSuffix, IsLimitFlaw, oversized_suffix_at}
+pub use Rattle.rl_strict.specs.Limits.{ExplainsLimit, ExplainsValue, IsFloatBySuffix, IsFloatSuffix, IsLimitFlaw, suffix_at_if_above_128_bits}
 pub use Rattle.rl_strict.specs.LineEnds.{IsFileRest, IsRestOf, StopsAsRead, drops, is_dropped, is_seam, lf_text, read_of}
 unfoldable pub use Rattle.rl_strict.specs.Mirrors.NumberRead.{based_read_at, digits_end_at, fraction_end_at, number_read_at, power_end_at, suffix_end_at, whole_read_at}
 pub use Rattle.rl_strict.specs.Mirrors.NumberRead.{Ending, NumberRead, as_float, as_integer, ended, number_outcome, stopped}

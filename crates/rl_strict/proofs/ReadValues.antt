@@ -1,5 +1,5 @@
 -- A parsed text has a value, unless it is an integer above 128 bits that isn't a float by its suffix.
-use Rattle.rl_strict.proofs.Names.{◌≡◌, ℕ, Bool, true, false, List, Option, Some, None, IfNone, IfSome, refl, sym, subst, inl, inr, IsUtf8, IsPast, chars, Flaw, LineEnds, Text, File, Reading, AText, Unit, Integer, AFloat, Truth, ExplainsLimit, IsFloatBySuffix, oversized_suffix_at, read_of, ExplainsOf, ExplainsValueOf, HasValueOf, IsReadingOf, IsTokenIf, ReadsOf, lf_bytes, IsSignedToken, IsSignedRead}
+use Rattle.rl_strict.proofs.Names.{◌≡◌, ℕ, Bool, true, false, List, Option, Some, None, IfNone, IfSome, refl, sym, subst, inl, inr, IsUtf8, IsPast, chars, Flaw, LineEnds, Text, File, Reading, AText, Unit, Integer, AFloat, Truth, ExplainsLimit, IsFloatBySuffix, suffix_at_if_above_128_bits, read_of, ExplainsOf, ExplainsValueOf, HasValueOf, IsReadingOf, IsTokenIf, ReadsOf, lf_bytes, IsSignedToken, IsSignedRead}
 use Rattle.rl_strict.proofs.FilePlaces.{lf_chars}
 use Rattle.rl_strict.proofs.LimitLemmas.{either, signed_within}
 
@@ -14,25 +14,25 @@ signed_read true t r h = h
 -- ---- an integer above 128 bits contains no CR LF
 
 pub past_read : (how : LineEnds) (signed : Bool) (t : List ℕ) (r : Reading) (at : ℕ) → IsReadingOf how signed t r
-    → oversized_suffix_at r ≡ Some at → (read_of how (chars t) ≡ chars t) × IsSignedRead t r
+    → suffix_at_if_above_128_bits r ≡ Some at → (read_of how (chars t) ≡ chars t) × IsSignedRead t r
 past_read Text signed t r at h e = (refl, signed_read signed t r h)
 past_read File signed t (Integer m k) at h e = (h.0, signed_read signed t (Integer m k) h.1)
 past_read File signed t other at h e = absurd (cc)
 
 pub past_token : (how : LineEnds) (signed : Bool) (t : List ℕ) (r : Reading) (at : ℕ) → IsReadingOf how signed t r
-    → oversized_suffix_at r ≡ Some at → IsTokenIf signed (read_of how (chars t)) → IsSignedToken (chars t)
+    → suffix_at_if_above_128_bits r ≡ Some at → IsTokenIf signed (read_of how (chars t)) → IsSignedToken (chars t)
 past_token how signed t r at h e y = subst IsSignedToken (past_read how signed t r at h e).0
     (signed_token signed (read_of how (chars t)) y)
 
 -- A decimal integer above 128 bits with the suffix `f32` or `f64` has a value, since Rust reads it as a float.
 pub past_value : (how : LineEnds) (signed : Bool) (t : List ℕ) (r : Reading) (at : ℕ) → IsReadingOf how signed t r
-    → oversized_suffix_at r ≡ Some at → IsFloatBySuffix (chars t) → HasValueOf how (chars t)
+    → suffix_at_if_above_128_bits r ≡ Some at → IsFloatBySuffix (chars t) → HasValueOf how (chars t)
 past_value how signed t r at h e f = inr (subst IsFloatBySuffix (sym (past_read how signed t r at h e).0) f)
 
 -- ---- any other parsed text has a value
 
 within : (how : LineEnds) (signed : Bool) (t : List ℕ) (r : Reading) → IsUtf8 t → IsReadingOf how signed t r
-    → oversized_suffix_at r ≡ None → IsPast (read_of how (chars t)) → ⊥
+    → suffix_at_if_above_128_bits r ≡ None → IsPast (read_of how (chars t)) → ⊥
 within Text signed t r u h e p = signed_within t r (signed_read signed t r h) e p
 within File signed t (AText kind body) u h e p =
     signed_within (lf_bytes t) (AText kind h.0) (inl h.1) refl (subst IsPast (sym (lf_chars t u)) p)
@@ -46,7 +46,7 @@ within File signed t (Truth truth) u h e p =
     signed_within t (Truth truth) (signed_read signed t (Truth truth) h.1) e (subst IsPast h.0 p)
 
 pub has_value : (how : LineEnds) (signed : Bool) (t : List ℕ) (r : Reading) → IsUtf8 t → IsReadingOf how signed t r
-    → oversized_suffix_at r ≡ None → IsTokenIf signed (read_of how (chars t)) → HasValueOf how (chars t)
+    → suffix_at_if_above_128_bits r ≡ None → IsTokenIf signed (read_of how (chars t)) → HasValueOf how (chars t)
 has_value how signed t r u h e y = elim (either (read_of how (chars t)) (signed_token signed (read_of how (chars t)) y)) [
   | inl reads ↦ inl reads
   | inr p ↦ absurd (within how signed t r u h e p)

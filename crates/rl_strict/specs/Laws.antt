@@ -41,7 +41,7 @@ abbrev pub ATextHasOneSignedFlaw : Type 0
 ATextHasOneSignedFlaw = (text : List ℕ) → IsExplainedOnce ExplainsSigned text
 
 -- A text has at most one flaw that explains why it has no value. An integer above 128 bits,
--- with or without a minus before it, has no value. `explain_value` returns this flaw.
+-- with or without a minus before it, has no value. `explain_missing_value` returns this flaw.
 abbrev pub ATextHasOneValueFlaw : Type 0
 ATextHasOneValueFlaw = (text : List ℕ) → IsExplainedOnce ExplainsValue text
 
@@ -50,7 +50,7 @@ abbrev pub ATokenReadsOrIsPastTheLimit : Type 0
 ATokenReadsOrIsPastTheLimit = (text : List ℕ) → IsSignedToken text → HasReading text ⊎ IsPast text
 
 -- A literal token, or a minus and a number, that doesn't parse by `syn`'s grammar is an integer above 128 bits. So if a text
--- doesn't parse, `explain_value` returns a reason, unless the text is a float only by its suffix (`is_float_by_suffix`).
+-- doesn't parse, `explain_missing_value` returns a reason, unless the text is a float only by its suffix (`is_float_by_suffix`).
 abbrev pub AnUnreadTokenIsPastTheLimit : Type 0
 AnUnreadTokenIsPastTheLimit = (text : List ℕ) → HasNoReading text → IsSignedToken text → IsPast text
 
@@ -78,12 +78,12 @@ ATextInAFileHasOneFlaw = (text : List ℕ) → IsExplainedOnce ExplainsInFile te
 abbrev pub ATextInAFileHasOneSignedFlaw : Type 0
 ATextInAFileHasOneSignedFlaw = (text : List ℕ) → IsExplainedOnce ExplainsSignedInFile text
 
--- A literal's text in a file has at most one flaw that explains why it has no value. `explain_value` with `LineEnds::File`
+-- A literal's text in a file has at most one flaw that explains why it has no value. `explain_missing_value` with `LineEnds::File`
 -- returns this flaw.
 abbrev pub ATextInAFileHasOneValueFlaw : Type 0
 ATextInAFileHasOneValueFlaw = (text : List ℕ) → IsExplainedOnce ExplainsValueInFile text
 
 -- A literal's text in a file has at most one flaw that explains why it has no value, if a minus before a number is allowed.
--- `explain_value` with `LineEnds::File` and `signed = true` returns this flaw.
+-- `explain_missing_value` with `LineEnds::File` and `signed = true` returns this flaw.
 abbrev pub ATextInAFileHasOneSignedValueFlaw : Type 0
 ATextInAFileHasOneSignedValueFlaw = (text : List ℕ) → IsExplainedOnce ExplainsSignedValueInFile text

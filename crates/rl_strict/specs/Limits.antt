@@ -12,9 +12,9 @@ use Rattle.rl_strict.specs.declared.strict_reading.Reading.{Reading}
 use Rattle.rl_strict.specs.declared.strict_reading.Reading.TheVariants.{Integer}
 
 -- The byte offset of the suffix of an integer above 128 bits, and `None` for any other parse result.
-abbrev pub oversized_suffix_at : Reading → Option ℕ
-oversized_suffix_at (Integer None suffix_at) = Some suffix_at
-oversized_suffix_at _ = None
+abbrev pub suffix_at_if_above_128_bits : Reading → Option ℕ
+suffix_at_if_above_128_bits (Integer None suffix_at) = Some suffix_at
+suffix_at_if_above_128_bits _ = None
 
 -- The text is an integer above 128 bits, and the flaw is of the kind `TooLarge`. The byte offset `lo` is where the suffix
 -- begins, and `hi` is the byte offset after the suffix's first character. Without a suffix, `lo` and `hi` are the text's

@@ -24,13 +24,13 @@ pub fn a_text_has_one_signed_flaw()
 {}
 
 /// A text has at most one flaw that explains why it has no value. An integer above 128 bits,
-/// with or without a minus before it, has no value. [`explain_value`](crate::explain_value) returns this flaw.
+/// with or without a minus before it, has no value. [`explain_missing_value`](crate::explain_missing_value) returns this flaw.
 pub fn a_text_has_one_value_flaw()
     ensures { ATextHasOneValueFlaw }
 {}
 
 /// A literal token, or a minus and a number, parses by `syn`'s grammar or is an integer above 128 bits. So if a text doesn't
-/// parse, [`explain_value`](crate::explain_value) returns a reason, unless the text is a float only by its suffix
+/// parse, [`explain_missing_value`](crate::explain_missing_value) returns a reason, unless the text is a float only by its suffix
 /// ([`is_float_by_suffix`](crate::is_float_by_suffix)).
 pub fn a_strict_literal_is_a_syn_literal_or_above_128_bits()
     ensures either { ATokenReadsOrIsPastTheLimit }
@@ -57,14 +57,14 @@ pub fn a_text_in_a_file_has_one_signed_flaw()
     ensures { ATextInAFileHasOneSignedFlaw }
 {}
 
-/// A literal's text in a file has at most one flaw that explains why it has no value. [`explain_value`](crate::explain_value)
-/// with `LineEnds::File` returns this flaw.
+/// A literal's text in a file has at most one flaw that explains why it has no value.
+/// [`explain_missing_value`](crate::explain_missing_value) with `LineEnds::File` returns this flaw.
 pub fn a_text_in_a_file_has_one_value_flaw()
     ensures { ATextInAFileHasOneValueFlaw }
 {}
 
 /// A literal's text in a file has at most one flaw that explains why it has no value, if a minus before a number is allowed.
-/// [`explain_value`](crate::explain_value) with `LineEnds::File` and `signed = true` returns this flaw.
+/// [`explain_missing_value`](crate::explain_missing_value) with `LineEnds::File` and `signed = true` returns this flaw.
 pub fn a_text_in_a_file_has_one_signed_value_flaw()
     ensures { ATextInAFileHasOneSignedValueFlaw }
 {}

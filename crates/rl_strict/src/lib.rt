@@ -41,8 +41,8 @@ pub mod walk;
 pub mod walk_units;
 
 pub use crate::flaws::{Flaw, FlawKind};
-pub use crate::limits::{is_float_by_suffix, limit_flaw};
+pub use crate::limits::{flaw_above_128_bits, is_float_by_suffix};
 pub use crate::line_ends::LineEnds;
 pub use crate::read_numbers::Number;
-pub use crate::reasons::{explain, explain_value};
+pub use crate::reasons::{explain, explain_missing_value};
 pub use crate::strict_reading::{Reading, read};

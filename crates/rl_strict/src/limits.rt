@@ -3,7 +3,7 @@
 ghost use Rattle.std.specs.Prelude.{◌≡◌, ◌↔◌, Bool, IfNone, IfSome, IsTrue, drop};
 ghost use Rattle.std.specs.Str.{chars, IsCharBoundary};
 ghost use Rattle.rl_syntax.specs.Reading.{IsPast};
-ghost use Rattle.rl_strict.specs.Limits.{ExplainsLimit, IsFloatBySuffix, IsLimitFlaw, oversized_suffix_at};
+ghost use Rattle.rl_strict.specs.Limits.{ExplainsLimit, IsFloatBySuffix, IsLimitFlaw, suffix_at_if_above_128_bits};
 ghost use Rattle.rl_strict.specs.LineEnds.{read_of};
 ghost use Rattle.rl_strict.specs.Readings.{HasValueOf, IsReadingOf, IsTokenIf};
 ghost use Rattle.rl_strict.specs.declared.line_ends.LineEnds.{LineEnds as AnyEnds};
@@ -14,8 +14,8 @@ use crate::strict_reading::{Reading, flaw_with_offsets};
 use rl_lenient::digit_runs::{after_minus, begins_digit, skip_digits};
 
 /// Returns the byte offset of the suffix if `reading` is an integer above 128 bits, and `None` otherwise.
-pub fn oversized_suffix_at(reading: Reading) -> Option<usize>
-    ensures { result ≡ oversized_suffix_at reading }
+pub fn suffix_at_if_above_128_bits(reading: Reading) -> Option<usize>
+    ensures { result ≡ suffix_at_if_above_128_bits reading }
 {
     match reading {
         Reading::Integer(None, suffix_at) => Some(suffix_at),
@@ -40,7 +40,7 @@ pub fn is_float_by_suffix(text: &str) -> bool
 
 /// Returns the flaw of an integer above 128 bits, whose suffix begins at the byte offset `suffix_at`. The text to show for
 /// the flaw begins at the start of `text`.
-pub fn limit_flaw(text: &str, suffix_at: usize) -> Flaw
+pub fn flaw_above_128_bits(text: &str, suffix_at: usize) -> Flaw
     requires boundary { IsCharBoundary text.now suffix_at }
     requires past { (past : IsPast (chars text.now)) × (past.suffix ≡ chars (drop suffix_at text.now)) }
     ensures { IsLimitFlaw (chars text.now) result }
@@ -51,19 +51,19 @@ pub fn limit_flaw(text: &str, suffix_at: usize) -> Flaw
 
 /// Returns the flaw of `text` if `reading`, its parse result, is an integer above 128 bits that its suffix doesn't make a
 /// float.
-pub fn limit_flaw_of_reading(text: &str, reading: Reading) -> Option<Flaw>
+pub fn flaw_if_above_128_bits(text: &str, reading: Reading) -> Option<Flaw>
     requires { (ends : AnyEnds) × (signed : Bool) × IsReadingOf ends signed text.now reading
         × IsTokenIf signed (read_of ends (chars text.now)) }
     ensures none { IfNone result ((ends : AnyEnds) (signed : Bool) → IsReadingOf ends signed text.now reading
         → IsTokenIf signed (read_of ends (chars text.now)) → HasValueOf ends (chars text.now)) }
     ensures some { IfSome result (ExplainsLimit (chars text.now)) }
 {
-    match oversized_suffix_at(reading) {
+    match suffix_at_if_above_128_bits(reading) {
         Some(suffix_at) => {
             if is_float_by_suffix(text) {
                 None
             } else {
-                Some(limit_flaw(text, suffix_at))
+                Some(flaw_above_128_bits(text, suffix_at))
             }
         }
         None => None,

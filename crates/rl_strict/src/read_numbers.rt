@@ -229,7 +229,7 @@ pub fn parse_number(text: &str) -> Result<Number<'_>, Stop<'_>>
 /// text that begins where parsing stopped.
 #[inline(always)]
 #[tactic(auto, using(crate::proofs::ReadNumbers::read_ok, crate::proofs::ReadNumbers::read_err, crate::proofs::ReadNumbers::read_token))]
-pub fn read_number(text: &str) -> Result<Number<'_>, Stop<'_>>
+pub fn parse_number_token(text: &str) -> Result<Number<'_>, Stop<'_>>
     requires digit { IsTrue (first_passes is_ascii_digit (chars text.now)) }
     ensures token { IfOk result (λ n. IsToken (chars text.now)) }
     ensures number { IfOk result (IsNumberRead (chars text.now)) }

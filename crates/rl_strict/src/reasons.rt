@@ -8,14 +8,14 @@ ghost use Rattle.rl_strict.specs.StrictFlaws.{ExplainsStrictly};
 ghost use Rattle.rl_strict.specs.StrictShapes.{IsToken};
 
 use crate::flaws::Flaw;
-use crate::limits::limit_flaw_of_reading;
+use crate::limits::flaw_if_above_128_bits;
 use crate::line_ends::LineEnds;
 use crate::strict_reading::read;
 
 /// Returns the flaw that explains why `text` isn't a literal token of Rust's grammar, or `None` if it is one.
 ///
 /// The flaw is the error that [`read`] returns. A minus is a token of its own, so the text of a negative number has a flaw. An
-/// integer above 128 bits is a token, and [`explain_value`] reports it. Nothing is allocated.
+/// integer above 128 bits is a token, and [`explain_missing_value`] reports it. Nothing is allocated.
 ///
 /// # Example
 ///
@@ -41,28 +41,30 @@ pub fn explain(text: &str) -> Option<Flaw>
 
 /// Returns the flaw that explains why `text` has no value in Rust, or `None` if it has one.
 ///
-/// The flaw is the error that [`read`] returns, or [`limit_flaw`](crate::limit_flaw) for an integer above 128 bits. A text that
-/// is a float because of its suffix ([`is_float_by_suffix`](crate::is_float_by_suffix)) has a value. Nothing is allocated.
+/// The flaw is the error that [`read`] returns, or [`flaw_above_128_bits`](crate::flaw_above_128_bits) for an integer above 128
+/// bits. A text that is a float because of its suffix ([`is_float_by_suffix`](crate::is_float_by_suffix)) has a value. Nothing
+/// is allocated.
 ///
 /// # Example
 ///
 /// ```
-/// use rl_grammar::{LineEnds, explain_value};
+/// use rl_grammar::{LineEnds, explain_missing_value};
 ///
 /// pub fn why_no_value(text: &str) -> Option<&'static str> {
-///     Some(explain_value(text, LineEnds::Text, true)?.kind.message())
+///     let flaw = explain_missing_value(text, LineEnds::Text, true)?;
+///     Some(flaw.kind.message())
 /// }
 /// // why_no_value("-340282366920938463463374607431768211456") == Some("integer above 128 bits")
 /// // why_no_value("-1e") == Some("no digit in the exponent")
 /// // why_no_value("-1") == None
 /// ```
-pub fn explain_value(text: &str, ends: LineEnds, signed: bool) -> Option<Flaw>
+pub fn explain_missing_value(text: &str, ends: LineEnds, signed: bool) -> Option<Flaw>
     ensures token { IfNone result (IsTokenIf signed (read_of ends (chars text.now))) }
     ensures none { IfNone result (HasValueOf ends (chars text.now)) }
     ensures some { IfSome result (ExplainsValueOf ends signed (chars text.now)) }
 {
     match read(text, ends, signed) {
-        Ok(reading) => limit_flaw_of_reading(text, reading),
+        Ok(reading) => flaw_if_above_128_bits(text, reading),
         Err(flaw) => Some(flaw),
     }
 }

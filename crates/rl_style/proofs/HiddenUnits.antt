@@ -5,7 +5,7 @@ use Rattle.std.specs.Str.{IsUtf8, chars}
 use Rattle.std.proofs.lemmas.Bool.{le-ltb}
 use Rattle.std.proofs.Math.Utf8.{scalars}
 use Rattle.rl_syntax.proofs.Basics.{all_weaker, false_unless}
-use Rattle.rl_writing.specs.Hiding.{needs_escape}
+use Rattle.rl_writing.specs.Hiding.{is_control_invisible_or_bidi}
 use Rattle.rl_lenient.proofs.Names.{Kind, Str, ByteStr, CStr, Byte, Char, Int, Float, BoolKind, StrictUnit, Itself, AsciiEscape, ByteEscape, UnicodeEscape, strict_contents, strict_content_of, is_strict_unit, place_value}
 use Rattle.rl_syntax.specs.Strict.{HasUnits, is_bare_in_string, is_octal, is_unicode_escape, spaced_value}
 use Rattle.rl_writing.specs.AsciiStrings.{unicode_escape}
@@ -37,11 +37,11 @@ number_any P k c ascii byte unicode = go (nat_lt c 128)
 
 -- ---- the characters that become numeric escapes
 
-hidden_escaped : (c : ℕ) → needs_number c ≡ true → needs_escape c ≡ true
-hidden_escaped c h = (and_parts (needs_escape c) (not (has_letter c)) h).0
+hidden_escaped : (c : ℕ) → needs_number c ≡ true → is_control_invisible_or_bidi c ≡ true
+hidden_escaped c h = (and_parts (is_control_invisible_or_bidi c) (not (has_letter c)) h).0
 
 pub hidden_unnamed : (c : ℕ) → needs_number c ≡ true → has_letter c ≡ false
-hidden_unnamed c h = not-true (has_letter c) (and_parts (needs_escape c) (not (has_letter c)) h).1
+hidden_unnamed c h = not-true (has_letter c) (and_parts (is_control_invisible_or_bidi c) (not (has_letter c)) h).1
 
 pub visible_shown : (c : ℕ) → is_visible c ≡ true → needs_number c ≡ false
 visible_shown c v =
@@ -59,10 +59,10 @@ hidden_invisible c h = false_unless (is_visible c) (λ v. both_ways (needs_numbe
 pub quotes_shown : (c : ℕ) → (c == 39 || c == 34) ≡ true → needs_number c ≡ false
 quotes_shown c q = visible_shown c (grind (arith, nat_tests))
 
-no_surrogate : (c : ℕ) → 0xD800 ≤ c → c < 0xE000 → needs_escape c ≡ false
+no_surrogate : (c : ℕ) → 0xD800 ≤ c → c < 0xE000 → is_control_invisible_or_bidi c ≡ false
 no_surrogate c low high = grind (arith, nat_tests)
 
-none_past : (c : ℕ) → 0x110000 ≤ c → needs_escape c ≡ false
+none_past : (c : ℕ) → 0x110000 ≤ c → is_control_invisible_or_bidi c ≡ false
 none_past c low = grind (arith, nat_tests)
 
 -- Each invisible, bidirectional or control character other than LF, CR and TAB is a Unicode scalar value.
@@ -72,10 +72,10 @@ hidden_scalar c h =
     elim (cases_lt c 0xD800) [
       | inl a ↦ grind (arith, nat_tests)
       | inr a ↦ elim (cases_lt c 0xE000) [
-        | inl b ↦ absurd (both_ways (needs_escape c) (no_surrogate c a b) e)
+        | inl b ↦ absurd (both_ways (is_control_invisible_or_bidi c) (no_surrogate c a b) e)
         | inr b ↦ elim (cases_lt c 0x110000) [
           | inl d ↦ grind (arith, nat_tests)
-          | inr d ↦ absurd (both_ways (needs_escape c) (none_past c d) e)
+          | inr d ↦ absurd (both_ways (is_control_invisible_or_bidi c) (none_past c d) e)
         ]
       ]
     ]

@@ -8,7 +8,7 @@ use Rattle.rl_lexer.proofs.LexemeAnswers.{form_before}
 use Rattle.rl_lexer.proofs.LexemeFronts.{lexeme_at-past}
 use Rattle.rl_style.specs.declared.style.Style.{Style}
 use Rattle.rl_style.specs.Recut.{IsSound, placed_literal}
-use Rattle.rl_style.specs.Restyled.{KeepsTheTokensOfAStyle, KeepsTheRestyledSource, FollowsFront}
+use Rattle.rl_style.specs.Restyled.{KeepsTheTokensAroundARestyledLiteral, KeepsTheSourceAroundARestyledLiteral, FollowsFront}
 use Rattle.rl_style.specs.Rewriting.{Rewrites}
 use Rattle.rl_style.proofs.Places.{same_place}
 use Rattle.rl_style.proofs.Recut.{Alike, Begun, Recut, alike_more, literal_is, literal_rest, recut}
@@ -83,8 +83,8 @@ new_cut style lead at from whole t before after old front u place r whole_is at_
       );
     }
 
-pub keeps_the_tokens_of_a_style : KeepsTheTokensOfAStyle
-keeps_the_tokens_of_a_style style at t before after old front u place r cut sound stands w =
+pub keeps_the_tokens_around_a_restyled_literal : KeepsTheTokensAroundARestyledLiteral
+keeps_the_tokens_around_a_restyled_literal style at t before after old front u place r cut sound stands w =
     let n = new_cut style [] at at t t before after old front u place r refl (omega arith) cut sound stands w in
     let m = n.cut in
     record {
@@ -94,8 +94,8 @@ keeps_the_tokens_of_a_style style at t before after old front u place r cut soun
       recut = record { front = m.front; rest = m.rest; text_is = m.text_is; place_is = m.place_is; cuts = m.cuts };
     }
 
-pub keeps_the_restyled_source : KeepsTheRestyledSource
-keeps_the_restyled_source style t before after old front u place r code cut sound stands w =
+pub keeps_the_source_around_a_restyled_literal : KeepsTheSourceAroundARestyledLiteral
+keeps_the_source_around_a_restyled_literal style t before after old front u place r code cut sound stands w =
     let p : Preamble t cut.body cut.at = preamble t (before ++ (placed_literal old place ∷ after)) r code cut in
     let n = new_cut style p.mark cut.at 0 t cut.body before after old front u place r p.text_is
     (omega (arith, p.at_is)) cut.are_cuts sound stands w in

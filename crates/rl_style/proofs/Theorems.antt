@@ -1,8 +1,8 @@
 -- The theorems of src/laws.rt, as lemmas that callers may cite.
-use Rattle.rl_style.specs.Laws.{ARewrittenLiteralIsTheSame, ARewrittenLiteralIsTheSameNumber, TheSameLiteralReadsAlike, TheSameLiteralIsStrictAlike, ARewrittenTextStays, ALiteralHasOneTextInAStyle, NoRuleChangesNothing}
+use Rattle.rl_style.specs.Laws.{ARewrittenLiteralIsTheSame, ARewrittenLiteralIsTheSameExceptFloatZero, TheSameLiteralReadsAlike, TheSameLiteralIsStrictAlike, ARewrittenTextStays, ALiteralHasOneTextInAStyle, NoRuleChangesNothing}
 use Rattle.rl_style.specs.Around.{StaysAround, KeepsItsEnds, StaysBeforeQuote}
 use Rattle.rl_style.specs.Recut.{KeepsTheTokens, KeepsTheSource, KeepsTheTokensUnraw}
-use Rattle.rl_style.specs.Restyled.{KeepsTheTokensOfAStyle, KeepsTheRestyledSource, KeepsTheTokensOfEdits, KeepsTheEditedSource}
+use Rattle.rl_style.specs.Restyled.{KeepsTheTokensAroundARestyledLiteral, KeepsTheSourceAroundARestyledLiteral, KeepsTheTokensOfEdits, KeepsTheEditedSource}
 use Rattle.rl_style.proofs.SameLiterals.{same, same_number, stays}
 use Rattle.rl_style.proofs.ReadsAlike.{reads_alike, strict_alike}
 use Rattle.rl_style.proofs.OneAnswer.{one_answer}
@@ -11,7 +11,7 @@ use Rattle.rl_style.proofs.Stays.{stays_around as stays_around_law}
 use Rattle.rl_style.proofs.Ends.{keeps_its_ends as keeps_its_ends_law}
 use Rattle.rl_style.proofs.Recut.{keeps_the_tokens as keeps_the_cut_law}
 use Rattle.rl_style.proofs.WholeSource.{keeps_the_source as keeps_the_source_law}
-use Rattle.rl_style.proofs.RestyledCuts.{keeps_the_tokens_of_a_style as keeps_the_restyled_cut_law, keeps_the_restyled_source as keeps_the_restyled_source_law}
+use Rattle.rl_style.proofs.RestyledCuts.{keeps_the_tokens_around_a_restyled_literal as keeps_the_restyled_cut_law, keeps_the_source_around_a_restyled_literal as keeps_the_restyled_source_law}
 use Rattle.rl_style.proofs.EditedCuts.{keeps_the_tokens_of_edits as keeps_the_edited_cut_law, keeps_the_edited_source as keeps_the_edited_source_law}
 use Rattle.rl_style.proofs.Unraws.{unraws_around}
 use Rattle.rl_style.proofs.UnrawCuts.{keeps_the_tokens_unraw as keeps_the_cut_unraw_law}
@@ -19,8 +19,8 @@ use Rattle.rl_style.proofs.UnrawCuts.{keeps_the_tokens_unraw as keeps_the_cut_un
 pub a_rewritten_literal_is_the_same : ARewrittenLiteralIsTheSame
 a_rewritten_literal_is_the_same = same
 
-pub a_rewritten_literal_is_the_same_number : ARewrittenLiteralIsTheSameNumber
-a_rewritten_literal_is_the_same_number = same_number
+pub a_rewritten_literal_is_the_same_except_float_zero : ARewrittenLiteralIsTheSameExceptFloatZero
+a_rewritten_literal_is_the_same_except_float_zero = same_number
 
 pub the_same_literal_reads_alike : TheSameLiteralReadsAlike
 the_same_literal_reads_alike = reads_alike
@@ -49,11 +49,11 @@ keeps_the_tokens = keeps_the_cut_law
 pub keeps_the_source : KeepsTheSource
 keeps_the_source = keeps_the_source_law
 
-pub keeps_the_tokens_of_a_style : KeepsTheTokensOfAStyle
-keeps_the_tokens_of_a_style = keeps_the_restyled_cut_law
+pub keeps_the_tokens_around_a_restyled_literal : KeepsTheTokensAroundARestyledLiteral
+keeps_the_tokens_around_a_restyled_literal = keeps_the_restyled_cut_law
 
-pub keeps_the_restyled_source : KeepsTheRestyledSource
-keeps_the_restyled_source = keeps_the_restyled_source_law
+pub keeps_the_source_around_a_restyled_literal : KeepsTheSourceAroundARestyledLiteral
+keeps_the_source_around_a_restyled_literal = keeps_the_restyled_source_law
 
 pub keeps_the_tokens_of_edits : KeepsTheTokensOfEdits
 keeps_the_tokens_of_edits = keeps_the_edited_cut_law

@@ -14,8 +14,8 @@ ARewrittenLiteralIsTheSame =
 
 -- In any style, a rewritten literal has the kind, the value and the suffix of the old one, except that a float which ends with
 -- its dot may get a zero: `1.0` for `1.`.
-abbrev pub ARewrittenLiteralIsTheSameNumber : Type 0
-ARewrittenLiteralIsTheSameNumber =
+abbrev pub ARewrittenLiteralIsTheSameExceptFloatZero : Type 0
+ARewrittenLiteralIsTheSameExceptFloatZero =
     (style : Style) (front t u : List ℕ) → Rewrites style front t u → SameNumber style t u
 
 -- Rewriting a literal twice in one style changes nothing the second time.

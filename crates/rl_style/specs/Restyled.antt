@@ -25,8 +25,8 @@ pub record FollowsFront (at : ℕ) (t : List ℕ) (literal : Lexeme) (place : �
   pub place_is : place ≡ at + byte_len front
 
 -- If a literal of a text is rewritten in a style, all other tokens are lexed as before.
-abbrev pub KeepsTheTokensOfAStyle : Type 0
-KeepsTheTokensOfAStyle =
+abbrev pub KeepsTheTokensAroundARestyledLiteral : Type 0
+KeepsTheTokensAroundARestyledLiteral =
     (style : Style) (at : ℕ) (t : List ℕ) (before after : List CutSource) (old : Lexeme) (front written : List ℕ)
     (place : ℕ) (r : List ℕ) → SourcesUpTo at t (before ++ (placed_literal old place ∷ after)) r
     → AllByRecursion IsSound before → FollowsFront at t old place front
@@ -43,8 +43,8 @@ pub record IsRestyledSource (t : List ℕ) (before after : List CutSource) (old 
 
 -- If a literal of a source is rewritten in a style, all other tokens are lexed as before. The source must not begin with
 -- `#!`, unless it begins with `#![`.
-abbrev pub KeepsTheRestyledSource : Type 0
-KeepsTheRestyledSource =
+abbrev pub KeepsTheSourceAroundARestyledLiteral : Type 0
+KeepsTheSourceAroundARestyledLiteral =
     (style : Style) (t : List ℕ) (before after : List CutSource) (old : Lexeme) (front written : List ℕ) (place : ℕ)
     (r : List ℕ) → IsTrue (begins_with_code t)
     → IsCutUpTo t (before ++ (placed_literal old place ∷ after)) r → AllByRecursion IsSound before

@@ -3,7 +3,7 @@
 use Rattle.std.specs.Prelude.{◌≡◌, ◌⊎◌, ℕ, ◌+◌, ◌-◌, ◌/◌, ◌%◌, Bool, true, false, not, ◌&&◌, ◌||◌, ◌==◌, nat_le, nat_lt, List, [], ◌∷◌, ◌++◌, Option, None, map, if◌then◌else◌, IsTrue, IsFalse, codes}
 use Rattle.std.specs.List.{flat_map, list_all, list_any}
 use Prim.Native.Char.{code}
-use Rattle.rl_writing.specs.Hiding.{needs_escape}
+use Rattle.rl_writing.specs.Hiding.{is_control_invisible_or_bidi}
 use Rattle.std.specs.Char.{is_ascii_digit}
 use Rattle.rl_syntax.specs.Texts.{first_passes}
 use Rattle.rl_syntax.specs.declared.kind.Kind.{Kind}
@@ -171,7 +171,7 @@ reescaped style kind zero unit = unit
 
 -- The character is invisible, bidirectional or a control character, and isn't LF, CR or TAB.
 abbrev pub needs_number : ℕ → Bool
-needs_number c = needs_escape c && not (has_letter c)
+needs_number c = is_control_invisible_or_bidi c && not (has_letter c)
 
 -- The hexadecimal digit for a number below 16, in lower case.
 abbrev pub lower_digit : ℕ → ℕ

@@ -2,8 +2,8 @@
 
 ghost use Rattle.rl_style.specs.Around.{StaysAround, StaysBeforeQuote, KeepsItsEnds};
 ghost use Rattle.rl_style.specs.Recut.{KeepsTheTokens, KeepsTheTokensUnraw, KeepsTheSource};
-ghost use Rattle.rl_style.specs.Restyled.{KeepsTheTokensOfEdits, KeepsTheEditedSource, KeepsTheTokensOfAStyle, KeepsTheRestyledSource};
-ghost use Rattle.rl_style.specs.Laws.{ARewrittenLiteralIsTheSame, ARewrittenLiteralIsTheSameNumber, ARewrittenTextStays, ALiteralHasOneTextInAStyle, NoRuleChangesNothing, TheSameLiteralReadsAlike, TheSameLiteralIsStrictAlike};
+ghost use Rattle.rl_style.specs.Restyled.{KeepsTheTokensOfEdits, KeepsTheEditedSource, KeepsTheTokensAroundARestyledLiteral, KeepsTheSourceAroundARestyledLiteral};
+ghost use Rattle.rl_style.specs.Laws.{ARewrittenLiteralIsTheSame, ARewrittenLiteralIsTheSameExceptFloatZero, ARewrittenTextStays, ALiteralHasOneTextInAStyle, NoRuleChangesNothing, TheSameLiteralReadsAlike, TheSameLiteralIsStrictAlike};
 
 /// If the style doesn't add a zero after a float's dot, a rewritten literal has the kind, the value and the suffix of the old
 /// literal.
@@ -13,8 +13,8 @@ pub fn a_rewritten_literal_is_the_same()
 
 /// In any style, a rewritten literal has the kind, the value and the suffix of the old one, except that a float which ends with
 /// its dot may get a zero: `1.0` for `1.`.
-pub fn a_rewritten_literal_is_the_same_number()
-    ensures { ARewrittenLiteralIsTheSameNumber }
+pub fn a_rewritten_literal_is_the_same_except_float_zero()
+    ensures { ARewrittenLiteralIsTheSameExceptFloatZero }
 {}
 
 /// If the kinds, values and suffixes of two literals are equal, their parse results are equal, and both or neither are valid
@@ -58,7 +58,7 @@ pub fn the_tokens_are_kept()
 {}
 
 /// If one literal of a source is rewritten, all other tokens of the source are lexed as before. The source must not begin
-/// with `#!`, unless it begins with an attribute's `#![` ([`may_restyle`](crate::may_restyle)). After another `#!`, a
+/// with `#!`, unless it begins with an attribute's `#![` ([`is_safe_to_restyle`](crate::is_safe_to_restyle)). After another `#!`, a
 /// rewritten literal may contain the `*/` of a comment that begins on the first line. Then the first line may no longer be an
 /// interpreter's line.
 pub fn the_tokens_of_a_source_are_kept()
@@ -67,14 +67,14 @@ pub fn the_tokens_of_a_source_are_kept()
 
 /// If a literal of a text is rewritten in a style, all other tokens of the text are lexed as before.
 /// [`rewrite_into`](crate::rewrite_into) writes one token, with the form of the old literal.
-pub fn the_tokens_of_a_style_are_kept()
-    ensures { KeepsTheTokensOfAStyle }
+pub fn the_tokens_around_a_restyled_literal_are_kept()
+    ensures { KeepsTheTokensAroundARestyledLiteral }
 {}
 
 /// If a literal of a source is rewritten in a style, all other tokens of the source are lexed as before. The source must not
 /// begin with `#!`, unless it begins with an attribute's `#![`.
-pub fn the_tokens_of_a_restyled_source_are_kept()
-    ensures { KeepsTheRestyledSource }
+pub fn the_source_tokens_around_a_restyled_literal_are_kept()
+    ensures { KeepsTheSourceAroundARestyledLiteral }
 {}
 
 /// If any literals of a text are rewritten in a style, the new text has as many tokens as the old text, and their kinds are

@@ -50,4 +50,4 @@ pub use crate::restylable::{Restylable, Restylables};
 pub use crate::rewrite::rewrite_into;
 pub use crate::rules::{Rule, all_rules, is_changed_by_style};
 pub use crate::style::{Case, DigitGroups, Separator, Style};
-pub use crate::whole::may_restyle;
+pub use crate::whole::is_safe_to_restyle;

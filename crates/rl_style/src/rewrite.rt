@@ -19,7 +19,7 @@ use crate::style::Style;
 use rl_lenient::Body;
 use rl_lenient::digit_runs::begins_digit;
 use rl_lenient::quoted_forms::{QuotedForm, split_opener};
-use rl_strict::read_numbers::read_number;
+use rl_strict::read_numbers::parse_number_token;
 use rl_strict::{Flaw, LineEnds, Reading, explain, read};
 use rl_syntax::Kind;
 use rl_syntax::slice_writer::put_text;
@@ -74,7 +74,7 @@ fn rewrite_number(text: &str, style: Style, out: &mut [u8]) -> Result<usize, Fla
     ensures within { IfOk result (λ n. n ≤ 4 * length text.now + 1) }
     ensures flaw { IfErr result (ExplainsStrictly (chars text.now)) }
 {
-    match read_number(text) {
+    match parse_number_token(text) {
         Ok(number) => Ok(write_number(text, number, style, out)),
         Err(_) => match explain(text) {
             Some(flaw) => Err(flaw),

@@ -12,7 +12,7 @@ use rl_syntax::text::begins;
 /// The source must not begin with `#!`, unless it begins with an attribute's `#![`. After another `#!`, a rewritten literal
 /// may contain the `*/` of a comment that begins on the first line. Then that line may no longer be an interpreter's line. A
 /// byte order mark at the start is ignored.
-pub fn may_restyle(source: &str) -> bool
+pub fn is_safe_to_restyle(source: &str) -> bool
     ensures { result ≡ begins_with_code (chars source.now) }
 {
     let text = without_byte_order_mark(source);

@@ -15,8 +15,8 @@ entry_at table at = slice_index_or table (min at (length table - 1)) nowhere
 --
 -- The result begins where the entry of the first byte begins, and ends where the entry of the last byte ends. For an empty
 -- span the result is empty, and begins where the entry of the byte at `lo` begins.
-abbrev pub mapped_by : List Span → Span → Span
-mapped_by table span = record {
+abbrev pub mapped_by_byte_spans : List Span → Span → Span
+mapped_by_byte_spans table span = record {
   file = (entry_at table span.lo).file;
   lo = (entry_at table span.lo).lo;
   hi = if nat_lt span.lo span.hi then (entry_at table (span.hi - 1)).hi

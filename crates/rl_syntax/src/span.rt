@@ -38,7 +38,7 @@ fn entry_at(table: &[Span], at: usize) -> Span
 }
 
 impl Span {
-    ghost use Rattle.rl_syntax.specs.Spans.{mapped_by};
+    ghost use Rattle.rl_syntax.specs.Spans.{mapped_by_byte_spans};
 
     /// Returns the span of a token that is in no text: `file`, `lo` and `hi` are 0. Literals that are made from values
     /// have this span, and so do errors without a position.
@@ -87,8 +87,8 @@ impl Span {
     /// The result begins where the span of the byte at `lo` begins, and ends where the span of the last byte, at `hi -
     /// 1`, ends. For an empty span the result is empty, and begins where the span of the byte at `lo` begins. For an
     /// offset outside the table, the table's last entry is used.
-    pub fn mapped_by(self, table: &[Span]) -> Span
-        ensures { result ≡ mapped_by table.now self }
+    pub fn mapped_by_byte_spans(self, table: &[Span]) -> Span
+        ensures { result ≡ mapped_by_byte_spans table.now self }
     {
         let first = entry_at(table, self.lo);
         let hi = if self.lo < self.hi {

@@ -9,7 +9,7 @@ use Rattle.rl_tokens.specs.declared.token.TokenStream.{TokenStream, fold-TokenSt
 use Rattle.rl_tokens.specs.Puncts.{Mark}
 use Rattle.rl_syntax.specs.Texts.{SpannedText}
 use Rattle.rl_tokens.specs.Trees.{Tree, GroupTree, PunctTree, LiteralTree, IdentTree, trees_of, MoreTrees, GroupParts, delimiter_of, stream_of, group_span, inside_of, tree_step, group_step, stream_step, tree_view, stream_view, respanned, all_respanned, relocated, all_relocated, group_tree}
-use Rattle.rl_syntax.specs.Spans.{mapped_by}
+use Rattle.rl_syntax.specs.Spans.{mapped_by_byte_spans}
 
 abbrev stream_fold : {A : Type 0} → TokenStream A → List Tree
 stream_fold {A} = fold-TokenStream A Tree GroupParts (List Tree) tree_step group_step stream_step
@@ -75,7 +75,7 @@ relocated-inside table (t ∷ ts) = ap (MoreTrees (relocated table t)) (relocate
 -- If a group's span and all spans inside the group are replaced by the spans that `table` gives for them, the spans in
 -- the converted group are replaced in the same way.
 pub relocated_parts : {A : Type 0} (table : List Span) (g h : Group A) → delimiter_of h ≡ delimiter_of g → group_span h
-    ≡ mapped_by table (group_span g) → stream_view (stream_of h) ≡ map (relocated table) (stream_view (stream_of g))
+    ≡ mapped_by_byte_spans table (group_span g) → stream_view (stream_of h) ≡ map (relocated table) (stream_view (stream_of g))
     → group_tree h ≡ relocated table (group_tree g)
 relocated_parts table g h d s i =
     let f = relocated table in
@@ -83,7 +83,7 @@ relocated_parts table g h d s i =
     ap (λ x. GroupTree x (inside_of (stream_view (stream_of h))) (group_span h)) d
     ∙ ap (λ x. GroupTree (delimiter_of g) (inside_of x) (group_span h)) i
     ∙ ap (λ x. GroupTree (delimiter_of g) (inside_of (map f (stream_view (stream_of g)))) x) s
-    ∙ ap (λ x. GroupTree (delimiter_of g) x (mapped_by table (group_span g))) (sym e)
+    ∙ ap (λ x. GroupTree (delimiter_of g) x (mapped_by_byte_spans table (group_span g))) (sym e)
 
 pub relocated_group : {A : Type 0} (table : List Span) (g h : Group A) → group_tree h ≡ relocated table (group_tree g)
     → tree_view (tree.Group h) ≡ relocated table (tree_view (tree.Group g))

@@ -1,6 +1,6 @@
 -- The parts of token trees that contracts cite, the data type `Tree` that represents token trees in definitions, and
 -- flat lists of tokens, in which each delimiter of a group is an element of its own.
-pub use Rattle.rl_syntax.specs.Spans.{entry_at, mapped_by}
+pub use Rattle.rl_syntax.specs.Spans.{entry_at, mapped_by_byte_spans}
 use Rattle.std.specs.Prelude.{◌+◌, ◌-◌, List, [], ◌∷◌, ◌++◌, map}
 use Rattle.rl_syntax.specs.declared.span.Span.{Span}
 use Rattle.rl_tokens.specs.declared.token.Delimiter.{Delimiter}
@@ -104,13 +104,13 @@ abbrev mutual
 abbrev mutual
   pub relocated : List Span → Tree → Tree
   relocated table (GroupTree d inside span) =
-      GroupTree d (all_relocated table inside) (mapped_by table span)
+      GroupTree d (all_relocated table inside) (mapped_by_byte_spans table span)
   relocated table (IdentTree i) =
-      IdentTree (record i { span = mapped_by table i.span })
+      IdentTree (record i { span = mapped_by_byte_spans table i.span })
   relocated table (PunctTree p) =
-      PunctTree (record p { span = mapped_by table p.span })
+      PunctTree (record p { span = mapped_by_byte_spans table p.span })
   relocated table (LiteralTree l) =
-      LiteralTree (record l { span = mapped_by table l.span })
+      LiteralTree (record l { span = mapped_by_byte_spans table l.span })
 
   pub all_relocated : List Span → Trees → Trees
   all_relocated table NoTrees = NoTrees

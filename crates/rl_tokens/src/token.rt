@@ -116,17 +116,17 @@ impl<A: Allocator> TokenTree<A> {
     }
 
     /// Replaces the token tree's span, and the span of every token tree inside a group, by the span that `table` gives
-    /// for it, as [`TokenStream::map_spans`] does.
-    #[cycle(map_spans)]
+    /// for it, as [`TokenStream::map_by_byte_spans`] does.
+    #[cycle(map_by_byte_spans)]
     #[tactic(auto, using(crate::proofs::TreeLemmas::relocated_group))]
-    fn map_spans(&mut self, table: &[Span])
+    fn map_by_byte_spans(&mut self, table: &[Span])
         ensures { tree_view self.new ≡ relocated table.now (tree_view self.old) }
     {
         match self {
-            TokenTree::Group(group) => group.map_spans(table),
+            TokenTree::Group(group) => group.map_by_byte_spans(table),
             other => {
                 let span = other.span();
-                other.set_span(span.mapped_by(table));
+                other.set_span(span.mapped_by_byte_spans(table));
             }
         }
     }
@@ -212,15 +212,15 @@ impl<A: Allocator> Group<A> {
     }
 
     /// Replaces the group's span, and the span of every token tree inside the group, by the span that `table` gives for
-    /// it, as [`TokenStream::map_spans`] does.
-    #[cycle(map_spans)]
+    /// it, as [`TokenStream::map_by_byte_spans`] does.
+    #[cycle(map_by_byte_spans)]
     #[tactic(auto, using(crate::proofs::TreeLemmas::relocated_parts))]
-    fn map_spans(&mut self, table: &[Span])
+    fn map_by_byte_spans(&mut self, table: &[Span])
         ensures { group_tree self.new ≡ relocated table.now (group_tree self.old) }
     {
         let span = self.span();
-        self.set_span(span.mapped_by(table));
-        self.stream.map_spans(table);
+        self.set_span(span.mapped_by_byte_spans(table));
+        self.stream.map_by_byte_spans(table);
     }
 }
 
@@ -291,13 +291,13 @@ impl<A: Allocator> TokenStream<A> {
     /// `table` contains a span for each byte of the lexed text: the position in the file that the byte comes from. For
     /// a byte after the end of `table`, the last span of `table` counts. A token tree's new span begins where the span
     /// of its first byte begins, and ends where the span of its last byte ends.
-    #[cycle(map_spans)]
-    pub fn map_spans(&mut self, table: &[Span])
+    #[cycle(map_by_byte_spans)]
+    pub fn map_by_byte_spans(&mut self, table: &[Span])
         ensures { stream_view self.new
             ≡ map (relocated table.now) (stream_view self.old) }
     {
         for at in 0..self.trees.len() {
-            self.trees[at].map_spans(table);
+            self.trees[at].map_by_byte_spans(table);
         }
     }
 }

@@ -9,7 +9,7 @@ ghost use Rattle.rust_literals.specs.Parsing.{AreRead};
 ghost use Rattle.rl_uses.specs.Shortage.{IsShortOf, RejectsTextOrMemory};
 ghost use Rattle.rl_uses.specs.Reasons.{HasValue, IsReasonOf, AreReasons};
 
-use rl_grammar::{Flaw, FlawKind, LineEnds, explain_value};
+use rl_grammar::{Flaw, FlawKind, LineEnds, explain_missing_value};
 use rl_tokens::{Error, Span};
 use rust_literals::{Lit, read_all};
 use std::alloc::Allocator;
@@ -28,7 +28,7 @@ fn flaw_of<A: Allocator>(literal: &Lit<A>) -> Option<Flaw>
     ensures none { IfNone result (HasValue literal.now) }
     ensures some { IfSome result (ExplainsValue (chars (token_of literal.now).text)) }
 {
-    explain_value(literal.text(), LineEnds::Text, true)
+    explain_missing_value(literal.text(), LineEnds::Text, true)
 }
 
 /// Returns the reason why `literal` has no value in Rust, or `None` if it has one.

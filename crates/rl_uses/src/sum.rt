@@ -26,7 +26,7 @@ fn take_integer(tokens: &mut Tokens<'_>) -> Result<i64, SumError>
     let Some(literal) = next_literal(tokens) else {
         return Err(SumError::NoInteger);
     };
-    let Some(value) = literal.value() else {
+    let Some(value) = literal.value_if_unsuffixed() else {
         return Err(SumError::NoInteger);
     };
     match i64::try_from(value) {

@@ -1,5 +1,5 @@
 -- The theorems of src/laws.rt, as lemmas that callers may cite.
-use Rattle.rl_writing.specs.Laws.{ANumeralHasDigitsOfItsBase, ANumeralRepresentsItsNumber, ANumeralHasNoZeroInFront, FewDigitsAreNotGrouped, EnoughDigitsAreGrouped, ARawStringHasOneTextInside}
+use Rattle.rl_writing.specs.Laws.{ANumeralHasDigitsOfItsBase, ANumeralRepresentsItsNumber, ANumeralHasNoZeroInFront, FewDigitsAreNotGrouped, EnoughDigitsAreGrouped, RawStringsOfOneValueContainOneText}
 use Rattle.rl_writing.proofs.NumeralLemmas.{numeral_digits, numeral_value, numeral_no_zero}
 use Rattle.rl_writing.proofs.GroupLemmas.{few_ungrouped, others_grouped}
 use Rattle.rl_writing.proofs.RawLaws.{one_inside}
@@ -19,5 +19,5 @@ few_digits_are_not_grouped = few_ungrouped
 pub enough_digits_are_grouped : EnoughDigitsAreGrouped
 enough_digits_are_grouped = others_grouped
 
-pub a_raw_string_has_one_text_inside : ARawStringHasOneTextInside
-a_raw_string_has_one_text_inside = one_inside
+pub raw_strings_of_one_value_contain_one_text : RawStringsOfOneValueContainOneText
+raw_strings_of_one_value_contain_one_text = one_inside

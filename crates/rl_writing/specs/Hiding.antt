@@ -21,5 +21,5 @@ is_invisible_or_bidi c =
     || (nat_le 0xE0000 c && nat_le c 0xE0FFF)
 
 -- The character is displayed as an escape: it is a control character, or an invisible or bidirectional one.
-abbrev pub needs_escape : ℕ → Bool
-needs_escape c = is_control c || is_invisible_or_bidi c
+abbrev pub is_control_invisible_or_bidi : ℕ → Bool
+is_control_invisible_or_bidi c = is_control c || is_invisible_or_bidi c

@@ -41,7 +41,7 @@ EnoughDigitsAreGrouped =
 
 -- All raw strings of one kind and value have one text between their quotes. If no raw string can contain this text, no raw
 -- string has the value.
-abbrev pub ARawStringHasOneTextInside : Type 0
-ARawStringHasOneTextInside =
+abbrev pub RawStringsOfOneValueContainOneText : Type 0
+RawStringsOfOneValueContainOneText =
     (kind : Kind) (inside other : List ℕ) → IsTrue (is_string kind) → IsTrue (all_scalars inside)
     → IsTrue (all_scalars other) → raw_contents kind inside ≡ raw_contents kind other → inside ≡ other

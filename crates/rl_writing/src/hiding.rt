@@ -1,7 +1,7 @@
 //! Tests for characters that aren't visible as they are: invisible, bidirectional and control characters.
 
 ghost use Rattle.std.specs.Prelude.{◌≡◌};
-ghost use Rattle.rl_writing.specs.Hiding.{is_invisible_or_bidi as hiding, needs_escape as escaped};
+ghost use Rattle.rl_writing.specs.Hiding.{is_invisible_or_bidi as hiding, is_control_invisible_or_bidi as escaped};
 
 /// Returns `true` if the character has no width or changes the direction of text. A text with this character isn't
 /// displayed as it is written.
@@ -31,7 +31,7 @@ pub fn is_invisible_or_bidi(c: char) -> bool
 
 /// Returns `true` if the character is displayed as an escape: a control character, or an invisible or bidirectional
 /// one.
-pub fn needs_escape(c: char) -> bool
+pub fn is_control_invisible_or_bidi(c: char) -> bool
     ensures { result ≡ escaped c }
 {
     c.is_control() || is_invisible_or_bidi(c)

@@ -1,6 +1,6 @@
 //! Laws of the definitions of written literals. Each function does nothing, and its contract is the law.
 
-ghost use Rattle.rl_writing.specs.Laws.{ANumeralHasDigitsOfItsBase, ANumeralRepresentsItsNumber, ANumeralHasNoZeroInFront, FewDigitsAreNotGrouped, EnoughDigitsAreGrouped, ARawStringHasOneTextInside};
+ghost use Rattle.rl_writing.specs.Laws.{ANumeralHasDigitsOfItsBase, ANumeralRepresentsItsNumber, ANumeralHasNoZeroInFront, FewDigitsAreNotGrouped, EnoughDigitsAreGrouped, RawStringsOfOneValueContainOneText};
 
 /// The written digits of a number are digits of the base, and represent the number.
 pub fn a_numeral_represents_its_number()
@@ -22,6 +22,6 @@ pub fn few_digits_are_not_grouped()
 
 /// All raw strings of one kind and value have one text between their quotes. If no raw string can contain this text, no raw
 /// string has the value.
-pub fn a_raw_string_has_one_text_inside()
-    ensures { ARawStringHasOneTextInside }
+pub fn raw_strings_of_one_value_contain_one_text()
+    ensures { RawStringsOfOneValueContainOneText }
 {}

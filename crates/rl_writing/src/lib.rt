@@ -34,7 +34,7 @@ mod raw_strings;
 
 pub use crate::ascii::{put_unicode_escape, write_char_ascii_into, write_str_ascii_into};
 pub use crate::base::Base;
-pub use crate::hiding::{is_invisible_or_bidi, needs_escape};
+pub use crate::hiding::{is_control_invisible_or_bidi, is_invisible_or_bidi};
 pub use crate::integers::{IntegerStyle, write_integer_into};
 pub use crate::numerals::{digit_group_size, is_digit_group_end};
 pub use crate::raw_strings::{min_raw_hashes, raw_text_and_hashes, write_raw_into};

@@ -26,7 +26,7 @@ ghost use Rattle.rust_literals.specs.Flat.{ReadsNext, AddsNext, AreBegun};
 
 use crate::lit::Lit;
 use crate::lit_bool::LitBool;
-use rl_lenient::{bool_of, find_negative};
+use rl_lenient::{bool_of, parse_with_added_minus};
 use rl_tokens::{Form, Literal, Span, Tokens};
 use std::alloc::{AllocError, Allocator, Global};
 
@@ -56,7 +56,7 @@ fn negative_of<A: Allocator + Copy>(
     ensures together { IfOk result (λ lit. OnSome lit (HasReading (45 ∷ chars text.now))) }
     ensures none { IfOk result (λ lit. IfNone lit (HasNoReading (45 ∷ chars text.now))) }
 {
-    let Some(found) = find_negative(text) else {
+    let Some(found) = parse_with_added_minus(text) else {
         return Ok(None);
     };
     let Ok(token) = Literal::negative(alloc, text, span) else {
@@ -123,20 +123,20 @@ pub(crate) fn take_next<A: Allocator + Copy>(
 ///
 /// ```
 /// use rl_tokens::Tokens;
-/// use rust_literals::{Lit, push_next_literal};
+/// use rust_literals::{Lit, push_leading_literal};
 /// use std::alloc::Global;
 ///
 /// pub fn text_after_literal(alloc: Global, text: &str) -> Option<&str> {
 ///     let mut tokens = Tokens::new(text);
 ///     let mut list: Vec<Lit> = Vec::new(alloc);
-///     let is_read = push_next_literal(alloc, &mut tokens, 0, &mut list).ok()?;
+///     let is_read = push_leading_literal(alloc, &mut tokens, 0, &mut list).ok()?;
 ///     is_read.then_some(tokens.rest())
 /// }
 /// // text_after_literal(alloc, "1.5, 2") == Some(", 2")
 /// ```
 ///
 /// [`Literals`]: crate::Literals
-pub fn push_next_literal<A: Allocator + Copy>(
+pub fn push_leading_literal<A: Allocator + Copy>(
     alloc: A,
     tokens: &mut Tokens<'_>,
     file: u32,
@@ -178,7 +178,7 @@ pub(crate) fn read_flat<A: Allocator + Copy>(
     let mut list = Vec::new(alloc);
     let mut tokens = Tokens::new(text);
     while !tokens.rest().is_empty() {
-        let Ok(true) = push_next_literal(alloc, &mut tokens, file, &mut list) else {
+        let Ok(true) = push_leading_literal(alloc, &mut tokens, file, &mut list) else {
             return Err(list);
         };
     }

@@ -29,7 +29,7 @@ mod literals;
 mod number;
 mod read;
 
-pub use crate::flat::push_next_literal;
+pub use crate::flat::push_leading_literal;
 pub use crate::lit::Lit;
 pub use crate::lit_bool::LitBool;
 pub use crate::lit_float::{FloatKind, LitFloat};

@@ -8,7 +8,7 @@ ghost use Rattle.rl_lenient.specs.Founds.{IsFoundNumber};
 ghost use Rattle.rust_literals.specs.Rejections.{IsNoNumber};
 
 use crate::number::{Number, NumberKind};
-use rl_lenient::{Found, find_float};
+use rl_lenient::{Found, parse_float_literal};
 use rl_syntax::Kind;
 use rl_tokens::ErrorKind;
 use std::alloc::{Allocator, Global};
@@ -52,7 +52,7 @@ impl NumberKind for FloatKind {
         ensures kind { IfOk result (λ f. f.kind ≡ Float) }
         ensures err { IfErr result (IsNoNumber Float (chars text.now)) }
     {
-        match find_float(text) {
+        match parse_float_literal(text) {
             Some(found) => Ok(found),
             None => Err(ErrorKind::NotFloat),
         }

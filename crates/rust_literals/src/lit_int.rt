@@ -8,7 +8,7 @@ ghost use Rattle.rl_lenient.specs.Founds.{IsFoundNumber};
 ghost use Rattle.rust_literals.specs.Rejections.{IsNoNumber};
 
 use crate::number::{Number, NumberKind};
-use rl_lenient::{Found, find_int};
+use rl_lenient::{Found, parse_int_literal};
 use rl_syntax::Kind;
 use rl_tokens::ErrorKind;
 use std::alloc::{Allocator, Global};
@@ -33,7 +33,7 @@ impl NumberKind for IntKind {
         ensures kind { IfOk result (λ f. f.kind ≡ Int) }
         ensures err { IfErr result (IsNoNumber Int (chars text.now)) }
     {
-        match find_int(text) {
+        match parse_int_literal(text) {
             Some(Some(found)) => Ok(found),
             Some(None) => Err(ErrorKind::TooLarge),
             None => Err(ErrorKind::NotInteger),

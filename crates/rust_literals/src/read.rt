@@ -101,7 +101,7 @@ pub(crate) fn read_after<A: Allocator + Copy>(
 /// minus is from the minus to the number's last byte.
 ///
 /// On an error the literals before the error aren't returned. A caller that needs them, or each error of a list, can
-/// call [`push_next_literal`](crate::push_next_literal) with [`Tokens`](rl_tokens::Tokens).
+/// call [`push_leading_literal`](crate::push_leading_literal) with [`Tokens`](rl_tokens::Tokens).
 ///
 /// # Errors
 ///
@@ -112,14 +112,14 @@ pub(crate) fn read_after<A: Allocator + Copy>(
 /// # Example
 ///
 /// ```
-/// use rl_grammar::{LineEnds, explain_value};
+/// use rl_grammar::{LineEnds, explain_missing_value};
 /// use rust_literals::read_all;
 /// use std::alloc::Global;
 ///
 /// pub fn first_value_flaw(alloc: Global, text: &str) -> Option<(&'static str, usize)> {
 ///     let literals = read_all(alloc, text, 0).ok()?;
 ///     let literal = literals.as_slice().first()?;
-///     let flaw = explain_value(literal.text(), LineEnds::Text, true)?;
+///     let flaw = explain_missing_value(literal.text(), LineEnds::Text, true)?;
 ///     Some((flaw.kind.message(), flaw.in_span(literal.span()).lo))
 /// }
 /// // first_value_flaw(alloc, "\"a\\q\" 1") == Some(("unknown escape", 3))

@@ -87,8 +87,8 @@ abbrev pub code_digits : ℕ → ℕ → List ℕ → List ℕ → CodeDigits
 code_digits v n last rest = (v, n, last, rest)
 
 -- The digits of an escape `\u{..}` that begin a text, with underscores, up to the sixth digit of the escape. Earlier digits
--- of the escape may precede the text: the first three arguments are their number, their count, and the text from the last of
--- them on.
+-- of the escape may precede the text. The first three arguments are the value that these digits represent, how many they are,
+-- and the text from the last of them on.
 unfoldable pub code_digits_at : ℕ → ℕ → List ℕ → List ℕ → CodeDigits
 code_digits_at v n last [] = code_digits v n last []
 code_digits_at v n last (c ∷ cs) =

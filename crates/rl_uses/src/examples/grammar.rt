@@ -2,8 +2,8 @@
 
 use rl_grammar::strict::{Reading, is_token, read};
 use rl_grammar::{
-    Kind, LineEnds, SegmentValue, Segments, explain, explain_value, float_parts, integer_parts,
-    is_plain, shape, str_of, text_offset,
+    Kind, LineEnds, SegmentValue, Segments, explain, explain_missing_value, float_parts,
+    integer_parts, is_plain, shape, str_of, text_offset,
 };
 use std::alloc::Global;
 
@@ -48,7 +48,8 @@ pub fn is_signed_literal(text: &str) -> bool {
 
 /// Returns the reason why the literal `text` has no value in Rust.
 pub fn why_no_value(text: &str) -> Option<&'static str> {
-    Some(explain_value(text, LineEnds::Text, true)?.kind.message())
+    let flaw = explain_missing_value(text, LineEnds::Text, true)?;
+    Some(flaw.kind.message())
 }
 
 /// Returns the reason why `text`, a literal in a file, isn't a literal of Rust. In a file, CR LF counts as LF.

@@ -1,8 +1,8 @@
 //! Examples of `rust_literals`: functions for literals of any kind, for numbers, and for all literals of a text.
 
-use rl_grammar::{LineEnds, explain_value};
+use rl_grammar::{LineEnds, explain_missing_value};
 use rl_tokens::{Literal, Span, Tokens};
-use rust_literals::{Lit, LitFloat, Literals, push_next_literal, read_all};
+use rust_literals::{Lit, LitFloat, Literals, push_leading_literal, read_all};
 use std::alloc::Global;
 
 /// Returns the value of the byte, character or `bool` literal `text` as a number.
@@ -30,7 +30,7 @@ pub fn float_digits_or_text(alloc: Global, text: &str) -> Option<String> {
 pub fn first_value_flaw(alloc: Global, text: &str) -> Option<(&'static str, usize)> {
     let literals = read_all(alloc, text, 0).ok()?;
     let literal = literals.as_slice().first()?;
-    let flaw = explain_value(literal.text(), LineEnds::Text, true)?;
+    let flaw = explain_missing_value(literal.text(), LineEnds::Text, true)?;
     Some((flaw.kind.message(), flaw.in_span(literal.span()).lo))
 }
 
@@ -38,7 +38,7 @@ pub fn first_value_flaw(alloc: Global, text: &str) -> Option<(&'static str, usiz
 pub fn text_after_literal(alloc: Global, text: &str) -> Option<&str> {
     let mut tokens = Tokens::new(text);
     let mut list: Vec<Lit> = Vec::new(alloc);
-    let is_read = push_next_literal(alloc, &mut tokens, 0, &mut list).ok()?;
+    let is_read = push_leading_literal(alloc, &mut tokens, 0, &mut list).ok()?;
     is_read.then_some(tokens.rest())
 }
 

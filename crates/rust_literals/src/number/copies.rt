@@ -1,4 +1,4 @@
-//! Methods of `Number` that copy, compare, hash and print a number, and append it to a token stream.
+//! Methods of `Number` that copy a number or its token, compare, hash and print it, and append it to a token stream.
 
 ghost use Rattle.std.specs.Prelude.{◌≡◌, ◌==◌, ◌++◌, ◌∷◌, [], IfOk, IfErr, OnOk, OnErr, Some, codes, option_map, string_bytes};
 ghost use Rattle.std.specs.Cmp.{partial_equiv_from_equiv, on_equiv};
@@ -12,7 +12,7 @@ ghost use Rattle.rl_tokens.specs.Trees.{LiteralTree, stream_view};
 ghost use Rattle.rl_syntax.specs.Words.{kind_name};
 
 use crate::number::{Number, NumberKind};
-use rl_tokens::{Error, ToTokens, TokenStream, append_literal};
+use rl_tokens::{Error, Literal, ToTokens, TokenStream, append_literal};
 use std::alloc::{AllocError, Allocator};
 use std::fmt;
 use std::hash::{Hash, Hasher};
@@ -33,6 +33,18 @@ fn copy_of<A: Allocator, B: Allocator>(
 }
 
 impl<K: NumberKind, A: Allocator> Number<K, A> {
+    /// Returns a new literal token with the number's text and span.
+    ///
+    /// # Errors
+    ///
+    /// Returns `Memory` at the number's span if an allocation fails.
+    pub fn token<B: Allocator>(&self, alloc: B) -> Result<Literal<B>, Error<B>>
+        ensures ok { IfOk result (λ l. l ≡ self.now) }
+        ensures memory { IfErr result (λ e. e ≡ memory_at self.now.span) }
+    {
+        self.token.clone(alloc)
+    }
+
     /// Returns a copy of the number, in memory from `alloc`. Memory is needed for the token, and for the digits in base
     /// ten unless they are borrowed from the token's text.
     ///

@@ -2,7 +2,7 @@
 
 use crate::rattle_std::alloc::Global;
 use crate::rattle_std::vec::Vec;
-use crate::rl_grammar::{explain, explain_value, Flaw, LineEnds};
+use crate::rl_grammar::{explain, explain_missing_value, Flaw, LineEnds};
 use crate::rl_sources::{scan, Options, ScanError};
 
 /// Returns the reason why the text isn't a token of Rust, as a line, or the line `None`.
@@ -12,7 +12,7 @@ pub fn explained(text: &str) -> String {
 
 /// Returns the reason why the text has no value, as a line, or the line `None`.
 pub fn value_explained(text: &str) -> String {
-    flaw_line(explain_value(text, LineEnds::Text, true))
+    flaw_line(explain_missing_value(text, LineEnds::Text, true))
 }
 
 /// Returns a line with the flaw's kind, the offset where its displayed text begins, and its range.

@@ -3,7 +3,7 @@
 //! is its value, byte for byte.
 
 #[cfg(feature = "__rendered")]
-use crate::rl_lenient::found::{find_float, parse_known_literal, parse_literal};
+use crate::rl_lenient::found::{parse_float_literal, parse_known_literal, parse_literal};
 use crate::rl_lenient::units::{Piece, parse_char_or_escape, split_plain};
 #[cfg(feature = "__rendered")]
 use crate::rl_lenient::units::piece_code;
@@ -37,7 +37,7 @@ fn put_run(out: &mut [u8], at: usize, run: &str) -> usize {
 /// Decoding ends at the end of `text`, or at a character that isn't allowed or an invalid escape. A sequence of plain
 /// characters is copied at once.
 #[inline]
-pub fn decode_into(kind: Kind, text: &str, out: &mut [u8]) -> usize {
+pub fn decode_string_content_into(kind: Kind, text: &str, out: &mut [u8]) -> usize {
     let mut at = 0;
     let mut rest = text;
     loop {
@@ -59,7 +59,7 @@ pub fn decode_into(kind: Kind, text: &str, out: &mut [u8]) -> usize {
 #[cfg(feature = "__rendered")]
 #[inline]
 pub fn decode_str_into(body: &str, out: &mut [u8]) -> usize {
-    decode_into(Kind::Str, body, out)
+    decode_string_content_into(Kind::Str, body, out)
 }
 
 /// Decodes the body of a byte string or C string literal into `out`, and returns the length of the decoded value in
@@ -69,7 +69,7 @@ pub fn decode_str_into(body: &str, out: &mut [u8]) -> usize {
 /// itself, and its [`Body::plain`](crate::rl_lenient::Body::plain) is `true`. Nothing is allocated.
 #[inline]
 pub fn decode_bytes_into(kind: Kind, body: &str, out: &mut [u8]) -> usize {
-    decode_into(kind, body, out)
+    decode_string_content_into(kind, body, out)
 }
 
 /// Returns the value of a character or byte literal as a number, from the text between its quotes.
@@ -149,7 +149,7 @@ fn reads_plain(kind: Kind, text: &str) -> bool {
 #[cfg(feature = "__rendered")]
 #[inline]
 fn float_is_plain(text: &str) -> bool {
-    match find_float(text) {
+    match parse_float_literal(text) {
         Some(found) => found.body.plain,
         None => false,
     }

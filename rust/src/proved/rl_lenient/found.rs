@@ -7,7 +7,7 @@ use crate::rl_lenient::digit_runs::is_negative;
 use crate::rl_lenient::digits::{is_plain_float, is_plain_integer};
 use crate::rl_lenient::number_forms::{Number, read_number};
 #[cfg(feature = "__rendered")]
-use crate::rl_lenient::number_forms::{float_suffix, read_integer};
+use crate::rl_lenient::number_forms::{float_suffix, integer_magnitude_and_suffix};
 use crate::rl_lenient::quoted_forms::{
     QuotedForm, begins_character, find_bare_character, find_character, find_cooked, find_raw,
     find_single, split_opener,
@@ -135,8 +135,8 @@ fn float_found<'t>(text: &'t str, suffix: &'t str) -> Found {
 /// integer above 128 bits.
 #[cfg(feature = "__rendered")]
 #[inline]
-pub fn find_int(text: &str) -> Option<Option<Found>> {
-    let integer = read_integer(text)?;
+pub fn parse_int_literal(text: &str) -> Option<Option<Found>> {
+    let integer = integer_magnitude_and_suffix(text)?;
     match integer.magnitude {
         Some(magnitude) => Some(Some(integer_found(text, integer.suffix, magnitude))),
         None => Some(None),
@@ -147,7 +147,7 @@ pub fn find_int(text: &str) -> Option<Option<Found>> {
 /// literal.
 #[cfg(feature = "__rendered")]
 #[inline]
-pub fn find_float(text: &str) -> Option<Found> {
+pub fn parse_float_literal(text: &str) -> Option<Found> {
     let suffix = float_suffix(text)?;
     Some(float_found(text, suffix))
 }
@@ -155,7 +155,7 @@ pub fn find_float(text: &str) -> Option<Found> {
 /// Parses the text as a number: as an integer literal if it is one, and otherwise as a float literal. Returns `None` if
 /// it is neither, or an integer above 128 bits.
 #[inline]
-fn find_number(text: &str) -> Option<Found> {
+fn parse_number_literal(text: &str) -> Option<Found> {
     // Each arm of the `match` returns by itself. A value that both arms make would be copied, padding included.
     match read_number(text)? {
         Number::Integer(magnitude, suffix) => {
@@ -169,11 +169,11 @@ fn find_number(text: &str) -> Option<Found> {
 /// itself.
 #[cfg(any(feature = "sources", feature = "settings"))]
 #[inline(always)]
-pub(crate) fn find_unsigned(text: &str) -> Option<Found> {
+pub(crate) fn parse_unsigned_literal(text: &str) -> Option<Found> {
     if is_negative(text) {
         return None;
     }
-    find_number(text)
+    parse_number_literal(text)
 }
 
 /// Parses the literal that consists of a minus and `text`. Byte offsets in the result count from the minus.
@@ -181,8 +181,8 @@ pub(crate) fn find_unsigned(text: &str) -> Option<Found> {
 /// Returns `Some` exactly if a minus and the text are a literal. That literal is an integer or a float.
 #[cfg(any(feature = "sources", feature = "settings"))]
 #[inline]
-pub fn find_negative(text: &str) -> Option<Found> {
-    let found = find_unsigned(text)?;
+pub fn parse_with_added_minus(text: &str) -> Option<Found> {
+    let found = parse_unsigned_literal(text)?;
     Some(Found {
         kind: found.kind,
         body: Body::up_to(found.body.suffix_at + 1, found.body.plain),
@@ -194,7 +194,7 @@ pub fn find_negative(text: &str) -> Option<Found> {
 
 /// Parses the text as a boolean literal. Returns `None` if it is neither `true` nor `false`.
 #[inline]
-pub(crate) fn find_truth(text: &str) -> Option<Found> {
+pub(crate) fn parse_bool_literal(text: &str) -> Option<Found> {
     let truth = bool_of(text)?;
     Some(Found {
         kind: Kind::Bool,
@@ -229,7 +229,7 @@ pub fn parse_literal(text: &str) -> Option<Found> {
         return find_character(text);
     }
     if begins_number(text) {
-        return find_number(text);
+        return parse_number_literal(text);
     }
     find_word_or_quoted(text)
 }
@@ -238,7 +238,7 @@ pub fn parse_literal(text: &str) -> Option<Found> {
 #[inline]
 fn find_word_or_quoted(text: &str) -> Option<Found> {
     let Some((form, kind, inside)) = split_opener(text) else {
-        return find_truth(text);
+        return parse_bool_literal(text);
     };
     // Each arm of the `match` returns by itself. A value that all arms make would be copied once more.
     match form {

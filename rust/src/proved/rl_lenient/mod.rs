@@ -30,9 +30,9 @@ pub use crate::rl_lenient::contents::{
 pub use crate::rl_lenient::digits::{float_digits_into, is_plain_integer};
 pub use crate::rl_lenient::found::{Body, Found, bool_of, parse_literal};
 #[cfg(feature = "__rendered")]
-pub use crate::rl_lenient::found::{Parts, find_float, find_int, shape};
+pub use crate::rl_lenient::found::{Parts, parse_float_literal, parse_int_literal, shape};
 #[cfg(any(feature = "sources", feature = "settings"))]
-pub use crate::rl_lenient::found::find_negative;
+pub use crate::rl_lenient::found::parse_with_added_minus;
 #[cfg(any(feature = "sources", feature = "settings"))]
 pub use crate::rl_lenient::next_literals::{
     ListStep, NextLiteral, Rejection, RejectionKind, next_list_literal, next_literal,

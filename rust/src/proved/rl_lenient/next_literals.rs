@@ -1,7 +1,7 @@
 // Rendered from crates/rl_lenient/src/next_literals.rt by tools/render, which erases contracts: change that file, and render again.
 //! Functions that return the next literal of a list of literals, or the list's error.
 
-use crate::rl_lenient::found::{Found, find_negative, find_truth, parse_literal};
+use crate::rl_lenient::found::{Found, parse_bool_literal, parse_literal, parse_with_added_minus};
 use crate::rl_lexer::{Form, LexKind, Lexeme, Tokens};
 
 /// The next literal of a list: its token, the minus before it, and its parse result. The token may be an invalid
@@ -70,7 +70,7 @@ fn take_literal<'t>(tokens: &mut Tokens<'t>) -> Option<NextLiteral<'t>> {
     match token.form {
         Form::Literal => Some(alone(token, parse_literal(token.text))),
         Form::Identifier => {
-            let found = find_truth(token.text)?;
+            let found = parse_bool_literal(token.text)?;
             Some(alone(token, Some(found)))
         }
         Form::Mark('-') => {
@@ -78,7 +78,7 @@ fn take_literal<'t>(tokens: &mut Tokens<'t>) -> Option<NextLiteral<'t>> {
             let Form::Literal = number.form else {
                 return None;
             };
-            let found = find_negative(number.text)?;
+            let found = parse_with_added_minus(number.text)?;
             Some(NextLiteral {
                 token: number,
                 minus_at: Some(token.lo),

@@ -6,7 +6,9 @@ use crate::rl_lenient::digit_runs::{
     DigitRun, after_minus, begins_digit, is_exponent_suffix, is_suffix, read_digit_run, skip_digits,
 };
 #[cfg(feature = "__rendered")]
-use crate::rl_lenient::found::{Parts, find_float, find_int, find_unsigned};
+use crate::rl_lenient::found::{
+    Parts, parse_float_literal, parse_int_literal, parse_unsigned_literal,
+};
 use crate::rl_syntax::classes::{CharClass, skip_class};
 use crate::rl_syntax::text::{split_ascii, split_char};
 
@@ -82,7 +84,7 @@ pub(crate) fn integer_of(head: Head<'_>) -> Option<Integer<'_>> {
 
 /// Parses the text as an integer literal. Returns `None` if it isn't one.
 #[inline]
-pub fn read_integer(text: &str) -> Option<Integer<'_>> {
+pub fn integer_magnitude_and_suffix(text: &str) -> Option<Integer<'_>> {
     match read_head(text) {
         Some(head) => integer_of(head),
         None => None,
@@ -96,7 +98,7 @@ pub fn read_integer(text: &str) -> Option<Integer<'_>> {
 #[cfg(feature = "__rendered")]
 #[inline]
 pub fn int_shape(text: &str) -> Option<Option<Parts<'_>>> {
-    match find_int(text) {
+    match parse_int_literal(text) {
         Some(Some(found)) => Some(Some(found.parts(text))),
         Some(None) => Some(None),
         None => None,
@@ -178,7 +180,7 @@ pub(crate) fn head_suffix<'t>(text: &'t str, head: Head<'t>) -> Option<&'t str> 
 #[cfg(feature = "__rendered")]
 #[inline]
 pub fn float_shape(text: &str) -> Option<Parts<'_>> {
-    let found = find_float(text)?;
+    let found = parse_float_literal(text)?;
     Some(found.parts(text))
 }
 
@@ -207,6 +209,6 @@ pub(crate) fn read_number(text: &str) -> Option<Number<'_>> {
 #[cfg(feature = "__rendered")]
 #[inline]
 pub fn shape_negative(text: &str) -> Option<Parts<'_>> {
-    let found = find_unsigned(text)?;
+    let found = parse_unsigned_literal(text)?;
     Some(found.parts(text))
 }

@@ -17,7 +17,10 @@ use crate::rl_syntax::Kind;
 pub fn text_range(kind: Kind, text: &str, body: &Body, lo: usize, hi: usize) -> (usize, usize) {
     let first = body.segments_in(kind, text).text_offset(lo);
     if lo < hi {
-        (first, body.segments_in(kind, text).text_end_offset(hi - 1))
+        (
+            first,
+            body.segments_in(kind, text).text_offset_after(hi - 1),
+        )
     } else {
         (first, first)
     }

@@ -129,7 +129,7 @@ impl<'t> Segment<'t> {
     /// Returns the end of the range of the literal's text that encodes the byte `at` of the segment's value. In a
     /// segment of plain characters, each byte encodes itself. Any other segment encodes its value as a whole.
     #[inline(always)]
-    pub fn text_end_offset(self, at: usize) -> usize {
+    pub fn text_offset_after(self, at: usize) -> usize {
         match self.value {
             SegmentValue::Text(_) => self.text_offset(at) + 1,
             _ => self.hi,
@@ -207,10 +207,10 @@ impl<'t> Segments<'t> {
     /// `at` counts from the start of the next segment's value. At the end of the value, and beyond it, the result is
     /// the offset of the closing quote.
     #[inline]
-    pub fn text_end_offset(self, at: usize) -> usize {
+    pub fn text_offset_after(self, at: usize) -> usize {
         let end = self.end;
         match self.giving(at) {
-            Some((segment, within)) => segment.text_end_offset(within),
+            Some((segment, within)) => segment.text_offset_after(within),
             None => end,
         }
     }

@@ -102,7 +102,7 @@ impl NextLiteral<'_> {
 
     /// Returns the value of an integer literal without a suffix, with its sign. Returns `None` for any other literal,
     /// and for an integer that doesn't fit an `i128`.
-    pub fn value(&self) -> Option<i128> {
+    pub fn value_if_unsuffixed(&self) -> Option<i128> {
         if self.has_suffix() {
             return None;
         }

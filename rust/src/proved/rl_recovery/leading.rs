@@ -2,7 +2,7 @@
 //! The literal at the start of a text, optionally with a minus before it.
 
 use crate::rl_lenient::digit_runs::begins_digit;
-use crate::rl_lenient::{Found, find_negative, parse_literal};
+use crate::rl_lenient::{Found, parse_literal, parse_with_added_minus};
 use crate::rl_lexer::{SourceToken, first_source_token};
 use crate::rl_syntax::text::{before, begins, strip_byte};
 
@@ -64,7 +64,7 @@ pub fn leading_literal(text: &str) -> Option<LeadingLiteral<'_>> {
 fn leading_negative(text: &str) -> Option<LeadingLiteral<'_>> {
     let unsigned = strip_byte(text, b'-')?;
     let number = leading_literal(unsigned)?;
-    let found = find_negative(number.text)?;
+    let found = parse_with_added_minus(number.text)?;
     Some(LeadingLiteral {
         text: before(text, number.following),
         found: Some(found),

@@ -7,7 +7,7 @@ use crate::rl_strict::strict_reading::{Reading, flaw_with_offsets};
 use crate::rl_lenient::digit_runs::{after_minus, begins_digit, skip_digits};
 
 /// Returns the byte offset of the suffix if `reading` is an integer above 128 bits, and `None` otherwise.
-pub fn oversized_suffix_at(reading: Reading) -> Option<usize> {
+pub fn suffix_at_if_above_128_bits(reading: Reading) -> Option<usize> {
     match reading {
         Reading::Integer(None, suffix_at) => Some(suffix_at),
         _ => None,
@@ -29,20 +29,20 @@ pub fn is_float_by_suffix(text: &str) -> bool {
 
 /// Returns the flaw of an integer above 128 bits, whose suffix begins at the byte offset `suffix_at`. The text to show for
 /// the flaw begins at the start of `text`.
-pub fn limit_flaw(text: &str, suffix_at: usize) -> Flaw {
+pub fn flaw_above_128_bits(text: &str, suffix_at: usize) -> Flaw {
     let found = make_flaw(FlawKind::TooLarge, &text[suffix_at..]).with_piece(text);
     flaw_with_offsets(LineEnds::Text, found, text)
 }
 
 /// Returns the flaw of `text` if `reading`, its parse result, is an integer above 128 bits that its suffix doesn't make a
 /// float.
-pub fn limit_flaw_of_reading(text: &str, reading: Reading) -> Option<Flaw> {
-    match oversized_suffix_at(reading) {
+pub fn flaw_if_above_128_bits(text: &str, reading: Reading) -> Option<Flaw> {
+    match suffix_at_if_above_128_bits(reading) {
         Some(suffix_at) => {
             if is_float_by_suffix(text) {
                 None
             } else {
-                Some(limit_flaw(text, suffix_at))
+                Some(flaw_above_128_bits(text, suffix_at))
             }
         }
         None => None,

@@ -19,8 +19,8 @@ pub mod walk;
 pub mod walk_units;
 
 pub use crate::rl_strict::flaws::{Flaw, FlawKind};
-pub use crate::rl_strict::limits::{is_float_by_suffix, limit_flaw};
+pub use crate::rl_strict::limits::{flaw_above_128_bits, is_float_by_suffix};
 pub use crate::rl_strict::line_ends::LineEnds;
 pub use crate::rl_strict::read_numbers::Number;
-pub use crate::rl_strict::reasons::{explain, explain_value};
+pub use crate::rl_strict::reasons::{explain, explain_missing_value};
 pub use crate::rl_strict::strict_reading::{Reading, read};

@@ -177,6 +177,6 @@ pub fn parse_number(text: &str) -> Result<Number<'_>, Stop<'_>> {
 /// Parses all of `text`, which begins with a digit, as a number. The error is the reason why the text isn't a number, and the
 /// text that begins where parsing stopped.
 #[inline(always)]
-pub fn read_number(text: &str) -> Result<Number<'_>, Stop<'_>> {
+pub fn parse_number_token(text: &str) -> Result<Number<'_>, Stop<'_>> {
     parse_number(text)
 }

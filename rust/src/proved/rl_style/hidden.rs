@@ -5,13 +5,13 @@ use crate::rl_style::codes::put_digits;
 use crate::rl_style::style::Style;
 use crate::rl_syntax::slice_writer::{put_byte, put_char, put_text};
 use crate::rl_syntax::text::split_char;
-use crate::rl_writing::{needs_escape, put_unicode_escape};
+use crate::rl_writing::{is_control_invisible_or_bidi, put_unicode_escape};
 
 /// Whether the character must be written as a numeric escape: it is invisible, bidirectional or a control character other than
 /// LF, CR and TAB.
 #[inline]
 fn needs_number(c: char) -> bool {
-    needs_escape(c) && !matches!(c, '\n' | '\r' | '\t')
+    is_control_invisible_or_bidi(c) && !matches!(c, '\n' | '\r' | '\t')
 }
 
 /// Whether the text contains a character that must be written as a numeric escape: an invisible or bidirectional one, or a

@@ -31,4 +31,4 @@ pub use crate::rl_style::rewrite::rewrite_into;
 pub use crate::rl_style::rules::{Rule, all_rules, is_changed_by_style};
 pub use crate::rl_style::style::{Case, DigitGroups, Separator, Style};
 #[cfg(feature = "sources")]
-pub use crate::rl_style::whole::may_restyle;
+pub use crate::rl_style::whole::is_safe_to_restyle;

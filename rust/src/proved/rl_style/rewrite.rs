@@ -8,7 +8,7 @@ use crate::rl_style::style::Style;
 use crate::rl_lenient::Body;
 use crate::rl_lenient::digit_runs::begins_digit;
 use crate::rl_lenient::quoted_forms::{QuotedForm, split_opener};
-use crate::rl_strict::read_numbers::read_number;
+use crate::rl_strict::read_numbers::parse_number_token;
 use crate::rl_strict::{Flaw, LineEnds, Reading, explain, read};
 use crate::rl_syntax::Kind;
 use crate::rl_syntax::slice_writer::put_text;
@@ -46,7 +46,7 @@ fn write_quoted(
 /// Writes the new form of a number. Returns the number of written bytes, or the flaw if the text isn't a number.
 #[inline]
 fn rewrite_number(text: &str, style: Style, out: &mut [u8]) -> Result<usize, Flaw> {
-    match read_number(text) {
+    match parse_number_token(text) {
         Ok(number) => Ok(write_number(text, number, style, out)),
         Err(_) => match explain(text) {
             Some(flaw) => Err(flaw),

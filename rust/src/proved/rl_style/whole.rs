@@ -10,7 +10,7 @@ use crate::rl_syntax::text::begins;
 /// may contain the `*/` of a comment that begins on the first line. Then that line may no longer be an interpreter's line. A
 /// byte order mark at the start is ignored.
 #[inline]
-pub fn may_restyle(source: &str) -> bool {
+pub fn is_safe_to_restyle(source: &str) -> bool {
     let text = without_byte_order_mark(source);
     !begins(text, "#!") || begins(text, "#![")
 }

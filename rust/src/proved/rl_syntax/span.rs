@@ -60,7 +60,7 @@ impl Span {
     /// The result begins where the span of the byte at `lo` begins, and ends where the span of the last byte, at `hi -
     /// 1`, ends. For an empty span the result is empty, and begins where the span of the byte at `lo` begins. For an
     /// offset outside the table, the table's last entry is used.
-    pub fn mapped_by(self, table: &[Span]) -> Span {
+    pub fn mapped_by_byte_spans(self, table: &[Span]) -> Span {
         let first = entry_at(table, self.lo);
         let hi = if self.lo < self.hi {
             entry_at(table, self.hi - 1).hi

@@ -29,6 +29,6 @@ pub fn is_invisible_or_bidi(c: char) -> bool {
 /// Returns `true` if the character is displayed as an escape: a control character, or an invisible or bidirectional
 /// one.
 #[inline]
-pub fn needs_escape(c: char) -> bool {
+pub fn is_control_invisible_or_bidi(c: char) -> bool {
     c.is_control() || is_invisible_or_bidi(c)
 }

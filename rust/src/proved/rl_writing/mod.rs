@@ -21,7 +21,7 @@ pub use crate::rl_writing::ascii::{write_char_ascii_into, write_str_ascii_into};
 #[cfg(feature = "writers")]
 pub use crate::rl_writing::base::Base;
 #[cfg(feature = "style")]
-pub use crate::rl_writing::hiding::{is_invisible_or_bidi, needs_escape};
+pub use crate::rl_writing::hiding::{is_control_invisible_or_bidi, is_invisible_or_bidi};
 #[cfg(feature = "writers")]
 pub use crate::rl_writing::integers::{IntegerStyle, write_integer_into};
 pub use crate::rl_writing::numerals::{digit_group_size, is_digit_group_end};

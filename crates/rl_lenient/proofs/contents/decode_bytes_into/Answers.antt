@@ -6,4 +6,4 @@ use Rattle.rl_lenient.proofs.contents.decode_bytes_into.Goals as goal
 pub returns-clause-value : goal.returns-clause-value
 returns-clause-value c = λ t has.
     bytes_of_has _ t _ _ _ c.requires.kind has (cooked_bytes _ has.form _ has.value _ has.suffix _
-    (not_raw has.form _ _ (sym has.plain_is)) has.parts c.decode_into.ensures.decodes)
+    (not_raw has.form _ _ (sym has.plain_is)) has.parts c.decode_string_content_into.ensures.decodes)

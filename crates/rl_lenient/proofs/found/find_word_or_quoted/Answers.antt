@@ -8,5 +8,5 @@ use Rattle.rl_lenient.proofs.found.find_word_or_quoted.Goals as goal
 pub returns-in_default-clause-none : goal.returns-in_default-clause-none
 returns-in_default-clause-none c =
     let t = chars c.args.text.now in
-    none_then c.find_truth.result (no_reading t (no_front t (sym c.in_default.ensures)) (no_front_number t c.requires))
-    c.find_truth.ensures.none
+    none_then c.parse_bool_literal.result (no_reading t (no_front t (sym c.in_default.ensures)) (no_front_number t c.requires))
+    c.parse_bool_literal.ensures.none

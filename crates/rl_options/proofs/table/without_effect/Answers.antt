@@ -1,6 +1,5 @@
 use Rattle.rl_syntax.proofs.Common.{ap, map, option_map, sym, ◌∙◌}
 use Rattle.rl_options.specs.Options.{options}
-use Rattle.rl_options.specs.Wishes.{wishes_of}
 use Rattle.rl_options.proofs.OptionLemmas.{entry_of, without_effect_is}
 use Rattle.rl_options.proofs.table.without_effect.Goals as goal
 

@@ -17,7 +17,7 @@ returns-then-len-before g c = carets_made (string_bytes c.args.out.now) (string_
     c.in_ok-push_marks.ensures
 
 pub returns : goal.returns
-returns g c = on_ok_weaker c.push_ascii.result (caret_added (string_bytes c.args.out.now)
+returns g c = on_ok_weaker c.push_ascii_str.result (caret_added (string_bytes c.args.out.now)
     (string_bytes c.push_marks.new.out) (chars c.args.text.now) _ (IsUtf8-string_bytes c.args.out.now)
     (IsUtf8-string_bytes c.push_marks.new.out)
     (let same : length (string_bytes c.push_marks.new.out) ≤ length (string_bytes c.args.out.now) =
@@ -29,4 +29,4 @@ returns g c = on_ok_weaker c.push_ascii.result (caret_added (string_bytes c.args
       c.args.out.now.bytes.ok.0,
       c.push_marks.new.out.bytes.ok.0,
     ) in same)
-    c.in_ok-push_marks.ensures) c.push_ascii.ensures
+    c.in_ok-push_marks.ensures) c.push_ascii_str.ensures

@@ -4,6 +4,6 @@ use Rattle.rl_output.proofs.Pieces.{three_pieces}
 use Rattle.rl_output.proofs.context.push_whole_line.Goals as goal
 
 pub returns : goal.returns
-returns g c = on_ok_weaker c.push_ascii-2.result (three_pieces _ _ _ _ (codes "    ")
-    (line_text (chars c.args.line.now)) (codes "\n") c.in_ok-push_ascii.ensures c.in_ok-push_line.ensures)
-    c.push_ascii-2.ensures
+returns g c = on_ok_weaker c.push_ascii_str-2.result (three_pieces _ _ _ _ (codes "    ")
+    (line_text (chars c.args.line.now)) (codes "\n") c.in_ok-push_ascii_str.ensures c.in_ok-push_line.ensures)
+    c.push_ascii_str-2.ensures

@@ -5,5 +5,5 @@ use Rattle.rl_output.proofs.member.push_member.Goals as goal
 
 pub returns : goal.returns
 returns g c = on_ok_weaker c.push_json_string.result (λ last. four_parts _ _ _ _ _ (codes ",\"") c.args.name.now
-    (codes "\":") (json_string (chars c.args.text.now)) c.in_ok-push_ascii.ensures c.in_ok-push_ascii-2.ensures
-    c.in_ok-push_ascii-3.ensures last) c.push_json_string.ensures
+    (codes "\":") (json_string (chars c.args.text.now)) c.in_ok-push_ascii_str.ensures c.in_ok-push_ascii_str-2.ensures
+    c.in_ok-push_ascii_str-3.ensures last) c.push_json_string.ensures

@@ -34,7 +34,7 @@ returns-in-Some-error-clause-error g c =
     let end = to_none c.args.style c.args.macros (chars text) draft.at out edits c.loop-literal.invariant
     c.in_default.ensures.none in
     source_error c.args.style c.args.macros text c.next.new.self draft.at out edits c.in-Some-error.error
-    (sym c.if-not-may_restyle.ensures) end.0 c.in-Some-error.ensures.error c.in-Some-error.ensures.place
+    (sym c.if-not-is_safe_to_restyle.ensures) end.0 c.in-Some-error.ensures.error c.in-Some-error.ensures.place
 
 pub returns-in-None-clause-restyled : goal.returns-in-None-clause-restyled
 returns-in-None-clause-restyled g c =
@@ -45,5 +45,5 @@ returns-in-None-clause-restyled g c =
     let end = to_none c.args.style c.args.macros (chars text) draft.at out edits c.loop-literal.invariant
     c.in_default.ensures.none in
     finished_whole c.args.style c.args.macros text c.next.new.self draft.at out edits c.finished.result c.utf8.text
-    (sym c.if-not-may_restyle.ensures) end.0 (none_left c.next.new.self end.1 c.in-None.ensures.none)
+    (sym c.if-not-is_safe_to_restyle.ensures) end.0 (none_left c.next.new.self end.1 c.in-None.ensures.none)
     c.finished.ensures.text c.finished.ensures.edits

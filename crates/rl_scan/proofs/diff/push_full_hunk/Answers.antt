@@ -9,10 +9,10 @@ returns g c = on_ok_weaker c.push_lines-2.result (λ last. seven_parts _ _ _ _ _
     (range c.args.at (length (lines_of (chars c.args.added.now)))) (codes " @@\n")
     (flat_map (signed_line 45) (lines_of (chars c.args.gone.now)))
     (flat_map (signed_line 43) (lines_of (chars c.args.added.now)))
-    c.in_ok-push_ascii.ensures
+    c.in_ok-push_ascii_str.ensures
     (c.in_ok-push_range.ensures
-    ∙ ap (λ n. chars (string_bytes c.push_ascii.new.out) ++ range c.args.at n) c.count_lines.ensures)
-    c.in_ok-push_ascii-2.ensures
+    ∙ ap (λ n. chars (string_bytes c.push_ascii_str.new.out) ++ range c.args.at n) c.count_lines.ensures)
+    c.in_ok-push_ascii_str-2.ensures
     (c.in_ok-push_range-2.ensures
-    ∙ ap (λ n. chars (string_bytes c.push_ascii-2.new.out) ++ range c.args.at n) c.count_lines-2.ensures)
-    c.in_ok-push_ascii-3.ensures c.in_ok-push_lines.ensures last) c.push_lines-2.ensures
+    ∙ ap (λ n. chars (string_bytes c.push_ascii_str-2.new.out) ++ range c.args.at n) c.count_lines-2.ensures)
+    c.in_ok-push_ascii_str-3.ensures c.in_ok-push_lines.ensures last) c.push_lines-2.ensures

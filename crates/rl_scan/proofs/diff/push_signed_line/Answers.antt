@@ -8,5 +8,5 @@ returns-then-has_end g c = ended_line c.args.sign (chars c.args.line.now) _ _
     c.in_ok-push_signed.ensures
 
 pub returns : goal.returns
-returns g c = on_ok_weaker c.push_ascii.result (λ last. unended_line c.args.sign (chars c.args.line.now) _ _ _
-    (sym c.has_end.ensures ∙ c.if-has_end.false) c.in_ok-push_signed.ensures last) c.push_ascii.ensures
+returns g c = on_ok_weaker c.push_ascii_str.result (λ last. unended_line c.args.sign (chars c.args.line.now) _ _ _
+    (sym c.has_end.ensures ∙ c.if-has_end.false) c.in_ok-push_signed.ensures last) c.push_ascii_str.ensures

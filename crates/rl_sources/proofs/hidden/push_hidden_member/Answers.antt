@@ -6,6 +6,6 @@ use Rattle.rl_sources.proofs.hidden.push_hidden_member.Goals as goal
 pub returns : goal.returns
 returns g c =
     let named : chars c.args.id.now ≡ c.args.id.now = ascii_chars c.args.id.now c.requires in
-    on_ok_weaker c.push_ascii.result (three_pieces _ _ _ _ (string_member (codes "id") c.args.id.now)
+    on_ok_weaker c.push_ascii_str.result (three_pieces _ _ _ _ (string_member (codes "id") c.args.id.now)
     (string_member (codes "hidden") (chars c.args.words.now)) (codes "}\n")
-    (rw named at c.in_ok-push_member.ensures) c.in_ok-push_member-2.ensures) c.push_ascii.ensures
+    (rw named at c.in_ok-push_member.ensures) c.in_ok-push_member-2.ensures) c.push_ascii_str.ensures

@@ -4,6 +4,6 @@ use Rattle.rl_output.proofs.Pieces.{two_pieces}
 use Rattle.rl_sources.proofs.hidden.push_hidden_words.Goals as goal
 
 pub returns : goal.returns
-returns g c = on_ok_weaker c.push_ascii.result (two_pieces _ _ _ (chars c.args.words.now) (codes "\n")
+returns g c = on_ok_weaker c.push_ascii_str.result (two_pieces _ _ _ (chars c.args.words.now) (codes "\n")
     (pushed _ _ c.args.words.now (IsUtf8-string_bytes c.args.out.now) c.in_ok-push_str.ensures.bytes))
-    c.push_ascii.ensures
+    c.push_ascii_str.ensures

@@ -10,4 +10,4 @@ returns g c =
     let label : chars c.label_of.result.now ≡ kind_label kind = ap chars c.label_of.ensures ∙ word_chars kind in
     on_ok_weaker c.push_suffix.result (λ last. literal_is kind (chars c.args.text.now) _ _ _ _ _ _
     (chars c.suffix_in.result.now) (c.suffix_in.ensures.reads c.requires) (rw label at c.in_ok-push_member.ensures)
-    c.in_ok-push_member-2.ensures c.in_ok-push_ascii.ensures c.in_ok-push_value.ensures last) c.push_suffix.ensures
+    c.in_ok-push_member-2.ensures c.in_ok-push_ascii_str.ensures c.in_ok-push_value.ensures last) c.push_suffix.ensures

@@ -1,4 +1,4 @@
-use Rattle.rl_syntax.proofs.Common.{List, chars, inr, refl, subst, ℕ, ◌∙◌}
+use Rattle.rl_syntax.proofs.Common.{List, chars, inr, subst, ℕ, ◌∙◌}
 use Rattle.rl_sources.specs.Steps.{ShowsNothing}
 use Rattle.rl_sources.proofs.ScanLemmas.{passes_literal, passes_others, rest_boundary, right_nothing, stands_between, unshown_none}
 use Rattle.rl_sources.proofs.step.finds_invalid.Goals as goal

@@ -12,8 +12,8 @@ pub loop-tokens-preserved : goal.loop-tokens-preserved
 loop-tokens-preserved g c =
     let added = c.in-Ok-true.ensures.next c.in-Ok-true.field-0-test in
     record {
-      read = read_more c.args.text.now c.args.file c.loop-tokens.tokens c.push_next_literal.new.tokens c.loop-tokens.list.items
-          c.push_next_literal.new.list.items c.loop-tokens.invariant.same c.loop-tokens.invariant.read added;
+      read = read_more c.args.text.now c.args.file c.loop-tokens.tokens c.push_leading_literal.new.tokens c.loop-tokens.list.items
+          c.push_leading_literal.new.list.items c.loop-tokens.invariant.same c.loop-tokens.invariant.read added;
       same = added.next.same ∙ c.loop-tokens.invariant.same;
     }
 

@@ -111,7 +111,7 @@ fn segment(lo: usize, hi: usize, value: SegmentValue<'_>) -> String {
 }
 
 /// Shows a literal's segments, and the byte range that each byte of the value comes from. The ranges are computed by `value_byte_spans`,
-/// and again by `text_offset` and `end_of`, up to two bytes beyond the value's end.
+/// and again by `text_offset` and `text_offset_after`, up to two bytes beyond the value's end.
 #[test]
 fn segments() {
     check(TABLE, "segments", |text| {
@@ -129,7 +129,7 @@ fn segments() {
             Some(format!(
                 "{}..{} ",
                 text_offset(text, at)?,
-                segments().text_end_offset(at)
+                segments().text_offset_after(at)
             ))
         });
         format!("{lines}\n{table}\n{}", each.collect::<String>())

@@ -195,7 +195,7 @@ fn values() {
     check(TABLE, "values", |text| {
         let literal = next_literal(&mut Tokens::new(text)).unwrap();
         let found = parse_literal(text).map(|found| (found.signed(text), found.has_suffix(text)));
-        let (signed, value) = (literal.signed(), literal.value());
+        let (signed, value) = (literal.signed(), literal.value_if_unsuffixed());
         format!("{signed:?} {} {value:?}\n{found:?}", literal.has_suffix())
     });
 }

@@ -6,12 +6,12 @@ use navyspindle::{
     ParseError, ParseErrorKind,
 };
 use navyspindle_programs::rl_grammar::{
-    explain, explain_value, is_float_by_suffix, strict, Flaw, LineEnds,
+    explain, explain_missing_value, is_float_by_suffix, strict, Flaw, LineEnds,
 };
 
 /// Returns the expected error of a text: it isn't a literal token after an optional minus, or it is an integer above 128 bits.
 fn proved_flaw(text: &str) -> Option<Flaw> {
-    explain_value(text, LineEnds::Text, true)
+    explain_missing_value(text, LineEnds::Text, true)
 }
 
 /// Returns the flaw that `of` finds in the text after each CR LF is replaced by LF, with byte offsets of the original text.
@@ -58,7 +58,7 @@ pub fn check_verbatim(ours: &Lit, proved: &Proved) {
     };
     match (
         literal.explain(),
-        explain_value(proved.text(), LineEnds::Text, true),
+        explain_missing_value(proved.text(), LineEnds::Text, true),
     ) {
         (None, None) => assert!(is_float_by_suffix(ours.text()), "{:?}", ours.text()),
         (Some(error), Some(flaw)) => check_flaw(ours.text(), error, flaw),
@@ -159,7 +159,7 @@ pub fn check_file(text: &str) {
     );
     let value = flaw_by_hand(text, |read| explain(read).or_else(|| proved_flaw(read)));
     assert_eq!(
-        explain_value(text, LineEnds::File, false),
+        explain_missing_value(text, LineEnds::File, false),
         value,
         "{text:?}"
     );

@@ -84,7 +84,7 @@ fn check_places<K: QuotedKind>(ours: &Places, proved: &Quoted<K>) {
         for hi in groups_if_any(spans.len()) {
             // For an empty range, the result is where the text of the next byte begins.
             let last = if lo < hi {
-                proved.end_of(hi - 1)
+                proved.text_offset_after(hi - 1)
             } else {
                 proved.text_offset(lo)
             };

@@ -21,4 +21,4 @@ pub use crate::rl_files::replace::Replace;
 pub use crate::rl_files::tree::{PathError, Tree};
 pub use crate::rl_files::visible::{make_visible, push_visible};
 pub use crate::rl_files::walk::{Selection, Visit, Walk, WalkEntry, WalkError};
-pub use crate::rl_writing::{is_invisible_or_bidi, needs_escape};
+pub use crate::rl_writing::{is_control_invisible_or_bidi, is_invisible_or_bidi};

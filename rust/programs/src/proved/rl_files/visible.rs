@@ -2,7 +2,7 @@
 //! Writes texts with escapes for control characters and for invisible and bidirectional characters.
 
 use crate::rattle_std::prelude::{String};
-use crate::rl_writing::needs_escape;
+use crate::rl_writing::is_control_invisible_or_bidi;
 use crate::rattle_std::alloc::{AllocError, Allocator};
 
 /// Appends the escape of a character: `\n`, `\r`, `\t`, or its number, as `\u{202e}`.
@@ -15,7 +15,7 @@ fn push_escape<A: Allocator>(out: &mut String<A>, c: char) -> Result<(), AllocEr
 
 /// Appends a character, or its escape if it is a control, invisible or bidirectional character.
 fn push_visible_char<A: Allocator>(out: &mut String<A>, c: char) -> Result<(), AllocError> {
-    if needs_escape(c) {
+    if is_control_invisible_or_bidi(c) {
         return push_escape(out, c);
     }
     out.push(c)?;

@@ -2,7 +2,7 @@
 //! Functions that return the decoded values of string, byte string and C string literals as new strings or vectors.
 
 use crate::rattle_std::prelude::{String, Vec, vec};
-use crate::rl_lenient::contents::decode_into;
+use crate::rl_lenient::contents::decode_string_content_into;
 use crate::rl_lenient::found::parse_known_literal;
 use crate::rl_tokens::{Error, Kind};
 use crate::rattle_std::alloc::{AllocError, Allocator};
@@ -11,7 +11,7 @@ use crate::rattle_std::alloc::{AllocError, Allocator};
 /// is never longer than the text.
 fn decode<A: Allocator>(alloc: A, kind: Kind, text: &str) -> Result<Vec<u8, A>, AllocError> {
     let mut bytes = vec![in alloc; 0; text.len()]?;
-    let len = decode_into(kind, text, bytes.as_mut_slice());
+    let len = decode_string_content_into(kind, text, bytes.as_mut_slice());
     bytes.truncate(len);
     Ok(bytes)
 }

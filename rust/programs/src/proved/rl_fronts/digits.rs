@@ -4,7 +4,7 @@
 use crate::rattle_std::prelude::{String, vec};
 use crate::rl_lenient::digit_runs::is_negative;
 use crate::rl_lenient::found::parse_known_literal;
-use crate::rl_lenient::{Found, find_float, float_digits_into};
+use crate::rl_lenient::{Found, float_digits_into, parse_float_literal};
 use crate::rl_tokens::{Error, Kind};
 use crate::rattle_std::alloc::{AllocError, Allocator};
 
@@ -30,7 +30,7 @@ pub fn digits_of<A: Allocator>(alloc: A, kind: Kind, text: &str) -> Result<Strin
 fn found_number(kind: Kind, text: &str) -> Found {
     match kind {
         Kind::Int => parse_known_literal(text),
-        _ => match find_float(text) {
+        _ => match parse_float_literal(text) {
             Some(found) => found,
             None => unreachable!(),
         },

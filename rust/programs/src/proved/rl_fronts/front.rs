@@ -1,7 +1,7 @@
 // Rendered from crates/rl_fronts/src/front.rt by tools/render, which erases contracts: change that file, and render again.
 //! The literal at the start of a parse buffer: a literal token, `true` or `false`, or a minus and a number.
 
-use crate::rl_lenient::{Found, bool_of, find_negative, parse_literal};
+use crate::rl_lenient::{Found, bool_of, parse_literal, parse_with_added_minus};
 use crate::rl_tokens::{Error, Ident, Kind, Literal, ParseBuffer, Punct, Span};
 use crate::rattle_std::alloc::Allocator;
 
@@ -41,7 +41,7 @@ fn take_negative<'a, A: Allocator>(input: &mut ParseBuffer<'a, A>) -> Option<Neg
         return None;
     }
     let number = ahead.literal()?;
-    let found = find_negative(number.text())?;
+    let found = parse_with_added_minus(number.text())?;
     *input = ahead;
     Some(Negative {
         minus,

@@ -17,7 +17,7 @@ fn push_spans<A: Allocator>(
         spans.push(Span {
             file: base.file,
             lo: base.lo + segment.text_offset(i),
-            hi: base.lo + segment.text_end_offset(i),
+            hi: base.lo + segment.text_offset_after(i),
         })?;
     }
     Ok(())
@@ -27,8 +27,8 @@ fn push_spans<A: Allocator>(
 /// on. A byte's span is the range in the file of the character or escape from which the byte comes. The table has one
 /// more span at the end, which is empty and at the closing quote.
 ///
-/// `base` is the literal's span: the literal's text begins at its first byte and ends at its last one. The function
-/// walks over the segments once. [`text_offset`](Segments::text_offset) and [`text_end_offset`](Segments::text_end_offset) return the
+/// `base` is the literal's span: the literal's text begins at its first byte and ends at its last one. The function walks over
+/// the segments once. [`text_offset`](Segments::text_offset) and [`text_offset_after`](Segments::text_offset_after) return the
 /// same offsets for one byte at a time.
 ///
 /// # Errors

@@ -3,9 +3,9 @@
 
 use crate::rattle_std::prelude::{String};
 use crate::rl_output::line_column::front_covered;
-use crate::rl_output::member::push_ascii;
+use crate::rl_output::member::push_ascii_str;
 use crate::rl_output::width::width_of;
-use crate::rl_files::{needs_escape, push_visible};
+use crate::rl_files::{is_control_invisible_or_bidi, push_visible};
 use crate::rl_syntax::text::{before, begins_with_char, split_char};
 use crate::rattle_std::alloc::{AllocError, Allocator};
 
@@ -53,7 +53,7 @@ fn push_line_char<A: Allocator>(
     after: &str,
 ) -> Result<(), AllocError> {
     if c == '\t' {
-        return push_ascii(out, "\t");
+        return push_ascii_str(out, "\t");
     }
     push_visible(out, before(rest, after))
 }
@@ -106,7 +106,7 @@ fn push_mark<A: Allocator>(
         out.push(tab)?;
         return Ok(());
     }
-    if needs_escape(c) {
+    if is_control_invisible_or_bidi(c) {
         return push_escape_marks(out, c, mark);
     }
     push_column_marks(out, c, mark)
@@ -132,7 +132,7 @@ fn push_carets<A: Allocator>(out: &mut String<A>, text: &str) -> Result<(), Allo
     if out.len() > before {
         return Ok(());
     }
-    push_ascii(out, "^")
+    push_ascii_str(out, "^")
 }
 
 /// Whether a line is longer than 1,024 bytes. `before` and `after` are its two parts.
@@ -154,16 +154,16 @@ fn after_first_line(text: &str) -> &str {
 
 /// Appends a source's line, indented by four columns, and a line end.
 fn push_whole_line<A: Allocator>(out: &mut String<A>, line: &str) -> Result<(), AllocError> {
-    push_ascii(out, MARGIN)?;
+    push_ascii_str(out, MARGIN)?;
     push_line(out, line)?;
-    push_ascii(out, "\n")
+    push_ascii_str(out, "\n")
 }
 
 /// Appends the first line of a text, indented by four columns, or a message if it is longer than 1,024 bytes.
 fn push_shown_line<A: Allocator>(out: &mut String<A>, text: &str) -> Result<(), AllocError> {
     let line = first_line(text);
     if is_long("", line) {
-        return push_ascii(out, LEFT_OUT);
+        return push_ascii_str(out, LEFT_OUT);
     }
     push_whole_line(out, line)
 }
@@ -196,14 +196,14 @@ fn push_marked_line<A: Allocator>(
     rest: &str,
     bytes: usize,
 ) -> Result<(), AllocError> {
-    push_ascii(out, MARGIN)?;
+    push_ascii_str(out, MARGIN)?;
     push_line(out, before)?;
     push_line(out, first_line(rest))?;
-    push_ascii(out, "\n")?;
-    push_ascii(out, MARGIN)?;
+    push_ascii_str(out, "\n")?;
+    push_ascii_str(out, MARGIN)?;
     push_marks(out, before, ' ', '\t')?;
     push_carets(out, first_line(front_covered(rest, bytes)))?;
-    push_ascii(out, "\n")
+    push_ascii_str(out, "\n")
 }
 
 /// Whether the line at a position is longer than 1,024 bytes. `before` is the line before the position, and `rest` the text from
@@ -248,7 +248,7 @@ pub fn push_context<A: Allocator>(
     bytes: usize,
 ) -> Result<(), AllocError> {
     if is_long_about(before, rest) {
-        return push_ascii(out, LEFT_OUT);
+        return push_ascii_str(out, LEFT_OUT);
     }
     push_whole_context(out, context, lines, before, rest, bytes)
 }

@@ -2,9 +2,9 @@
 //! Annotations for GitHub workflows: `::error file=PATH,line=L,endLine=L,col=C,endColumn=C,title=ID::MESSAGE`.
 
 use crate::rattle_std::prelude::{String};
-use crate::rl_output::member::push_ascii;
+use crate::rl_output::member::push_ascii_str;
 use crate::rl_output::path::strip_dot_slash;
-use crate::rl_files::needs_escape;
+use crate::rl_files::is_control_invisible_or_bidi;
 use crate::rattle_std::alloc::{AllocError, Allocator};
 
 /// The level of a GitHub annotation.
@@ -74,7 +74,7 @@ fn push_escape_data<A: Allocator>(out: &mut String<A>, c: char) -> Result<(), Al
 
 /// Appends the character `c` of an annotation's message, or its escape if it is invisible or bidirectional.
 fn push_shown_char<A: Allocator>(out: &mut String<A>, c: char) -> Result<(), AllocError> {
-    if needs_escape(c) {
+    if is_control_invisible_or_bidi(c) {
         return push_escape_data(out, c);
     }
     push_data_char(out, c)
@@ -111,9 +111,9 @@ pub(crate) fn push_annotation_path<A: Allocator>(
     match path {
         None => Ok(()),
         Some(path) => {
-            push_ascii(out, "file=")?;
+            push_ascii_str(out, "file=")?;
             push_property(out, strip_dot_slash(path))?;
-            push_ascii(out, ",")
+            push_ascii_str(out, ",")
         }
     }
 }
@@ -131,9 +131,9 @@ pub fn push_annotation_end<A: Allocator>(
     words: &str,
     piece: &str,
 ) -> Result<(), AllocError> {
-    push_ascii(out, "title=")?;
-    push_ascii(out, title)?;
-    push_ascii(out, "::")?;
+    push_ascii_str(out, "title=")?;
+    push_ascii_str(out, title)?;
+    push_ascii_str(out, "::")?;
     push_message(out, words, piece)?;
-    push_ascii(out, "\n")
+    push_ascii_str(out, "\n")
 }

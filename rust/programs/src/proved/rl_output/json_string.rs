@@ -2,7 +2,7 @@
 //! Writes texts as JSON strings.
 
 use crate::rattle_std::prelude::{String};
-use crate::rl_files::needs_escape;
+use crate::rl_files::is_control_invisible_or_bidi;
 use crate::rl_program::need_no_escapes;
 use crate::rattle_std::alloc::{AllocError, Allocator};
 
@@ -49,7 +49,7 @@ fn push_letter<A: Allocator>(out: &mut String<A>, letter: char) -> Result<(), Al
 /// Appends a character other than a quote, a backslash, LF, CR and a tab. A control, invisible or bidirectional character is
 /// escaped by its number.
 fn push_other<A: Allocator>(out: &mut String<A>, c: char) -> Result<(), AllocError> {
-    if needs_escape(c) {
+    if is_control_invisible_or_bidi(c) {
         return push_number(out, c);
     }
     out.push(c)?;

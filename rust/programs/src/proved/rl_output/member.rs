@@ -10,7 +10,7 @@ use crate::rattle_std::alloc::{AllocError, Allocator};
 /// # Errors
 ///
 /// Returns an error if an allocation fails.
-pub fn push_ascii<A: Allocator>(out: &mut String<A>, piece: &str) -> Result<(), AllocError> {
+pub fn push_ascii_str<A: Allocator>(out: &mut String<A>, piece: &str) -> Result<(), AllocError> {
     out.push_str(piece)?;
     Ok(())
 }
@@ -21,11 +21,11 @@ pub(crate) fn push_object_front<A: Allocator>(
     path: Option<&str>,
 ) -> Result<(), AllocError> {
     match path {
-        None => push_ascii(out, "{"),
+        None => push_ascii_str(out, "{"),
         Some(path) => {
-            push_ascii(out, "{\"path\":")?;
+            push_ascii_str(out, "{\"path\":")?;
             push_json_string(out, path)?;
-            push_ascii(out, ",")
+            push_ascii_str(out, ",")
         }
     }
 }
@@ -40,8 +40,8 @@ pub fn push_member<A: Allocator>(
     name: &str,
     text: &str,
 ) -> Result<(), AllocError> {
-    push_ascii(out, ",\"")?;
-    push_ascii(out, name)?;
-    push_ascii(out, "\":")?;
+    push_ascii_str(out, ",\"")?;
+    push_ascii_str(out, name)?;
+    push_ascii_str(out, "\":")?;
     push_json_string(out, text)
 }

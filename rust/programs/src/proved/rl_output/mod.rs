@@ -29,7 +29,7 @@ pub use crate::rl_output::github::{Level, push_annotation_end, push_annotation_t
 pub use crate::rl_output::json_string::{a_json_string_represents_its_text, push_json_string};
 pub use crate::rl_output::last_lines::count_line_feeds;
 pub use crate::rl_output::line_column::{Extent, Places, Position};
-pub use crate::rl_output::member::{push_ascii, push_member};
+pub use crate::rl_output::member::{push_ascii_str, push_member};
 pub use crate::rl_output::path::strip_dot_slash;
 pub use crate::rl_output::place::{LineColumn, Place, push_line_start};
 pub use crate::rl_output::selector::{is_variation_selector, takes_variation_selector};

@@ -6,7 +6,7 @@ use crate::rl_output::color::{PAINT_END, Paint, has_colors, start_of};
 use crate::rl_output::form::Form;
 use crate::rl_output::github::{Level, push_annotation_path, word_of};
 use crate::rl_output::line_column::Extent;
-use crate::rl_output::member::{push_ascii, push_object_front};
+use crate::rl_output::member::{push_ascii_str, push_object_front};
 use crate::rattle_std::alloc::{AllocError, Allocator};
 use crate::rattle_std::fmt;
 
@@ -127,9 +127,9 @@ fn push_annotation_front<A: Allocator>(
     path: Option<&str>,
     place: &Place,
 ) -> Result<(), AllocError> {
-    push_ascii(out, "::")?;
-    push_ascii(out, word_of(level))?;
-    push_ascii(out, " ")?;
+    push_ascii_str(out, "::")?;
+    push_ascii_str(out, word_of(level))?;
+    push_ascii_str(out, " ")?;
     push_annotation_path(out, path)?;
     push_annotation_place(out, place)
 }

@@ -52,7 +52,7 @@ impl<A: Allocator> LitStr<A> {
         }
         match value_byte_spans(alloc, self.segments(), span) {
             Ok(table) => {
-                stream.map_spans(table.as_slice());
+                stream.map_by_byte_spans(table.as_slice());
                 Ok(())
             }
             Err(_) => Err(Error::out_of_memory(span)),

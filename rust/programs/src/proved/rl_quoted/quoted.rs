@@ -118,8 +118,8 @@ impl<K: QuotedKind, A: Allocator> Quoted<K, A> {
     /// Returns the byte offset in the literal's text after the text from which the byte at the offset `at` of the
     /// decoded value comes: after the byte itself, or after its escape. An escaped line end that follows isn't
     /// included.
-    pub fn end_of(&self, at: usize) -> usize {
-        self.segments().text_end_offset(at)
+    pub fn text_offset_after(&self, at: usize) -> usize {
+        self.segments().text_offset_after(at)
     }
 
     /// Returns the byte range of the literal's text from which the bytes `lo` up to `hi` of the decoded value come.
@@ -129,9 +129,9 @@ impl<K: QuotedKind, A: Allocator> Quoted<K, A> {
 
     /// Returns the span in the file from which the bytes `lo` up to `hi` of the literal's decoded value come.
     ///
-    /// The span is from the start of the first byte's text ([`text_offset`](Quoted::text_offset)) to the end of the
-    /// last byte's text ([`end_of`](Quoted::end_of)). For an empty range the span is empty, where the next byte begins.
-    /// If the literal's span isn't as long as its text, the text isn't at that place in the file, and the result is the
+    /// The span is from the start of the first byte's text ([`text_offset`](Quoted::text_offset)) to the end of the last byte's
+    /// text ([`text_offset_after`](Quoted::text_offset_after)). For an empty range the span is empty, where the next byte
+    /// begins. If the literal's span isn't as long as its text, the text isn't at that place in the file, and the result is the
     /// literal's span. Nothing is allocated.
     pub fn span_of(&self, lo: usize, hi: usize) -> Span {
         let span = self.span();

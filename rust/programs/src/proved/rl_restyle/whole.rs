@@ -5,7 +5,7 @@ use crate::rattle_std::prelude::{String, Vec};
 use crate::rl_restyle::draft::{Draft, put_literal};
 use crate::rl_restyle::edit::{Macros, RestyleError, Restyled};
 use crate::rl_restyle::slices::between;
-use crate::rl_style::{Restylables, Style, may_restyle};
+use crate::rl_style::{Restylables, Style, is_safe_to_restyle};
 use crate::rattle_std::alloc::{AllocError, Allocator};
 
 /// Returns the complete new text: the draft, with the rest of the source appended.
@@ -36,7 +36,7 @@ pub fn rewrite_source<A: Allocator + Copy>(
     macros: Macros,
     text: &str,
 ) -> Result<Restyled<A>, RestyleError> {
-    if !may_restyle(text) {
+    if !is_safe_to_restyle(text) {
         return Err(RestyleError::Script);
     }
     let mut literals = Restylables::new(text);

@@ -2,9 +2,9 @@
 //! Writes the output for a literal that is rewritten.
 
 use crate::rattle_std::prelude::{String};
-use crate::rl_files::needs_escape;
+use crate::rl_files::is_control_invisible_or_bidi;
 use crate::rl_output::{
-    Form, Level, Place, push_annotation_end, push_ascii, push_line_start, push_member,
+    Form, Level, Place, push_annotation_end, push_ascii_str, push_line_start, push_member,
 };
 use crate::rattle_std::alloc::{AllocError, Allocator};
 
@@ -16,7 +16,7 @@ fn push_number<A: Allocator>(out: &mut String<A>, c: char) -> Result<(), AllocEr
 
 /// Appends a character, or its number if it is a control, invisible or bidirectional character.
 fn push_numbered_char<A: Allocator>(out: &mut String<A>, c: char) -> Result<(), AllocError> {
-    if needs_escape(c) {
+    if is_control_invisible_or_bidi(c) {
         return push_number(out, c);
     }
     out.push(c)?;
@@ -27,9 +27,9 @@ fn push_numbered_char<A: Allocator>(out: &mut String<A>, c: char) -> Result<(), 
 /// is written as its number, which differs from its escape.
 fn push_literal_char<A: Allocator>(out: &mut String<A>, c: char) -> Result<(), AllocError> {
     match c {
-        '\n' => push_ascii(out, "\\n"),
-        '\r' => push_ascii(out, "\\r"),
-        '\t' => push_ascii(out, "\\t"),
+        '\n' => push_ascii_str(out, "\\n"),
+        '\r' => push_ascii_str(out, "\\r"),
+        '\t' => push_ascii_str(out, "\\t"),
         _ => push_numbered_char(out, c),
     }
 }
@@ -49,7 +49,7 @@ fn push_change_words<A: Allocator>(
     new: &str,
 ) -> Result<(), AllocError> {
     push_literal(out, old)?;
-    push_ascii(out, " -> ")?;
+    push_ascii_str(out, " -> ")?;
     push_literal(out, new)
 }
 
@@ -60,7 +60,7 @@ fn push_worded_change<A: Allocator>(
     new: &str,
 ) -> Result<(), AllocError> {
     push_change_words(out, old, new)?;
-    push_ascii(out, "\n")
+    push_ascii_str(out, "\n")
 }
 
 /// Appends the JSON members for a rewritten literal, `}` and a line end. The members are the old text and the new text.
@@ -71,7 +71,7 @@ fn push_change_members<A: Allocator>(
 ) -> Result<(), AllocError> {
     push_member(out, "text", old)?;
     push_member(out, "new", new)?;
-    push_ascii(out, "}\n")
+    push_ascii_str(out, "}\n")
 }
 
 /// Appends a GitHub annotation's text after its position, for a rewritten literal.

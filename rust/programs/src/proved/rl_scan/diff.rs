@@ -3,7 +3,7 @@
 
 use crate::rattle_std::prelude::{String};
 use crate::rl_files::push_visible;
-use crate::rl_output::{push_ascii, strip_dot_slash};
+use crate::rl_output::{push_ascii_str, strip_dot_slash};
 use crate::rl_syntax::lines::after_first_line_feed;
 use crate::rl_syntax::text::{before, split_char};
 use crate::rattle_std::alloc::{AllocError, Allocator};
@@ -82,7 +82,7 @@ fn push_signed_line<A: Allocator>(
     if has_end(line) {
         return Ok(());
     }
-    push_ascii(out, NO_LINE_END)
+    push_ascii_str(out, NO_LINE_END)
 }
 
 /// Appends each line of a text with a sign before it, `-` or `+`.
@@ -118,11 +118,11 @@ fn push_full_hunk<A: Allocator>(
     gone: &str,
     added: &str,
 ) -> Result<(), AllocError> {
-    push_ascii(out, "@@ -")?;
+    push_ascii_str(out, "@@ -")?;
     push_range(out, at, count_lines(gone))?;
-    push_ascii(out, " +")?;
+    push_ascii_str(out, " +")?;
     push_range(out, at, count_lines(added))?;
-    push_ascii(out, " @@\n")?;
+    push_ascii_str(out, " @@\n")?;
     push_lines(out, '-', gone)?;
     push_lines(out, '+', added)
 }
@@ -180,17 +180,17 @@ fn has_space(path: &str) -> bool {
 fn push_path<A: Allocator>(out: &mut String<A>, path: &str) -> Result<(), AllocError> {
     push_visible(out, path)?;
     if has_space(path) {
-        return push_ascii(out, "\t\n");
+        return push_ascii_str(out, "\t\n");
     }
-    push_ascii(out, "\n")
+    push_ascii_str(out, "\n")
 }
 
 /// Appends the head of a diff: the path as that of the old text, and as that of the new text.
 fn push_head<A: Allocator>(out: &mut String<A>, path: &str) -> Result<(), AllocError> {
     let path = strip_dot_slash(path);
-    push_ascii(out, "--- ")?;
+    push_ascii_str(out, "--- ")?;
     push_path(out, path)?;
-    push_ascii(out, "+++ ")?;
+    push_ascii_str(out, "+++ ")?;
     push_path(out, path)
 }
 

@@ -5,7 +5,7 @@ use crate::rattle_std::prelude::{String, Vec};
 use crate::rl_output::Form;
 use crate::rl_restyle::{Macros, RestyleError, Restyled, rewrite_source};
 use crate::rl_sources::{Edition, Matching, Options, Shown, Spelling, scan};
-use crate::rl_style::{Style, may_restyle};
+use crate::rl_style::{Style, is_safe_to_restyle};
 use crate::rattle_std::alloc::{AllocError, Allocator, Global};
 
 /// The result of rewriting a source in a style.
@@ -89,7 +89,7 @@ pub fn rewrite_outcome<A: Allocator + Copy>(
     if !lines.is_empty() {
         return Ok(Outcome::Rejected(lines));
     }
-    if !may_restyle(text) {
+    if !is_safe_to_restyle(text) {
         return Ok(Outcome::Script);
     }
     Ok(Outcome::Restyled(restyled(alloc, style, macros, text)?))

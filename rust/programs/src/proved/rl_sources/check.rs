@@ -6,7 +6,7 @@ use crate::rl_sources::options::Options;
 use crate::rl_flaws::{TypeError, may_be_negated, type_error};
 use crate::rl_lenient::{Found, parse_literal};
 use crate::rl_output::Shown;
-use crate::rl_strict::{Flaw, LineEnds, explain_value, read};
+use crate::rl_strict::{Flaw, LineEnds, explain_missing_value, read};
 use crate::rl_syntax::Kind;
 
 /// Whether literals are checked for errors: if `options` request the reasons of errors, or only invalid literals.
@@ -34,7 +34,7 @@ fn type_error_of(before: &str, text: &str, found: &Option<Found>) -> Option<Type
 /// Returns the first flaw of the literal `text`. With `any_value` an integer above 128 bits has no flaw, as in a macro's argument.
 fn flaw_in(any_value: bool, text: &str) -> Option<Flaw> {
     if !any_value {
-        return explain_value(text, LineEnds::File, false);
+        return explain_missing_value(text, LineEnds::File, false);
     }
     match read(text, LineEnds::File, false) {
         Ok(_) => None,

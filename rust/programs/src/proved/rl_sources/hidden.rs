@@ -4,11 +4,11 @@
 use crate::rattle_std::prelude::{String, format};
 use crate::rl_sources::options::Options;
 use crate::rl_sources::place::{displayed_place, push_context_of};
-use crate::rl_files::needs_escape;
+use crate::rl_files::is_control_invisible_or_bidi;
 use crate::rl_lexer::without_byte_order_mark;
 use crate::rl_output::{
-    Form, Level, Places, is_variation_selector, push_annotation_end, push_ascii, push_line_start,
-    push_member, takes_variation_selector,
+    Form, Level, Places, is_variation_selector, push_annotation_end, push_ascii_str,
+    push_line_start, push_member, takes_variation_selector,
 };
 use crate::rl_tokens::text::{begins_with_char, split_char};
 use crate::rattle_std::alloc::{AllocError, Allocator};
@@ -29,7 +29,7 @@ fn hides(previous: char, c: char, after: &str) -> bool {
     if is_variation_selector(c) {
         return !takes_variation_selector(previous, c);
     }
-    needs_escape(c) && !is_layout(c, after)
+    is_control_invisible_or_bidi(c) && !is_layout(c, after)
 }
 
 /// Returns a space and Unicode's name of a character that changes the direction of text. The result is empty for other characters.
@@ -73,7 +73,7 @@ fn words_of<A: Allocator>(alloc: A, c: char) -> Result<String<A>, AllocError> {
 /// Appends the message for an invisible or bidirectional character, and a line end.
 fn push_hidden_words<A: Allocator>(out: &mut String<A>, words: &str) -> Result<(), AllocError> {
     out.push_str(words)?;
-    push_ascii(out, "\n")
+    push_ascii_str(out, "\n")
 }
 
 /// Appends the JSON members `id` and `hidden` for an invisible or bidirectional character, `}` and a line end. `words` is the
@@ -85,7 +85,7 @@ fn push_hidden_member<A: Allocator>(
 ) -> Result<(), AllocError> {
     push_member(out, "id", id)?;
     push_member(out, "hidden", words)?;
-    push_ascii(out, "}\n")
+    push_ascii_str(out, "}\n")
 }
 
 /// Appends a GitHub annotation's text after its position. `words` is the message for an invisible or bidirectional character.

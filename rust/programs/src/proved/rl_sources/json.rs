@@ -6,7 +6,7 @@ use crate::rl_sources::find_match::{byte_contents, bytes_contents};
 use crate::rl_sources::finding::Reason;
 use crate::rl_fronts::{digits_of_found, str_of_body};
 use crate::rl_lenient::Found;
-use crate::rl_output::{id_of, push_ascii, push_json_string, push_member};
+use crate::rl_output::{id_of, push_ascii_str, push_json_string, push_member};
 use crate::rl_program::label_of;
 use crate::rl_syntax::Kind;
 use crate::rl_tokens::LexKind;
@@ -26,11 +26,11 @@ fn push_more_numbers<A: Allocator>(out: &mut String<A>, numbers: &[u8]) -> Resul
 /// Appends the bytes as a JSON array of numbers.
 fn push_array<A: Allocator>(out: &mut String<A>, numbers: &[u8]) -> Result<(), AllocError> {
     let Some((first, others)) = numbers.split_first() else {
-        return push_ascii(out, "[]");
+        return push_ascii_str(out, "[]");
     };
     write!(out, "[{first}")?;
     push_more_numbers(out, others)?;
-    push_ascii(out, "]")
+    push_ascii_str(out, "]")
 }
 
 /// Appends the value of the string literal `text` as a JSON string, from its parse result `found`.
@@ -107,9 +107,9 @@ fn push_digits<A: Allocator>(
 /// Appends the value of a `bool` literal: `true` or `false`.
 fn push_truth<A: Allocator>(out: &mut String<A>, value: bool) -> Result<(), AllocError> {
     if value {
-        push_ascii(out, "true")
+        push_ascii_str(out, "true")
     } else {
-        push_ascii(out, "false")
+        push_ascii_str(out, "false")
     }
 }
 
@@ -133,7 +133,7 @@ fn push_value<A: Allocator>(
 /// Appends the member `suffix`, which is a literal's last one, `}` and a line end.
 fn push_suffix<A: Allocator>(out: &mut String<A>, suffix: &str) -> Result<(), AllocError> {
     push_member(out, "suffix", suffix)?;
-    push_ascii(out, "}\n")
+    push_ascii_str(out, "}\n")
 }
 
 /// Appends the JSON members for the literal `text`, `}` and a line end. The members are kind, text, value and suffix, and `found`
@@ -146,7 +146,7 @@ fn push_found_members<A: Allocator>(
 ) -> Result<(), AllocError> {
     push_member(out, "kind", label_of(Some(found.kind)))?;
     push_member(out, "text", text)?;
-    push_ascii(out, ",\"value\":")?;
+    push_ascii_str(out, ",\"value\":")?;
     push_value(alloc, out, text, found)?;
     push_suffix(out, found.suffix_in(text))
 }
@@ -155,7 +155,7 @@ fn push_found_members<A: Allocator>(
 fn push_verbatim_members<A: Allocator>(out: &mut String<A>, text: &str) -> Result<(), AllocError> {
     push_member(out, "kind", "Verbatim")?;
     push_member(out, "text", text)?;
-    push_ascii(out, ",\"value\":null")?;
+    push_ascii_str(out, ",\"value\":null")?;
     push_suffix(out, "")
 }
 
@@ -179,7 +179,7 @@ pub(crate) fn push_json_literal<A: Allocator>(
 /// Without that limit, the output for a literal with many flaws grows with the square of its length.
 fn push_flawed_text<A: Allocator>(out: &mut String<A>, text: &str) -> Result<(), AllocError> {
     if text.len() > MOST_BYTES {
-        return push_ascii(out, ",\"text\":null");
+        return push_ascii_str(out, ",\"text\":null");
     }
     push_member(out, "text", text)
 }
@@ -196,7 +196,7 @@ pub(crate) fn push_json_finding<A: Allocator>(
     push_member(out, "id", reason.id())?;
     push_member(out, "error", reason.message())?;
     push_member(out, "piece", piece)?;
-    push_ascii(out, "}\n")
+    push_ascii_str(out, "}\n")
 }
 
 /// Appends the JSON member `piece`, if the text isn't empty.
@@ -218,5 +218,5 @@ pub(crate) fn push_json_error<A: Allocator>(
     push_member(out, "id", id_of(kind))?;
     push_member(out, "error", kind.message())?;
     push_piece(out, piece)?;
-    push_ascii(out, "}\n")
+    push_ascii_str(out, "}\n")
 }

@@ -397,8 +397,8 @@ fn same_position<'t>(tokens: &Sources<'t>, places: &Places<'t>) -> Sources<'t> {
     Sources::resume(places.rest_at(0), tokens.rest())
 }
 
-/// Lexes tokens up to the next literal that is invalid outside of macro calls, and returns that literal. `calls` becomes its position
-/// relative to macro calls. Only invalid literals are shown.
+/// Lexes tokens up to the next literal that is invalid outside of macro calls, and returns that literal. `calls` becomes its
+/// position relative to macro calls. Only invalid literals are shown.
 ///
 /// Most sources have no such literal. So another cursor first looks for one without following macro calls, which takes less than
 /// half of the instructions. Then at most one pass follows macro calls up to that literal.

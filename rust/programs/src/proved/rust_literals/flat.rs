@@ -5,7 +5,7 @@
 use crate::rattle_std::prelude::{Vec};
 use crate::rust_literals::lit::Lit;
 use crate::rust_literals::lit_bool::LitBool;
-use crate::rl_lenient::{bool_of, find_negative};
+use crate::rl_lenient::{bool_of, parse_with_added_minus};
 use crate::rl_tokens::{Form, Literal, Span, Tokens};
 use crate::rattle_std::alloc::{AllocError, Allocator, Global};
 
@@ -28,7 +28,7 @@ fn negative_of<A: Allocator + Copy>(
     text: &str,
     span: Span,
 ) -> Result<Option<Lit<A>>, AllocError> {
-    let Some(found) = find_negative(text) else {
+    let Some(found) = parse_with_added_minus(text) else {
         return Ok(None);
     };
     let Ok(token) = Literal::negative(alloc, text, span) else {
@@ -86,7 +86,7 @@ pub(crate) fn take_next<A: Allocator + Copy>(
 /// [`Literals`] reports such a failure with its position.
 ///
 /// [`Literals`]: crate::rust_literals::Literals
-pub fn push_next_literal<A: Allocator + Copy>(
+pub fn push_leading_literal<A: Allocator + Copy>(
     alloc: A,
     tokens: &mut Tokens<'_>,
     file: u32,
@@ -116,7 +116,7 @@ pub(crate) fn read_flat<A: Allocator + Copy>(
     let mut list = Vec::new(alloc);
     let mut tokens = Tokens::new(text);
     while !tokens.rest().is_empty() {
-        let Ok(true) = push_next_literal(alloc, &mut tokens, file, &mut list) else {
+        let Ok(true) = push_leading_literal(alloc, &mut tokens, file, &mut list) else {
             return Err(list);
         };
     }

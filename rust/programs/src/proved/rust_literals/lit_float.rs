@@ -2,7 +2,7 @@
 //! The type of float literals.
 
 use crate::rust_literals::number::{Number, NumberKind};
-use crate::rl_lenient::{Found, find_float};
+use crate::rl_lenient::{Found, parse_float_literal};
 use crate::rl_syntax::Kind;
 use crate::rl_tokens::ErrorKind;
 use crate::rattle_std::alloc::{Allocator, Global};
@@ -20,7 +20,7 @@ impl NumberKind for FloatKind {
     const KIND: Kind = Kind::Float;
 
     fn find<A: Allocator>(text: &str) -> Result<Found, ErrorKind<A>> {
-        match find_float(text) {
+        match parse_float_literal(text) {
             Some(found) => Ok(found),
             None => Err(ErrorKind::NotFloat),
         }

@@ -2,7 +2,7 @@
 //! The type of integer literals.
 
 use crate::rust_literals::number::{Number, NumberKind};
-use crate::rl_lenient::{Found, find_int};
+use crate::rl_lenient::{Found, parse_int_literal};
 use crate::rl_syntax::Kind;
 use crate::rl_tokens::ErrorKind;
 use crate::rattle_std::alloc::{Allocator, Global};
@@ -17,7 +17,7 @@ impl NumberKind for IntKind {
     const KIND: Kind = Kind::Int;
 
     fn find<A: Allocator>(text: &str) -> Result<Found, ErrorKind<A>> {
-        match find_int(text) {
+        match parse_int_literal(text) {
             Some(Some(found)) => Ok(found),
             Some(None) => Err(ErrorKind::TooLarge),
             None => Err(ErrorKind::NotInteger),

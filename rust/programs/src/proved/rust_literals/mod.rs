@@ -11,7 +11,7 @@ mod literals;
 mod number;
 mod read;
 
-pub use crate::rust_literals::flat::push_next_literal;
+pub use crate::rust_literals::flat::push_leading_literal;
 pub use crate::rust_literals::lit::Lit;
 pub use crate::rust_literals::lit_bool::LitBool;
 pub use crate::rust_literals::lit_float::{FloatKind, LitFloat};

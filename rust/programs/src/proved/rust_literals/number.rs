@@ -161,15 +161,6 @@ impl<K: NumberKind, A: Allocator> Number<K, A> {
     pub fn set_span(&mut self, span: Span) {
         self.token.set_span(span);
     }
-
-    /// Returns a new literal token with the number's text and span.
-    ///
-    /// # Errors
-    ///
-    /// Returns `Memory` at the number's span if an allocation fails.
-    pub fn token<B: Allocator>(&self, alloc: B) -> Result<Literal<B>, Error<B>> {
-        self.token.clone(alloc)
-    }
 }
 
 /// Writes the number's text as written. A width in the format pads the text, as it pads a `str`.

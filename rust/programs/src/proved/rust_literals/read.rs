@@ -66,7 +66,7 @@ pub(crate) fn read_after<A: Allocator + Copy>(
 /// minus is from the minus to the number's last byte.
 ///
 /// On an error the literals before the error aren't returned. A caller that needs them, or each error of a list, can
-/// call [`push_next_literal`](crate::rust_literals::push_next_literal) with [`Tokens`](crate::rl_tokens::Tokens).
+/// call [`push_leading_literal`](crate::rust_literals::push_leading_literal) with [`Tokens`](crate::rl_tokens::Tokens).
 ///
 /// # Errors
 ///

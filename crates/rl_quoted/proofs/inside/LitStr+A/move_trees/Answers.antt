@@ -23,4 +23,4 @@ pub returns-in-Ok-clause-moved : goal.returns-in-Ok-clause-moved
 returns-in-Ok-clause-moved g c =
     moved_by_table c.args.self.now c.segments.result _ c.as_slice.result.now _ _ c.segments.ensures.segments
     c.span-span.ensures (subst (IsSpanTable c.segments.result c.span-span.result) (sym c.as_slice.ensures.value)
-    c.in-Ok.ensures) c.if-not-spans_text.ensures.long c.map_spans.ensures
+    c.in-Ok.ensures) c.if-not-spans_text.ensures.long c.map_by_byte_spans.ensures

@@ -1,9 +1,9 @@
 // Rendered from crates/rust_literals/src/number/copies.rt by tools/render, which erases contracts: change that file, and render again.
-//! Methods of `Number` that copy, compare, hash and print a number, and append it to a token stream.
+//! Methods of `Number` that copy a number or its token, compare, hash and print it, and append it to a token stream.
 
 use crate::rattle_std::prelude::{String};
 use crate::rust_literals::number::{Number, NumberKind};
-use crate::rl_tokens::{Error, ToTokens, TokenStream, append_literal};
+use crate::rl_tokens::{Error, Literal, ToTokens, TokenStream, append_literal};
 use crate::rattle_std::alloc::{AllocError, Allocator};
 use crate::rattle_std::fmt;
 use crate::rattle_std::hash::{Hash, Hasher};
@@ -21,6 +21,15 @@ fn copy_of<A: Allocator, B: Allocator>(
 }
 
 impl<K: NumberKind, A: Allocator> Number<K, A> {
+    /// Returns a new literal token with the number's text and span.
+    ///
+    /// # Errors
+    ///
+    /// Returns `Memory` at the number's span if an allocation fails.
+    pub fn token<B: Allocator>(&self, alloc: B) -> Result<Literal<B>, Error<B>> {
+        self.token.clone(alloc)
+    }
+
     /// Returns a copy of the number, in memory from `alloc`. Memory is needed for the token, and for the digits in base
     /// ten unless they are borrowed from the token's text.
     ///

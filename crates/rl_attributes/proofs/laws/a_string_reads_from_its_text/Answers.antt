@@ -1,5 +1,0 @@
-use Rattle.rl_attributes.proofs.Theorems.{a_string_reads_from_its_text as law}
-use Rattle.rl_attributes.proofs.laws.a_string_reads_from_its_text.Goals as goal
-
-pub returns : goal.returns
-returns g c = law

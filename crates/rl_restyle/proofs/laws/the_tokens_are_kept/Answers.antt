@@ -1,5 +1,0 @@
-use Rattle.rl_restyle.proofs.Theorems.{keeps_the_whole_source}
-use Rattle.rl_restyle.proofs.laws.the_tokens_are_kept.Goals as goal
-
-pub returns : goal.returns
-returns c = keeps_the_whole_source

@@ -1,5 +1,0 @@
-use Rattle.rl_style.proofs.Theorems.{a_rewritten_literal_is_the_same_number}
-use Rattle.rl_style.proofs.laws.a_rewritten_literal_is_the_same_number.Goals as goal
-
-pub returns : goal.returns
-returns c = a_rewritten_literal_is_the_same_number

@@ -1,5 +1,0 @@
-use Rattle.rl_style.proofs.Theorems.{keeps_the_tokens_of_a_style}
-use Rattle.rl_style.proofs.laws.the_tokens_of_a_style_are_kept.Goals as goal
-
-pub returns : goal.returns
-returns c = keeps_the_tokens_of_a_style
