@@ -24,17 +24,39 @@ use rust_literals::{Lit, LitFloat, LitInt};
 pub(crate) fn told(name: &str, text: &str, out: &mut Page) {
     match name {
         "text" | "value" => call_literal(name, text, out),
-        "int" => put_number(LitInt::new(out.alloc, text, Span::call_site()), out),
-        "float" => put_number(LitFloat::new(out.alloc, text, Span::call_site()), out),
+        "int" | "float" => number(name, text, out),
         "skip" => out.put_display(&whitespace::skip(text).len(), "\n"),
         "strict" => out.put_display(&is_token(text), "\n"),
+        _ => told_of_list(name, text, out),
+    }
+}
+
+/// Prints the result of a test on a list of literals or attributes, or of two literals.
+fn told_of_list(name: &str, text: &str, out: &mut Page) {
+    match name {
         "read" => put_lines(Command::Read, text, out),
-        "spans" => put_spans(text, out),
         "attr" => put_lines(Command::Attr, text, out),
+        "spans" => put_spans(text, out),
+        _ => told_of_literals(name, text, out),
+    }
+}
+
+/// Prints the result of a test of two literals.
+fn told_of_literals(name: &str, text: &str, out: &mut Page) {
+    match name {
         "equal" => equal(text, out),
         "pairs" => pairs(text, out),
         "turns" => turns(text, out),
         _ => out.put("error: no call\n"),
+    }
+}
+
+/// Parses a text as an integer or as a float, and prints the result.
+fn number(name: &str, text: &str, out: &mut Page) {
+    if name == "int" {
+        put_number(LitInt::new(out.alloc, text, Span::call_site()), out)
+    } else {
+        put_number(LitFloat::new(out.alloc, text, Span::call_site()), out)
     }
 }
 

@@ -19,6 +19,11 @@ fn put_text(text: &str, out: &mut Page) {
     out.put_display(&text.len(), ": skip ");
     out.put_display(&whitespace::skip(text).len(), "; lex ");
     put_lexed(text, out);
+    put_literals(text, out)
+}
+
+/// Prints the results of `is_token`, `read_all` and `Lit::new`.
+fn put_literals(text: &str, out: &mut Page) {
     if strict::is_token(text) {
         out.put("; token");
     }
@@ -32,7 +37,10 @@ fn put_text(text: &str, out: &mut Page) {
 /// Prints the result of `lex`: the number of token trees, or an error and its position.
 fn put_lexed(text: &str, out: &mut Page) {
     match lex(out.alloc, text, 0) {
-        Ok(stream) => out.put_display(&stream.trees().len(), ""),
+        Ok(stream) => {
+            out.put_display(&stream.trees().len(), "");
+            drop(stream)
+        }
         Err(error) => {
             out.put_display(&error.kind, " ");
             out.put_display(&error.at, "")
@@ -43,7 +51,10 @@ fn put_lexed(text: &str, out: &mut Page) {
 /// Prints the result of `read_all`: the number of literals and the first of them with their ranges, or an error and its range.
 fn put_read(text: &str, out: &mut Page) {
     match read_all(out.alloc, text, 0) {
-        Ok(literals) => put_first(literals.as_slice(), out),
+        Ok(literals) => {
+            put_first(literals.as_slice(), out);
+            drop(literals)
+        }
         Err(error) => {
             out.put_display(&error, "");
             put_places(" ", error.span, out);
@@ -123,7 +134,10 @@ fn put_setting(front: &str, number: usize, text: &mut Page) {
 fn put_attributes(text: &str, out: &mut Page) {
     out.put("  ");
     match read(out.alloc, text, 0) {
-        Ok(attrs) => out.put_display(&attrs.entries().len(), "\n"),
+        Ok(attrs) => {
+            out.put_display(&attrs.entries().len(), "\n");
+            drop(attrs)
+        }
         Err(error) => {
             out.put_display(&Rejection(&error), "\n");
             drop(error)

@@ -53,5 +53,6 @@ fn put_read(text: &str, out: &mut Page) {
         for literal in literals.as_slice() {
             out.put_debug(literal, "\n")
         }
+        drop(literals)
     }
 }

@@ -46,12 +46,6 @@ impl FormatResult for () {
     }
 }
 
-impl FormatResult for bool {
-    fn append_result(&self, page: &mut Page) {
-        page.put_display(self, "")
-    }
-}
-
 impl FormatResult for i8 {
     fn append_result(&self, page: &mut Page) {
         page.put_display(self, "")
@@ -188,12 +182,6 @@ fn format_tree<A: Allocator>(tree: &TokenTree<A>, page: &mut Page) {
 impl<A: Allocator> FormatResult for TokenTree<A> {
     fn append_result(&self, page: &mut Page) {
         format_tree(self, page)
-    }
-}
-
-impl FormatResult for Page {
-    fn append_result(&self, page: &mut Page) {
-        page.put(self.text.as_str())
     }
 }
 
