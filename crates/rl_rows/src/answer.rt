@@ -25,8 +25,8 @@ pub(crate) fn told(name: &str, text: &str, out: &mut Page) {
     match name {
         "text" | "value" => call_literal(name, text, out),
         "int" | "float" => number(name, text, out),
-        "skip" => out.put_display(&whitespace::skip(text).len(), "\n"),
-        "strict" => out.put_display(&is_token(text), "\n"),
+        "skip" => out.put_number(whitespace::skip(text).len(), "\n"),
+        "strict" => out.put_bool(is_token(text), "\n"),
         _ => told_of_list(name, text, out),
     }
 }

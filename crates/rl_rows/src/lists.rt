@@ -57,8 +57,8 @@ fn put_each_span(literals: &[Lit], out: &mut Page) {
 fn put_span(literal: &Lit, out: &mut Page) {
     let span = literal.span();
     out.put_with_ending(label_of(literal.kind()), " ");
-    out.put_display(&span.lo, "..");
-    out.put_display(&span.hi, " ");
+    out.put_number(span.lo, "..");
+    out.put_number(span.hi, " ");
     put_token(Literal::string(out.alloc, literal.text()), out)
 }
 

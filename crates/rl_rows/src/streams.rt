@@ -1,8 +1,8 @@
 //! Runs commands with a reader and a writer that fail after some bytes.
 
 use crate::Page;
-use crate::noted::parts_of;
 use crate::lists::put_bytes;
+use crate::noted::parts_of;
 use rl_commands::Command;
 use rl_commands::run::run;
 use rl_program::RunError;
@@ -75,7 +75,11 @@ fn put_run(command: Command, limits: &str, bytes: &[u8], out: &mut Page) {
         left: limit_of(readable),
     };
     let mut output = output_of(writable, out.alloc);
-    put_ended(run(out.alloc, command, &mut input, &mut output), output, out)
+    put_ended(
+        run(out.alloc, command, &mut input, &mut output),
+        output,
+        out,
+    )
 }
 
 /// Creates a writer with a limit, and with `full` after a colon.

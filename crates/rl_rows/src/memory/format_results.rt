@@ -129,7 +129,7 @@ impl<A: Allocator> FormatResult for Error<A> {
 impl FormatResult for LexError {
     fn append_result(&self, page: &mut Page) {
         page.put_display(&self.kind, " ");
-        page.put_display(&self.at, "")
+        page.put_number(self.at, "")
     }
 }
 
@@ -187,7 +187,7 @@ impl<A: Allocator> FormatResult for TokenTree<A> {
 
 impl<A: Allocator> FormatResult for Attrs<A> {
     fn append_result(&self, page: &mut Page) {
-        page.put_display(&self.entries().len(), "")
+        page.put_number(self.entries().len(), "")
     }
 }
 

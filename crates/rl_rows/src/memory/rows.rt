@@ -63,7 +63,9 @@ fn run_named<A: Scarce>(row: &Row<'_>, trial: &Trial<A>, page: &mut Page) {
     match row.call {
         "new" => made::new(row.of, trial, row.text, page),
         "from_token" => made::from_token(row.of, trial, row.text, page),
-        call if call == "value" || call.starts_with("parse") => run_held::<Lit<A>, A>(row, trial, page),
+        call if call == "value" || call.starts_with("parse") => run_held::<Lit<A>, A>(
+            row, trial, page,
+        ),
         _ => run_literal(row, trial, page),
     }
 }
@@ -197,6 +199,6 @@ pub(crate) fn lent(text: &str, page: &mut Page) {
     };
     let ample = tried(&row, 1, 0, &Cell::new(0), page);
     page.put("  ");
-    page.put_display(&ample.text.as_str().len(), " bytes\n");
+    page.put_number(ample.text.as_str().len(), " bytes\n");
     put_failure(&row, 2, u64::MAX, ample.text.as_str(), page)
 }

@@ -143,7 +143,7 @@ fn parsed_of<T: Held<A> + Drop, A: Scarce>(
     let before = formatted(&trees, page);
     let mut input = ParseBuffer::new(trees, HERE);
     if call == "peek" {
-        page.put_display(&input.peek::<T>(), "")
+        page.put_bool(input.peek::<T>(), "")
     } else {
         format_result(input.parse::<T>(trial.begins()), page)
     }
