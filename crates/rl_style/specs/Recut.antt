@@ -34,7 +34,8 @@ pub record IsRecut (at : ℕ) (t : List ℕ) (before after : List CutSource) (ol
   pub cuts : SourcesUpTo at (front ++ (lexeme_text new ++ rest)) (before ++ (placed_literal new place
       ∷ moved (place + byte_len (lexeme_text old)) (place + byte_len (lexeme_text new)) after)) r
 
--- If one literal of a text is replaced, all other tokens are lexed as before.
+-- If one literal of a text is replaced, all other tokens are lexed as before. The tokens before it must contain no invalid
+-- quotes and no stray characters.
 abbrev pub KeepsTheTokens : Type 0
 KeepsTheTokens =
     (at : ℕ) (t : List ℕ) (before after : List CutSource) (old new : Lexeme) (place : ℕ) (r : List ℕ)
@@ -57,8 +58,8 @@ pub record IsRecutSource (t : List ℕ) (before after : List CutSource) (old new
 abbrev pub begins_with_code : List ℕ → Bool
 begins_with_code t = not (begins (codes "#!") (without_byte_order_mark t)) || begins (codes "#![") (without_byte_order_mark t)
 
--- If one literal of a source is replaced, all other tokens are lexed as before. The source must not begin with `#!`, unless
--- it begins with `#![`.
+-- If one literal of a source is replaced, all other tokens are lexed as before. The tokens before it must contain no invalid
+-- quotes and no stray characters. The source must not begin with `#!`, unless it begins with `#![`.
 abbrev pub KeepsTheSource : Type 0
 KeepsTheSource =
     (t : List ℕ) (before after : List CutSource) (old new : Lexeme) (place : ℕ) (r : List ℕ)
@@ -66,7 +67,8 @@ KeepsTheSource =
     → AllByRecursion IsSound before → SameEnds old new → IsRecutSource t before after old new place r
 
 -- A string with escapes replaces a raw string without the prefix `b` or `c`. If the text before the raw string ends with
--- neither a hash nor a dot, all other tokens are lexed as before.
+-- neither a hash nor a dot, all other tokens are lexed as before. The tokens before it must contain no invalid quotes and no
+-- stray characters.
 abbrev pub KeepsTheTokensUnraw : Type 0
 KeepsTheTokensUnraw =
     (at : ℕ) (t : List ℕ) (before after : List CutSource) (hashes : ℕ) (body suffix : List ℕ) (parts : List BodyPart)

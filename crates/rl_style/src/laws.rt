@@ -45,46 +45,52 @@ pub fn tokens_before_a_rewritten_literal_stay()
     ensures { StaysAround }
 {}
 
-/// A well-formed literal replaces a literal with an equal kind, prefix and suffix. The new literal is one token before each
-/// text that may follow the old one, and begins as the old one does. Both are raw strings, or neither is. The only exception
-/// is a raw string with the prefix `b` or `c`, which may become a string with escapes.
+/// Let a well-formed literal replace a literal with an equal kind, prefix and suffix. Then the new literal is one token
+/// before each text that may follow the old literal, and it begins as the old literal does. Both are raw strings, or neither
+/// is. The only exception is a raw string with the prefix `b` or `c`, which may become a string with escapes.
 pub fn new_literals_are_tokens()
     ensures { KeepsItsEnds }
 {}
 
-/// If one literal of a text is rewritten, all other tokens of the text are lexed as before.
+/// If one literal of a text is rewritten, all other tokens of the text are lexed as before. The tokens before the literal
+/// must contain no invalid quotes and no stray characters.
 pub fn the_tokens_are_kept()
     ensures { KeepsTheTokens }
 {}
 
-/// If one literal of a source is rewritten, all other tokens of the source are lexed as before. The source must not begin
-/// with `#!`, unless it begins with an attribute's `#![` ([`is_safe_to_restyle`](crate::is_safe_to_restyle)). After another `#!`, a
-/// rewritten literal may contain the `*/` of a comment that begins on the first line. Then the first line may no longer be an
-/// interpreter's line.
+/// If one literal of a source is rewritten, all other tokens of the source are lexed as before. The tokens before the literal
+/// must contain no invalid quotes and no stray characters. The source must not begin with `#!`, unless it begins with an
+/// attribute's `#![` ([`is_safe_to_restyle`](crate::is_safe_to_restyle)). With another `#!`, a comment may begin on the first
+/// line, and end at a `*/` inside of a literal of a later line. Then a change of this literal may change whether the first
+/// line is an interpreter's line.
 pub fn the_tokens_of_a_source_are_kept()
     ensures { KeepsTheSource }
 {}
 
-/// If a literal of a text is rewritten in a style, all other tokens of the text are lexed as before.
-/// [`rewrite_into`](crate::rewrite_into) writes one token, with the form of the old literal.
+/// If a literal of a text is rewritten in a style, all other tokens of the text are lexed as before. The tokens before the
+/// literal must contain no invalid quotes and no stray characters. [`rewrite_into`](crate::rewrite_into) writes one token,
+/// with the form of the old literal.
 pub fn the_tokens_around_a_restyled_literal_are_kept()
     ensures { KeepsTheTokensAroundARestyledLiteral }
 {}
 
-/// If a literal of a source is rewritten in a style, all other tokens of the source are lexed as before. The source must not
-/// begin with `#!`, unless it begins with an attribute's `#![`.
+/// If a literal of a source is rewritten in a style, all other tokens of the source are lexed as before. The tokens before
+/// the literal must contain no invalid quotes and no stray characters. The source must not begin with `#!`, unless it begins
+/// with an attribute's `#![`.
 pub fn the_source_tokens_around_a_restyled_literal_are_kept()
     ensures { KeepsTheSourceAroundARestyledLiteral }
 {}
 
 /// If any literals of a text are rewritten in a style, the new text has as many tokens as the old text, and their kinds are
-/// equal. Each token is the old one, or a rewritten literal.
+/// equal. Each token is the old one, or a rewritten literal. The old text must contain no invalid quotes and no stray
+/// characters.
 pub fn the_tokens_of_edits_are_kept()
     ensures { KeepsTheTokensOfEdits }
 {}
 
 /// If any literals of a source are rewritten in a style, the new source has as many tokens as the old source, and their kinds
-/// are equal. The source must not begin with `#!`, unless it begins with an attribute's `#![`.
+/// are equal. The old source must contain no invalid quotes and no stray characters. It must not begin with `#!`, unless it
+/// begins with an attribute's `#![`.
 pub fn the_tokens_of_an_edited_source_are_kept()
     ensures { KeepsTheEditedSource }
 {}
@@ -95,8 +101,9 @@ pub fn tokens_before_a_replaced_raw_string_stay()
     ensures { StaysBeforeQuote }
 {}
 
-/// If a string with escapes replaces a raw string of a text, all other tokens of the text are lexed as before. The text
-/// before the string must end with neither a hash nor a dot.
+/// If a string with escapes replaces a raw string of a text, all other tokens of the text are lexed as before. The tokens
+/// before the string must contain no invalid quotes and no stray characters. The text before the string must end with neither
+/// a hash nor a dot.
 pub fn the_tokens_around_a_replaced_raw_string_are_kept()
     ensures { KeepsTheTokensUnraw }
 {}
