@@ -3,11 +3,8 @@
 #![tactic(auto)]
 
 mod answer;
-mod borrowed;
 mod failing;
-mod hostile;
-mod lists;
-mod literals;
+mod long;
 mod memory;
 mod noted;
 mod page;
@@ -41,10 +38,6 @@ fn answer_all<R: BufRead + Drop, W: Write>(alloc: Global, input: R, out: &mut W)
 
 /// Runs the test in a line of input, and writes its result.
 fn answer_to<W: Write>(alloc: Global, line: io::Result<Vec<u8>>, out: &mut W) -> io::Result<()> {
-    write_answer(row::told(alloc, line?)?, out)
-}
-
-/// Writes the result of a test.
-fn write_answer<W: Write>(answer: String, out: &mut W) -> io::Result<()> {
+    let answer = row::told(alloc, line?)?;
     out.write_all(answer.as_bytes())
 }

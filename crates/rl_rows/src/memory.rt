@@ -1,11 +1,8 @@
 //! Tests of calls whose allocations fail.
 
+mod calls;
 mod format_results;
-mod free;
-mod held;
-mod inside;
-mod made;
 pub(crate) mod rows;
-mod runs;
+mod strings;
 mod tokens;
 mod trial;

@@ -1,8 +1,7 @@
 //! Functions that tests share.
 
 use crate::Page;
-use rl_tokens::{Literal, Span};
-use rust_literals::Lit;
+use rl_tokens::Span;
 
 /// The span of literals that are created from a text alone.
 pub(crate) const HERE: Span = Span {
@@ -25,17 +24,4 @@ pub(crate) fn noted<T, E: Drop>(answer: Result<T, E>, out: &mut Page) -> Option<
             None
         }
     }
-}
-
-/// Parses a text as a literal with the span `span`. A failed allocation is recorded in `out`.
-pub(crate) fn literal_of(text: &str, span: Span, out: &mut Page) -> Option<Lit> {
-    let token = noted(Literal::from_text(out.alloc, text, span), out)?;
-    noted(Lit::new(out.alloc, token), out)
-}
-
-/// Prints the text `front`, and the byte range of a span.
-pub(crate) fn put_places(front: &str, span: Span, out: &mut Page) {
-    out.put(front);
-    out.put_number(span.lo, "..");
-    out.put_number(span.hi, "")
 }

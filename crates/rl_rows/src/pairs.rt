@@ -36,15 +36,20 @@ fn agreeing(first: &str, gap: &str, backs: &str, number: usize, out: &mut Page) 
 /// Whether two texts with the separator `gap` between them are parsed to the same literals as both texts alone, and to at least
 /// one.
 fn agrees(first: &str, gap: &str, second: &str, out: &Page) -> bool {
-    let mut whole = Page::new(out.alloc);
-    whole.put_with_ending(first, gap);
-    whole.put(second);
     let mut alone = Page::new(out.alloc);
     put_read(first, &mut alone);
     put_read(second, &mut alone);
-    let mut found = Page::new(out.alloc);
-    put_read(whole.text.as_str(), &mut found);
-    found.text.as_str() != "" && found.text.as_str() == alone.text.as_str()
+    let mut whole = Page::new(out.alloc);
+    whole.put_with_ending(first, gap);
+    whole.put(second);
+    is_read_as(whole, alone)
+}
+
+/// Whether a text is parsed to the literals in `wanted`, and to at least one.
+fn is_read_as(text: Page, wanted: Page) -> bool {
+    let mut found = Page::new(text.alloc);
+    put_read(text.text.as_str(), &mut found);
+    found.text.as_str() != "" && found.text.as_str() == wanted.text.as_str()
 }
 
 /// Parses a text as a list of literals, and prints their `Debug` output.

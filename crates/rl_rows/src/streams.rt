@@ -1,7 +1,6 @@
 //! Runs commands with a reader and a writer that fail after some bytes.
 
 use crate::Page;
-use crate::lists::put_bytes;
 use crate::noted::parts_of;
 use rl_commands::Command;
 use rl_commands::run::run;
@@ -56,33 +55,7 @@ fn limit_of(word: &str) -> usize {
     word.parse::<usize>().unwrap_or(usize::MAX)
 }
 
-/// Runs a command, and prints its output, its exit status and its error.
-///
-/// `words` are separated by colons: the command's name, the number of bytes after which reading fails, the number of bytes after
-/// which writing fails, and `full`. With `full`, the writer then writes no byte and doesn't fail.
-pub(crate) fn told(words: &str, bytes: &[u8], out: &mut Page) {
-    let (name, limits) = parts_of(words, ':');
-    if let Some(command) = Command::from_name(name) {
-        put_run(command, limits, bytes, out)
-    }
-}
-
-/// Runs a command with the limits of the reader and of the writer.
-fn put_run(command: Command, limits: &str, bytes: &[u8], out: &mut Page) {
-    let (readable, writable) = parts_of(limits, ':');
-    let mut input = Input {
-        bytes,
-        left: limit_of(readable),
-    };
-    let mut output = output_of(writable, out.alloc);
-    put_ended(
-        run(out.alloc, command, &mut input, &mut output),
-        output,
-        out,
-    )
-}
-
-/// Creates a writer with a limit, and with `full` after a colon.
+/// Creates a writer. `words` has the number of bytes after which writing fails, a colon, and perhaps `full`.
 fn output_of(words: &str, alloc: Global) -> Output {
     let (writable, end) = parts_of(words, ':');
     Output {
@@ -92,13 +65,60 @@ fn output_of(words: &str, alloc: Global) -> Output {
     }
 }
 
-/// Prints the output of a command, its exit status and its error.
-fn put_ended<E: RunError + Drop>(answer: Result<(), E>, output: Output, out: &mut Page) {
-    put_bytes(output.held.as_slice(), out);
+/// Runs a command on a text, and prints its output, or the line of its error. After a list or settings, a line with a full stop
+/// follows.
+pub(crate) fn put_lines(name: &str, text: &str, out: &mut Page) {
+    match Command::from_name(name) {
+        Some(command) => put_run(command, "", text.as_bytes(), false, out),
+        None => out.put("error: no call\n"),
+    }
+    out.put(if name == "read" || name == "attr" {
+        ".\n"
+    } else {
+        ""
+    })
+}
+
+/// Runs a command, and prints its output, its exit status and its error.
+///
+/// `words` are separated by colons: the command's name, the number of bytes after which reading fails, the number of bytes after
+/// which writing fails, and `full`. With `full`, the writer then writes no byte and doesn't fail.
+pub(crate) fn told(words: &str, bytes: &[u8], out: &mut Page) {
+    let (name, limits) = parts_of(words, ':');
+    if let Some(command) = Command::from_name(name) {
+        put_run(command, limits, bytes, true, out)
+    }
+}
+
+/// Runs a command with the limits of the reader and of the writer. Prints its output and its error, and perhaps its exit status.
+fn put_run(command: Command, limits: &str, bytes: &[u8], has_status: bool, out: &mut Page) {
+    let (readable, writable) = parts_of(limits, ':');
+    let mut input = Input {
+        bytes,
+        left: limit_of(readable),
+    };
+    let mut output = output_of(writable, out.alloc);
+    let answer = run(out.alloc, command, &mut input, &mut output);
+    put_written(output, out);
+    put_ended(answer, has_status, out)
+}
+
+/// Prints what was written.
+fn put_written(output: Output, out: &mut Page) {
+    match std::str::from_utf8(output.held.as_slice()) {
+        Ok(text) => out.put(text),
+        Err(_) => out.is_short = true,
+    }
+}
+
+/// Prints the error of a command, and perhaps its exit status.
+fn put_ended<E: RunError + Drop>(answer: Result<(), E>, has_status: bool, out: &mut Page) {
     match answer {
-        Ok(()) => out.put("0\n"),
+        Ok(()) => out.put(if has_status { "0\n" } else { "" }),
         Err(error) => {
-            out.put_display(&error.status(), " ");
+            if has_status {
+                out.put_display(&error.status(), " ");
+            }
             out.put_display(&error, "\n")
         }
     }

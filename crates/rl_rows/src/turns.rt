@@ -4,6 +4,7 @@ use crate::Page;
 use crate::noted::noted;
 use rl_tokens::{ParseBuffer, Span, lex};
 use rust_literals::Lit;
+use std::fmt::Display;
 
 /// Parses the token trees of a text by the parser of literals and by `punct` in turn, and prints the results. Then prints whether
 /// the buffer is empty.
@@ -22,12 +23,16 @@ pub(crate) fn turns(text: &str, out: &mut Page) {
 
 /// Prints the next literal, and then the result of `punct`: the punctuation character, or `none` without one.
 fn put_turn(input: &mut ParseBuffer<'_>, out: &mut Page) {
-    if let Some(literal) = noted(input.parse::<Lit>(out.alloc), out) {
-        out.put_display(&literal, " ");
-        drop(literal)
-    }
+    put_literal(noted(input.parse::<Lit>(out.alloc), out), out);
     match input.punct() {
         Some(mark) => out.put_display(&mark.as_char(), " "),
         None => out.put("none "),
+    }
+}
+
+/// Prints a value, if there is one.
+fn put_literal<T: Display + Drop>(parsed: Option<T>, out: &mut Page) {
+    if let Some(value) = parsed {
+        out.put_display(&value, " ")
     }
 }

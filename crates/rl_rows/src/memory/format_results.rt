@@ -1,12 +1,9 @@
 //! Formats the results of calls, and the state of borrowed values.
 
 use crate::Page;
-use crate::noted::put_places;
-use rl_attributes::Attrs;
 use rl_program::ProgramError;
-use rl_quoted::{Quoted, QuotedKind};
-use rl_tokens::{CString, Error, Ident, Kept, LexError, Literal, Span, TokenStream, TokenTree};
-use rust_literals::{Lit, LitBool, Number, NumberKind};
+use rl_tokens::{Error, Kept, LexError, Literal, Span, TokenStream, TokenTree};
+use rust_literals::{Lit, LitStr};
 use std::alloc::Allocator;
 
 /// A result that can be printed, with its spans.
@@ -29,8 +26,9 @@ pub(crate) fn format_result<T: FormatResult + Drop, E: FormatResult + Drop>(
 /// Appends a span: its file and its range.
 fn format_span(span: Span, page: &mut Page) {
     page.put(" ");
-    page.put_display(&span.file, "");
-    put_places(":", span, page)
+    page.put_display(&span.file, ":");
+    page.put_number(span.lo, "..");
+    page.put_number(span.hi, "")
 }
 
 /// Appends a token's text in backticks, and its span.
@@ -46,27 +44,9 @@ impl FormatResult for () {
     }
 }
 
-impl FormatResult for i8 {
-    fn append_result(&self, page: &mut Page) {
-        page.put_display(self, "")
-    }
-}
-
 impl<A: Allocator> FormatResult for String<A> {
     fn append_result(&self, page: &mut Page) {
         page.put(self.as_str())
-    }
-}
-
-impl<A: Allocator> FormatResult for Vec<u8, A> {
-    fn append_result(&self, page: &mut Page) {
-        page.put_debug(&self.as_slice(), "")
-    }
-}
-
-impl<A: Allocator> FormatResult for CString<A> {
-    fn append_result(&self, page: &mut Page) {
-        page.put_debug(&self.as_bytes(), "")
     }
 }
 
@@ -76,27 +56,7 @@ impl<A: Allocator> FormatResult for Literal<A> {
     }
 }
 
-impl<A: Allocator> FormatResult for Ident<A> {
-    fn append_result(&self, page: &mut Page) {
-        format_token(self.text(), self.span(), page)
-    }
-}
-
-impl<K: QuotedKind, A: Allocator> FormatResult for Quoted<K, A> {
-    fn append_result(&self, page: &mut Page) {
-        page.put_debug(self, "");
-        format_span(self.span(), page)
-    }
-}
-
-impl<K: NumberKind, A: Allocator> FormatResult for Number<K, A> {
-    fn append_result(&self, page: &mut Page) {
-        page.put_debug(self, "");
-        format_span(self.span(), page)
-    }
-}
-
-impl FormatResult for LitBool {
+impl<A: Allocator> FormatResult for LitStr<A> {
     fn append_result(&self, page: &mut Page) {
         page.put_debug(self, "");
         format_span(self.span(), page)
@@ -182,12 +142,6 @@ fn format_tree<A: Allocator>(tree: &TokenTree<A>, page: &mut Page) {
 impl<A: Allocator> FormatResult for TokenTree<A> {
     fn append_result(&self, page: &mut Page) {
         format_tree(self, page)
-    }
-}
-
-impl<A: Allocator> FormatResult for Attrs<A> {
-    fn append_result(&self, page: &mut Page) {
-        page.put_number(self.entries().len(), "")
     }
 }
 

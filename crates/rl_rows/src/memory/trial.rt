@@ -37,7 +37,7 @@ impl<A: Scarce> Trial<A> {
     }
 
     /// Ends the failures, and returns the allocator for values that the call borrows.
-    fn waits(&self) -> A {
+    pub(crate) fn waits(&self) -> A {
         self.scant.fail_from_to(1, 0);
         self.scant
     }

@@ -5,6 +5,7 @@ use crate::shown::{line, literal_of, range, spanned, value_or_error};
 use navyspindle_programs::rattle_std::alloc::Global;
 use navyspindle_programs::rl_tokens::{Error, Span};
 use navyspindle_programs::rust_literals::{read_all, Lit, Literals};
+use navyspindle_rows::answers::span_lines;
 
 const TABLE: &str = include_str!("lists.rows");
 
@@ -90,4 +91,10 @@ fn pairs() {
         }
         format!("{out}{agreed} agree")
     });
+}
+
+/// Shows the kind, the byte range and the text of each literal, or the error.
+#[test]
+fn spans() {
+    check(TABLE, "spans", span_lines);
 }

@@ -7,6 +7,7 @@ use crate::shown::{
 use navyspindle_programs::rattle_std::alloc::Global;
 use navyspindle_programs::rl_tokens::{ParseBuffer, Span, ToTokens, TokenStream};
 use navyspindle_programs::rust_literals::Lit;
+use navyspindle_rows::answers::borrowed_line;
 use navyspindle_rows::rl_uses::rewritten;
 use std::collections::HashMap;
 use std::fmt::Display;
@@ -140,4 +141,10 @@ fn rewritten_literals() {
             Err(it) => error(&it),
         }
     });
+}
+
+/// Shows the value of a literal as a byte string if the literal borrows it from its text. Otherwise it shows `None`.
+#[test]
+fn borrowed_values() {
+    check(TABLE, "value", borrowed_line);
 }

@@ -1,11 +1,13 @@
 //! Tests calls of the translated libraries. Each subject has a table of rows, `NAME.rows`, and the tests, `NAME.rs`. The expected
 //! results come from `syn` or from the grammars, or are written by hand. They never come from the output of this repository's code.
 
+mod allocations;
 mod attributes;
 mod calls;
 mod failing;
 mod flaws;
 mod grammar;
+mod hostile;
 mod lists;
 mod literals;
 mod messages;
@@ -15,4 +17,5 @@ mod rows;
 mod shown;
 mod sources;
 mod tokens;
+mod trial;
 mod uses;

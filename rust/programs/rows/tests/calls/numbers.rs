@@ -9,6 +9,7 @@ use navyspindle_programs::rl_tokens::{Error, ErrorKind, Literal};
 use navyspindle_programs::rust_literals::{
     FloatKind, IntKind, Lit, LitFloat, LitInt, Number, NumberKind,
 };
+use navyspindle_rows::answers::{float_line, integer_line};
 use std::fmt::Display;
 use std::str::FromStr;
 
@@ -189,4 +190,16 @@ fn byte_of_a_float() {
             Err(_) => "no float".to_owned(),
         }
     });
+}
+
+/// Shows the line of the integer literal that a text is, or the reason why it isn't one.
+#[test]
+fn lines_of_integers() {
+    check(TABLE, "int", integer_line);
+}
+
+/// Shows the line of the float literal that a text is, or the reason why it isn't one.
+#[test]
+fn lines_of_floats() {
+    check(TABLE, "float", float_line);
 }

@@ -1,7 +1,7 @@
 //! Tests the literals of whole sources.
 
-use crate::failing::results;
 use crate::rows::{check, check_headings};
+use crate::trial::results;
 use navyspindle_programs::rattle_std::alloc::Global;
 use navyspindle_programs::rattle_std::vec::Vec;
 use navyspindle_programs::rl_program::ProgramError;
@@ -25,9 +25,9 @@ fn sources() {
 #[test]
 fn scans() {
     check(TABLE, "scan", |text| {
-        results(|failing| {
+        results(|trial| {
             let mut written = Vec::new(Global);
-            let answer = match scan(failing, Options::default(), text, &mut written) {
+            let answer = match scan(trial.begins(), Options::default(), text, &mut written) {
                 Ok(is_found) => is_found.to_string(),
                 Err(ScanError::Program(ProgramError::Memory)) => "out of memory".to_owned(),
                 Err(_) => "another error".to_owned(),

@@ -1,11 +1,12 @@
-//! Tests of `value` and `parse` of strings, byte strings and C strings.
+//! Tests of `value`, `parse` and `parse_with` of strings.
 
 use crate::Page;
 use crate::memory::format_results::{format_result, format_trees};
-use crate::memory::trial::Scarce;
-use rl_attributes::Attrs;
-use rl_tokens::{Error, Literal, ParseBuffer, Parser};
-use rust_literals::{Lit, LitInt, LitStr};
+use crate::memory::rows::Row;
+use crate::memory::trial::{Scarce, Trial, format_borrowed, formatted};
+use crate::noted::{HERE, noted};
+use rl_tokens::{Error, Literal, ParseBuffer, Parser, parse_all};
+use rust_literals::{Lit, LitStr};
 use std::alloc::Allocator;
 
 /// A parser that returns a copy of the next literal token. If an allocation fails, the error has the token's span, and the parser
@@ -54,13 +55,15 @@ impl<A: Allocator> Parser<A> for GroupTold {
     }
 }
 
-/// Calls the function with the name on a string, byte string or C string, and appends its result.
-pub(crate) fn call<A: Scarce>(literal: &Lit<A>, name: &str, scant: A, page: &mut Page) {
-    match literal {
-        Lit::Str(string) => in_string(string, name, scant, page),
-        Lit::ByteStr(string) => format_result(string.value(scant), page),
-        Lit::CStr(string) => format_result(string.value(scant), page),
-        _ => page.is_short = true,
+/// Parses the text of a row as a string, calls the row's function on it, and appends its result. Then appends whether the string is
+/// unchanged.
+pub(crate) fn string_call<A: Scarce>(row: &Row<'_>, trial: &Trial<A>, page: &mut Page) {
+    if let Some(mut string) = noted(parse_all::<LitStr<A>, A>(trial.waits(), row.text, 7), page) {
+        string.set_span(HERE);
+        let before = formatted(&string, page);
+        in_string(&string, row.call, trial.begins(), page);
+        format_borrowed(&string, &before, page);
+        drop(string)
     }
 }
 
@@ -68,19 +71,9 @@ pub(crate) fn call<A: Scarce>(literal: &Lit<A>, name: &str, scant: A, page: &mut
 fn in_string<A: Scarce>(string: &LitStr<A>, name: &str, scant: A, page: &mut Page) {
     match name {
         "value" => format_result(string.value(scant), page),
+        "parse" => format_result(string.parse::<Lit<A>, _>(scant), page),
         "parse_group" => group_of(string, scant, page),
-        "parse_with" => format_result(string.parse_with(scant, CopyOfToken), page),
-        "parse_in_file" => format_result(string.parse_in_file(scant, CopyOfToken), page),
-        _ => parse_as(string, name, scant, page),
-    }
-}
-
-/// Calls `parse` on a string, with the type that the name selects, and appends its result.
-fn parse_as<A: Scarce>(string: &LitStr<A>, name: &str, scant: A, page: &mut Page) {
-    match name {
-        "parse_int" => format_result(string.parse::<LitInt<A>, _>(scant), page),
-        "parse_attrs" => format_result(string.parse::<Attrs<A>, _>(scant), page),
-        _ => format_result(string.parse::<Lit<A>, _>(scant), page),
+        _ => format_result(string.parse_with(scant, CopyOfToken), page),
     }
 }
 
