@@ -1,5 +1,5 @@
 #!/usr/bin/env python3
-"""Compares the results of rl_rows with those of three other programs, on the texts of texts.py.
+"""Compares the results of rl_answers with those of three other programs, on the texts of texts.py.
 
     oracle/readings.py [PATH] [--commands text,int,..] [--families worked,cuts,..] ..
 
@@ -10,7 +10,7 @@ By its command, a result is compared with that of
     read                            proc_macro2's lexer and that code (`reader` of oracle/rustc)
     strict, spans, attr             rustc's own lexer (the macros of oracle/rustc)
 
-The first five are the default. Other options: frame.py. `--rl-rows` may name the package's example `lines`. A million
+The first five are the default. Other options: frame.py. `--rl-answers` may name the package's example `lines`. A million
 comparisons take 20 to 60 s, and with rustc three minutes. Most families always use all of their texts. `--families` leaves some out.
 """
 import functools
@@ -34,7 +34,7 @@ def other(asked, command):
     if command in listed.OF_RUSTC:
         return functools.partial(rustc.Lexer().answers, command)
     path = os.path.join(frame.helper('rustc'), 'reader') if command == 'read' else asked.path
-    return functools.partial(syn, path, command, is_package=os.path.basename(asked.rl_rows) == 'lines')
+    return functools.partial(syn, path, command, is_package=os.path.basename(asked.rl_answers) == 'lines')
 
 
 def compare(asked, report):
@@ -46,9 +46,9 @@ def compare(asked, report):
     for name, batch in texts.fresh_batches(asked, filter(about.get, names)):
         count += len(batch)
         for command in about[name]:
-            listed.compare(report, command, batch, others[command](batch), frame.of_rows(asked.rl_rows, command, batch))
+            listed.compare(report, command, batch, others[command](batch), frame.of_rows(asked.rl_answers, command, batch))
     return count
 
 
 if __name__ == '__main__':
-    frame.run(compare, __doc__, 'path?', ours=['rl_rows'], count=500_000, commands='text,int,float,skip,value', families='')
+    frame.run(compare, __doc__, 'path?', ours=['rl_answers'], count=500_000, commands='text,int,float,skip,value', families='')

@@ -4,9 +4,9 @@
     oracle/reasons.py [--families worked,cuts,..] [--rustc] [--alone N] ..      a minute for 1,000 random texts, with --rustc ten
 
 The texts are generated ones, and those with stored results: of rust/programs/tests/stored/texts.rs, of the rows of rl_rows, and of
-the tables flaws.rows and sources.rows in rust/programs/rows/tests/calls. With --rustc, rustc lexes many texts in one source if they
-leave no quote, comment or group open, and N of the others each alone; --alone sets N. A table then shows the relation of rustc's
-errors to ours. Other options: frame.py.
+tables in rust/programs/rows/tests/calls. With --rustc, rustc lexes many texts in one source if they leave no quote, comment or group
+open, and N of the others each alone; --alone sets N. A table then shows the relation of rustc's errors to ours. Other options:
+frame.py.
 """
 import collections
 import itertools
@@ -23,6 +23,10 @@ from rustc import CUT, EARLIER, kinds, short
 
 # The commands, and the model's function that returns the line for each.
 COMMANDS = {'explain': flaws.line, 'explain-value': flaws.value_line}
+# The tables whose texts are compared, and the headings.
+TABLES = {
+    'flaws': ['explain', 'explain-value'], 'sources': ['source'], 'literals': ['value'], 'numbers': ['int', 'float'], 'lists': ['spans'],
+}
 Flaw = collections.namedtuple('Flaw', 'kind begin low high')
 # A text with one of these flaws doesn't begin a literal. So rustc lexes its start as an identifier, punctuation or a comment, and
 # continues.
@@ -168,7 +172,9 @@ def compare_model(asked, report, answers, data):
 def stored_texts():
     """Returns the texts with stored results. The rows of rl_rows contain their texts as hexadecimal digits."""
     yield from (text for pairs in families.STORED.values() for text, _ in pairs)
-    yield from families.of_tables('flaws', 'sources')
+    for name, headings in TABLES.items():
+        for heading in headings:
+            yield from families.of_table(name, heading)
     with open(os.path.join(frame.TOP, 'crates/rl_rows/stdin'), 'rb') as file:
         words = re.findall(rb'(?<![0-9a-f])(?:[0-9a-f]{2})+(?![0-9a-f])', file.read())
     yield from (text for word in words if (text := frame.text_of(bytes.fromhex(word.decode()))) is not None)

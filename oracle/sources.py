@@ -4,11 +4,11 @@
     oracle/sources.py PATH FOLDER.. [--jobs N] ..       half an hour for 300 MB of sources
     oracle/sources.py PATH --count N [--size N] ..      a minute with `--count 1000 --size 10000`
 
-With FOLDERs, a process of rl_scan reads each file below them, also with options. Then each literal of these files is read by rl_rows,
-by `syn`'s code with the commands text, int, float and value, and by rustc with strict. Without a FOLDER the sources are generated
-(source_texts.py): hostile ones of N bytes, small ones cut off at each byte, first lines for interpreters, and random sequences of
-pieces. PATH is a program with `syn`'s code, and rustc runs the macros of oracle/rustc (docs/COMPARISON.md). Other options:
-frame.py.
+With FOLDERs, a process of rl_scan reads each file below them, also with options. Then each literal of these files is read by
+rl_answers, by `syn`'s code with the commands text, int, float and value, and by rustc with strict. Without a FOLDER the sources are
+generated (source_texts.py): hostile ones of N bytes, small ones cut off at each byte, first lines for interpreters, and random
+sequences of pieces. PATH is a program with `syn`'s code, and rustc runs the macros of oracle/rustc (docs/COMPARISON.md). Other
+options: frame.py.
 
 The result for a source is a list of lines on either side: the lines of its literals, and last the line of an error, if there is
 one.
@@ -253,7 +253,7 @@ def compare_files(asked, report):
     print('%d files, %d lines; %d different literals' % (sides.sources, report.compared, len(literals)), flush=True)
     for batch, command in itertools.product(frame.batches(literals), ('text', 'int', 'float', 'value', 'strict')):
         theirs = sides.rustc.lexer.answers(command, batch) if command == 'strict' else syn(asked.path, command, batch)
-        listed.compare(report, command, batch, theirs, frame.of_rows(asked.rl_rows, command, batch))
+        listed.compare(report, command, batch, theirs, frame.of_rows(asked.rl_answers, command, batch))
     return sides.sources
 
 
@@ -283,5 +283,5 @@ def compare(asked, report):
 
 
 if __name__ == '__main__':
-    frame.run(compare, __doc__, 'path', 'folders*', what='sources', ours=['rl_rows', 'rl_answers', 'rl_scan'], count=500_000, size=1_000_000,
+    frame.run(compare, __doc__, 'path', 'folders*', what='sources', ours=['rl_answers', 'rl_scan'], count=500_000, size=1_000_000,
               jobs=2)

@@ -216,31 +216,26 @@ def randoms(seed, count):
         yield source.choice(MAKERS)(source)
 
 
-# The characters of the rows `cut` that represent line ends and other control characters.
-PICTURES = {0x240A: '\n', 0x240D: '\r', 0x2409: '\t', 0x2400: '\0'}
+def of_table(name, heading=None):
+    """Returns the given texts of a table of rust/programs/rows/tests/calls, or of one heading. A number in `⟨..⟩` represents a
+    character."""
+    with open(os.path.join(frame.TOP, f'rust/programs/rows/tests/calls/{name}.rows'), encoding='utf-8', newline='') as file:
+        blocks = file.read().split('\n\n')
+    near = None
+    for block in blocks:
+        near = block[2:].strip() if block.startswith('# ') else near
+        given = [line[2:] for line in block.split('\n') if line.startswith('<')]
+        if given and near == (heading or near):
+            yield re.sub('⟨(.*?)⟩', lambda it: chr(int(it[1], 16)), '\n'.join(given))
 
 
 def rows():
-    """Returns the texts of the stored rows of rl_rows: each start of the text of a row `cut`, and the long texts of the rows `long`,
-    each of which has pieces of text after their numbers of repetitions."""
-    with open(os.path.join(frame.TOP, 'crates/rl_rows/stdin'), encoding='utf-8', errors='replace', newline='') as file:
-        plain = [line.partition(' ')[2] for line in file.read().split('\n') if line.startswith('plain ')]
-    for kind, _, row in (it.partition(' ') for it in plain):
-        if kind == 'cut':
-            yield from (row.translate(PICTURES)[:end] for end in range(len(row) + 1))
-        elif kind == 'long':
-            yield ''.join(piece * int(count) for count, _, piece in (part.partition(' ') for part in row.split('\t')))
-
-
-def of_tables(*names):
-    """Returns the given texts of tables of rust/programs/rows/tests/calls. A number in `⟨..⟩` represents a character."""
-    for name in names:
-        with open(os.path.join(frame.TOP, f'rust/programs/rows/tests/calls/{name}.rows'), encoding='utf-8', newline='') as file:
-            blocks = file.read().split('\n\n')
-        for block in blocks:
-            given = [line[2:] for line in block.split('\n') if line.startswith('<')]
-            if given:
-                yield re.sub('⟨(.*?)⟩', lambda it: chr(int(it[1], 16)), '\n'.join(given))
+    """Returns the texts of the table of hostile texts: each start of a text below `cut`, and the long texts below `parts`, each of
+    which has pieces of text after their numbers of repetitions."""
+    for text in of_table('hostile', 'cut'):
+        yield from (text[:end] for end in range(len(text) + 1))
+    for row in of_table('hostile', 'parts'):
+        yield ''.join(piece * int(count) for count, _, piece in (part.partition(' ') for part in row.split('\t')))
 
 
 def families(seed, count):

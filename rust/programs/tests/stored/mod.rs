@@ -9,23 +9,6 @@ use std::thread;
 
 /// Checks that the program at the path `program` prints the stored output of the crate `name`.
 pub fn check(name: &str, program: &str) {
-    check_but(name, program, &[]);
-}
-
-/// Returns the bytes without the lines for which `is_out` returns `true`.
-fn without(bytes: &[u8], mut is_out: impl FnMut(&[u8]) -> bool) -> Vec<u8> {
-    let lines = bytes.split_inclusive(|byte| *byte == b'\n');
-    lines
-        .filter(|line| !is_out(line))
-        .flatten()
-        .copied()
-        .collect()
-}
-
-/// Checks the program's output like `check`, but without the rows `plain WORD..` of these words. In the output, such a row is a
-/// line that begins with the word, and the lines after it that begin with two spaces.
-pub fn check_but(name: &str, program: &str, words: &[&str]) {
-    let is_of = |line: &[u8]| words.iter().any(|word| line.starts_with(word.as_bytes()));
     let top = concat!(env!("CARGO_MANIFEST_DIR"), "/");
     let crates = top
         .split_once("/rust/programs/")
@@ -34,13 +17,7 @@ pub fn check_but(name: &str, program: &str, words: &[&str]) {
     let folder = Path::new(crates).join("crates").join(name);
     let words = fs::read_to_string(folder.join("args")).unwrap_or_default();
     let rows = fs::read(folder.join("stdin")).unwrap_or_default();
-    let rows = without(&rows, |row| row.strip_prefix(b"plain ").is_some_and(is_of));
-    let mut is_out = false;
     let wanted = fs::read(folder.join("stdout")).expect("a stored run");
-    let wanted = without(&wanted, |line| {
-        is_out = is_of(line) || is_out && line.starts_with(b"  ");
-        is_out
-    });
     let data = folder.join("data");
 
     let mut child = Command::new(program)

@@ -9,9 +9,7 @@ use navyspindle_rows::{settings, texts};
 use std::env;
 use std::io::{self, BufWriter, Write};
 
-const COMMANDS: [&str; 9] = [
-    "text", "value", "int", "float", "skip", "strict", "read", "spans", "attr",
-];
+const COMMANDS: [&str; 5] = ["text", "skip", "strict", "read", "attr"];
 
 /// Writes a row: a command, and the bytes of a text as hexadecimal digits.
 fn put_row(out: &mut impl Write, command: &str, text: &str) -> io::Result<()> {
@@ -50,7 +48,7 @@ fn put_characters(out: &mut impl Write) -> io::Result<()> {
             put_row(out, "strict", &text)?;
         }
         for text in texts::among(c) {
-            put_row(out, "spans", &text)?;
+            put_row(out, "read", &text)?;
         }
     }
     Ok(())

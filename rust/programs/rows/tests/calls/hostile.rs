@@ -26,6 +26,7 @@ fn prefixes() {
 /// Shows a line for a long text. The row has the parts of the text, with tabs between. Each part is a number, a space, and a text that
 /// is repeated as often.
 #[test]
+#[ignore = "ten seconds of a processor, for texts of a million characters; rust/check runs it"]
 fn long_texts() {
     check(TABLE, "parts", |row| {
         let parts = row.split('\t').map(|part| {
