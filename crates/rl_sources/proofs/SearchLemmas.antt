@@ -1,9 +1,10 @@
 -- Lemmas about the search by borders, of Knuth, Morris and Pratt.
 use Rattle.std.proofs.Common.{◌≡◌, ◌≢◌, ℕ, zero, suc, ◌+◌, ◌-◌, ◌<◌, ◌≤◌, ◌==◌, Bool, false, true, List, [], ◌∷◌, ◌++◌, length, length-append, get_or, take, drop, refl, sym, ap, subst, ◌∙◌, arith, inl, inr, ◌⊎◌}
-use Rattle.std.proofs.lemmas.Bool.{and_parts, and_from, eqb-true, eq-eqb, cases_lt}
+use Rattle.std.proofs.lemmas.Bool.{and_parts, and_from, both_ways, eqb-true, eq-eqb, cases_lt, or_parts}
 use Rattle.std.proofs.lemmas.Bool.{false≢true}
 use Rattle.std.proofs.Common.{length-drop}
 use Rattle.std.proofs.lemmas.List.{get_or-drop, get_or_append_left, get_or_at, length-map}
+use Rattle.std.specs.List.{list_any}
 use Rattle.std.specs.Prelude.{not, IfNone, IfOk, None, Option, Some}
 use Rattle.std.specs.declared.result.Result.{Result}
 use Rattle.std.specs.declared.result.Result.TheVariants.{Err, Ok}
@@ -82,6 +83,21 @@ agrees_stands sought bytes at fits agrees = (
   there_stands sought (drop at bytes) (omega (arith, length-drop at bytes))
       (λ i low. agrees i low ∙ sym (get_or-drop at bytes i 0)),
 )
+
+missed : (first : ℕ) (bytes : List ℕ) (at : ℕ) → list_any (λ y. y == first) bytes ≡ false → at < length bytes
+    → get_or bytes at 0 ≡ first → ⊥
+missed first [] at none low same = absurd (omega arith)
+missed first (b ∷ bs) zero none low same = both_ways (b == first) (or_parts _ _ none).0 (eq-eqb b first same)
+missed first (b ∷ bs) (suc at) none low same = missed first bs at (or_parts _ _ none).1 (omega arith) same
+
+-- If the bytes don't contain the first byte of a sought text, the text doesn't occur in them.
+pub first_missing : (first : ℕ) (more bytes : List ℕ) (at : ℕ) → list_any (λ y. y == first) bytes ≡ false
+    → OccursAt (first ∷ more) bytes at → ⊥
+first_missing first more bytes at none occurs =
+    let there = stands_agrees (first ∷ more) bytes at occurs in
+    let same : first ≡ get_or bytes at 0 =
+    there.1 0 (omega arith) ∙ ap (λ (k : ℕ). get_or bytes k 0) (let e : at + 0 ≡ at = omega arith in e) in
+    missed first bytes at none (omega (arith, there.0)) (sym same)
 
 -- ---- the longest border
 

@@ -14,7 +14,8 @@ use Rattle.rl_sources.specs.declared.options.Options.{Options}
 use Rattle.rl_output.specs.declared.choice.Shown.TheVariants.{Bad}
 use Rattle.rl_sources.specs.declared.step.Step.{Step}
 use Rattle.rl_sources.specs.declared.step.Step.TheVariants.{More, End, Error}
-use Rattle.rl_style.specs.Calls.{CallState, Outside}
+use Rattle.rl_style.specs.Calls.{CallState, Outside, calls_seen}
+use Rattle.rl_style.specs.declared.calls.Calls.{Calls}
 use Rattle.rl_sources.specs.Called.{calls_past_all}
 use Rattle.rl_sources.specs.Options.{ends_at_strays, finds_strays, options_at}
 use Rattle.rl_sources.specs.Places.{IsPlaceIn}
@@ -142,9 +143,10 @@ EndsUnshown options old seen =
 
 -- The tokens up to the next one that may have output have no output. The result is that token, or `None` at the end of the source.
 -- `seen` is the position of the old cursor relative to macro calls, and `now` that of the token.
-abbrev pub ReachesShown : Options → CursorState → CallState → CursorState → CallState → Option SourceToken → Type 0
+abbrev pub ReachesShown : Options → CursorState → Calls → CursorState → Calls → Option SourceToken → Type 0
 ReachesShown options old seen new now result =
-    MatchOption result (EndsUnshown options old seen) (λ l. TakesShown options old seen l now new)
+    MatchOption result (EndsUnshown options old (calls_seen seen))
+    (λ l. TakesShown options old (calls_seen seen) l (calls_seen now) new)
 
 -- The tokens up to the error of the source have no output. `seen` is the position of the cursor relative to macro calls.
 pub record StopsUnshown (options : Options) (old : CursorState) (seen : CallState) (e : LexError) : Type 0 where

@@ -1,8 +1,8 @@
 //! Searches for bytes in other bytes by the algorithm of Knuth, Morris and Pratt. The time grows linearly with both lengths.
 
-ghost use Rattle.std.specs.Prelude.{◌≡◌, ◌≢◌, ◌+◌, ◌<◌, ◌≤◌, ℕ, length, map, slice_index, IfNone, IfOk, IfSome, MatchBool};
+ghost use Rattle.std.specs.Prelude.{◌≡◌, ◌≢◌, ◌+◌, ◌<◌, ◌≤◌, ℕ, length, map, slice_index, IfNone, IfOk, IfSome, IsFalse, MatchBool};
 ghost use Rattle.std.specs.Char.{to_ascii_lowercase};
-ghost use Rattle.rl_sources.specs.Held.{is_word_part as word_part, is_bounded as bounded, FirstMatchAt, IsWantedMatch, MatchesAt, MatchesFirst, MatchesFrom};
+ghost use Rattle.rl_sources.specs.Held.{is_word_part as word_part, is_bounded as bounded, FirstMatchAt, IsWantedMatch, MatchesAt, MatchesFirst, MatchesFrom, OccursAt};
 ghost use Rattle.rl_sources.specs.Searches.{Agrees, AreBorders, IsLongestBorder, IsShift};
 
 use rl_output::Matching;
@@ -124,7 +124,19 @@ fn first_by_borders(
     None
 }
 
+/// Whether `sought` is empty, or `bytes` contains its first byte.
+fn contains_first_byte(bytes: &[u8], sought: &[u8]) -> bool
+    ensures { IsFalse result → (at : ℕ) → OccursAt sought.now bytes.now at → ⊥ }
+{
+    match sought.first() {
+        Some(first) => bytes.contains(first),
+        None => true,
+    }
+}
+
 /// Returns the offset of the first match of `sought` in `bytes`, or `None`. Case counts.
+///
+/// Most values don't contain the first byte of `sought`. For these, no borders are computed.
 fn first_exactly<A: Allocator>(
     alloc: A,
     whole_words: bool,
@@ -135,7 +147,7 @@ fn first_exactly<A: Allocator>(
     ensures none { IfOk result (λ found. IfNone found
         ((at : ℕ) → MatchesFrom whole_words sought.now bytes.now at → ⊥)) }
 {
-    if sought.len() > bytes.len() {
+    if sought.len() > bytes.len() || !contains_first_byte(bytes, sought) {
         return Ok(None);
     }
     let borders = borders_of(alloc, sought)?;

@@ -503,8 +503,7 @@ fn next_strictly<'t>(
 ) -> Result<Option<SourceToken<'t>>, LexError>
     requires stands { IsCursorOver tokens.old places.now }
     requires follows { FollowsCalls options → IsTrue follows }
-    ensures literal { IfOk result
-        (ReachesShown options.entry tokens.old (calls_seen calls.old) tokens.new (calls_seen calls.new)) }
+    ensures literal { IfOk result (ReachesShown options.entry tokens.old calls.old tokens.new calls.new) }
     ensures shorter { IfOk result (λ token. IfSome token (λ l. length tokens.new.rest < length tokens.old.rest)) }
     ensures error { IfErr result (StopsUnshown options.entry tokens.old (calls_seen calls.old)) }
 {
@@ -564,8 +563,7 @@ fn next_invalid<'t>(
     requires stands { IsCursorOver tokens.old places.now }
     requires bad { options.shown ≡ Bad }
     requires lax { options.rejects_strays ≡ false }
-    ensures literal { IfOk result
-        (ReachesShown options.entry tokens.old (calls_seen calls.old) tokens.new (calls_seen calls.new)) }
+    ensures literal { IfOk result (ReachesShown options.entry tokens.old calls.old tokens.new calls.new) }
     ensures shorter { IfOk result (λ token. IfSome token (λ l. length tokens.new.rest < length tokens.old.rest)) }
     ensures error { IfErr result (StopsUnshown options.entry tokens.old (calls_seen calls.old)) }
 {
@@ -593,8 +591,7 @@ fn next_followed<'t>(
 ) -> Result<Option<SourceToken<'t>>, LexError>
     requires stands { IsCursorOver tokens.old places.now }
     requires follows { FollowsCalls options → IsTrue follows }
-    ensures literal { IfOk result
-        (ReachesShown options.entry tokens.old (calls_seen calls.old) tokens.new (calls_seen calls.new)) }
+    ensures literal { IfOk result (ReachesShown options.entry tokens.old calls.old tokens.new calls.new) }
     ensures shorter { IfOk result (λ token. IfSome token (λ l. length tokens.new.rest < length tokens.old.rest)) }
     ensures error { IfErr result (StopsUnshown options.entry tokens.old (calls_seen calls.old)) }
 {
@@ -618,8 +615,7 @@ fn next_literal<'t>(
 ) -> Result<Option<SourceToken<'t>>, LexError>
     requires stands { IsCursorOver tokens.old places.now }
     requires follows { FollowsCalls options → IsTrue follows }
-    ensures literal { IfOk result
-        (ReachesShown options.entry tokens.old (calls_seen calls.old) tokens.new (calls_seen calls.new)) }
+    ensures literal { IfOk result (ReachesShown options.entry tokens.old calls.old tokens.new calls.new) }
     ensures shorter { IfOk result (λ token. IfSome token (λ l. length tokens.new.rest < length tokens.old.rest)) }
     ensures error { IfErr result (StopsUnshown options.entry tokens.old (calls_seen calls.old)) }
 {

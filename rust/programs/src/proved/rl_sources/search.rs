@@ -90,14 +90,24 @@ fn first_by_borders(
     None
 }
 
+/// Whether `sought` is empty, or `bytes` contains its first byte.
+fn contains_first_byte(bytes: &[u8], sought: &[u8]) -> bool {
+    match sought.first() {
+        Some(first) => bytes.contains(first),
+        None => true,
+    }
+}
+
 /// Returns the offset of the first match of `sought` in `bytes`, or `None`. Case counts.
+///
+/// Most values don't contain the first byte of `sought`. For these, no borders are computed.
 fn first_exactly<A: Allocator>(
     alloc: A,
     whole_words: bool,
     bytes: &[u8],
     sought: &[u8],
 ) -> Result<Option<usize>, AllocError> {
-    if sought.len() > bytes.len() {
+    if sought.len() > bytes.len() || !contains_first_byte(bytes, sought) {
         return Ok(None);
     }
     let borders = borders_of(alloc, sought)?;
