@@ -115,12 +115,17 @@ pub struct Flaws<'t>(Left<'t>);
 
 /// The flaws that an iterator still has to return: those of a quoted literal, or the only one of another text.
 enum Left<'t> {
-    /// The text, the number of its flaws that were already returned, and the iterator over the remaining flaws.
-    All(&'t str, usize, rl_flaws::Flaws<'t>),
+    /// The text, how it is read, the number of its flaws that were already returned, and the iterator over the remaining flaws.
+    All(&'t str, LineEnds, usize, rl_flaws::Flaws<'t>),
     One(Option<rl_flaws::InvalidPiece>),
 }
 
 impl<'t> Flaws<'t> {
+    #[inline]
+    fn of(text: &'t str, ends: LineEnds) -> Flaws<'t> {
+        Flaws(Left::All(text, ends, 0, rl_flaws::Flaws::of(text, ends)))
+    }
+
     /// Returns the flaws of a text that has no value as a literal. If the text doesn't begin as a quoted literal, the only flaw is
     /// the reason why Rust rejects it.
     #[inline]
@@ -128,12 +133,12 @@ impl<'t> Flaws<'t> {
         if rl_flaws::Pieces::of(text).is_some() {
             return flaws(text);
         }
-        Flaws(Left::One(explain_missing_value(text, LineEnds::Text, true).map(
-            |flaw| {
+        Flaws(Left::One(
+            explain_missing_value(text, LineEnds::Text, true).map(|flaw| {
                 let end = flaw.hi;
                 rl_flaws::InvalidPiece { flaw, end }
-            },
-        )))
+            }),
+        ))
     }
 }
 
@@ -143,7 +148,7 @@ impl Iterator for Flaws<'_> {
     #[inline]
     fn next(&mut self) -> Option<InvalidPiece> {
         match &mut self.0 {
-            Left::All(_, returned, flaws) => {
+            Left::All(_, _, returned, flaws) => {
                 *returned += 1;
                 flaws.next()
             }
@@ -160,12 +165,12 @@ impl Clone for Flaws<'_> {
     #[inline]
     fn clone(&self) -> Self {
         Flaws(match &self.0 {
-            Left::All(text, returned, _) => {
-                let mut flaws = rl_flaws::Flaws::of(text, LineEnds::Text);
+            Left::All(text, ends, returned, _) => {
+                let mut flaws = rl_flaws::Flaws::of(text, *ends);
                 for _ in 0..*returned {
                     flaws.next();
                 }
-                Left::All(text, *returned, flaws)
+                Left::All(text, *ends, *returned, flaws)
             }
             Left::One(flaw) => Left::One(*flaw),
         })
@@ -190,7 +195,7 @@ impl fmt::Debug for Flaws<'_> {
 ///
 /// rustc reports the same flaws, with one difference: a backslash after a broken `\x` or `\u` begins the next escape here.
 ///
-/// The text is checked as it is, so a CR LF in a string is a flaw.
+/// The text is checked as it is, so a CR LF in a string is a flaw. For a literal of a file, call [`flaws_in_file`].
 ///
 /// ```
 /// use navyspindle::{flaws, FlawKind};
@@ -201,11 +206,26 @@ impl fmt::Debug for Flaws<'_> {
 /// ```
 #[inline]
 pub fn flaws(text: &str) -> Flaws<'_> {
-    Flaws(Left::All(
-        text,
-        0,
-        rl_flaws::Flaws::of(text, LineEnds::Text),
-    ))
+    Flaws::of(text, LineEnds::Text)
+}
+
+/// Iterates over all flaws of a literal in a file, in order, like [`flaws`]. A CR LF is read as LF, as rustc and
+/// [`Lit::check`](crate::Lit::check) read it. So a CR LF in a string isn't a flaw, and neither is a backslash before a CR LF.
+///
+/// Call it with the text of a literal that [`source`](fn@crate::source) or [`parse_list`](fn@crate::parse_list) returned. Ranges
+/// count the bytes of both characters.
+///
+/// ```
+/// use navyspindle::{flaws, flaws_in_file, FlawKind};
+///
+/// let text = "\"a\r\n\\q\"";
+/// let bad: Vec<_> = flaws_in_file(text).map(|bad| (bad.kind(), bad.range())).collect();
+/// assert_eq!(bad, [(FlawKind::UnknownEscape, 4..6)]);
+/// assert_eq!(flaws(text).next().unwrap().kind(), FlawKind::CarriageReturn);
+/// ```
+#[inline]
+pub fn flaws_in_file(text: &str) -> Flaws<'_> {
+    Flaws::of(text, LineEnds::File)
 }
 
 /// Returns the kind of literal that a text begins as, or `None` if a literal can't begin like the text. The text itself may be
@@ -322,6 +342,9 @@ impl fmt::Debug for Pieces<'_> {
 /// A piece without a flaw is a segment, as [`Lit::segments`](crate::Lit::segments) returns it. Its range in the value counts only
 /// the pieces without a flaw before it. The pieces with a flaw are all [`flaws`] of the text. The last of them may be after the
 /// closing quote.
+///
+/// The text is read as it is, so a CR LF in a string is a flaw. For a literal of a file, [`flaws_in_file`] returns the pieces with
+/// a flaw. If there are none, `Lit::segments` returns all pieces.
 ///
 /// ```
 /// use navyspindle::{pieces, FlawKind, Piece, SegmentValue};

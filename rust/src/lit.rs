@@ -9,7 +9,7 @@ use crate::rl_strict::strict_reading::{
     classify_start, read, read_character, read_non_digit_start, read_string, read_unsigned_number,
     Front, Reading,
 };
-use crate::rl_strict::{is_float_by_suffix, flaw_above_128_bits, LineEnds};
+use crate::rl_strict::{flaw_above_128_bits, is_float_by_suffix, LineEnds};
 use crate::rl_syntax;
 use crate::segments::{OffsetMap, Segments};
 use crate::{

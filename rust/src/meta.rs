@@ -208,8 +208,8 @@ impl Meta {
         self.error(format_args!("unknown name `{}`", self.name))
     }
 
-    /// Returns the entry's value if it is a single literal, and the span of the literal's token. Returns `None` for a flag, for a
-    /// list, and for any other value.
+    /// Returns the entry's value if it is a single literal, and the span of the literal's token, without its minus. Returns `None`
+    /// for a flag, for a list, and for any other value.
     ///
     /// ```no_run
     /// extern crate proc_macro;
@@ -226,7 +226,8 @@ impl Meta {
         Some((placed.literal, placed.span))
     }
 
-    /// Returns the entry's value as a literal of kind `L`, and the span of the literal's token.
+    /// Returns the entry's value as a literal of kind `L`, and the span of the literal's token, without its minus.
+    /// [`Meta::value_error`] creates an error at the whole value.
     ///
     /// # Errors
     ///
@@ -405,7 +406,7 @@ impl Meta {
         let placed = next_placed(&mut trees)?;
         match trees.next() {
             None => Ok(placed),
-            Some(tree) => Err(MacroError::new("expected literal", tree.span())),
+            Some(tree) => Err(MacroError::new("expected `,`", tree.span())),
         }
     }
 }
@@ -534,10 +535,14 @@ fn next_name(trees: &mut Trees) -> Result<(String, Span, Span), MacroError> {
     let (mut name, mut first) = (String::new(), None);
     loop {
         if trees.begins_with_kind(':') {
-            first = first.or(trees.peek().map(TokenTree::span));
+            let colon = trees.peek().map_or_else(Span::call_site, TokenTree::span);
+            first = first.or(Some(colon));
             trees.next();
             if !trees.begins_with_kind(':') {
-                return Err(trees.expected("`:`"));
+                // One colon after a name is a mistake for `=`, as in `name: "a"`.
+                let is_named = !name.is_empty();
+                let expected = if is_named { "`=`" } else { "identifier" };
+                return Err(MacroError::new(format_args!("expected {expected}"), colon));
             }
             trees.next();
             name.push_str("::");

@@ -21,8 +21,20 @@ impl<'t> Lit<'t> {
     /// [`Lit::Verbatim`]. A minus isn't part of the literal; see [`Lit::parse_prefix_signed`]. The time grows with the token, not
     /// with the text. If the first characters can't begin a literal, at most five characters are read.
     ///
-    /// The token is read as [`Lit::of_text`] reads it, so `0b12` is a float. [`Lit::check`] applies Rust's grammar. For the reason
-    /// why the result is `None` and its range, call [`parse_list(text).next()`](crate::parse_list).
+    /// The token is read as [`Lit::of_text`] reads it, so `0b12` is a float. [`Lit::check`] applies Rust's grammar.
+    ///
+    /// For the reason why the result is `None` and its range, call [`parse_list(text).next()`](crate::parse_list) with a text that
+    /// [`skip_trivia`] returned. The item is `Ok` only if a minus and a number begin the text, and `None` only if the text is empty.
+    ///
+    /// ```
+    /// use navyspindle::{parse_list, Lit};
+    ///
+    /// assert!(Lit::parse_prefix("'a + 1").is_none());
+    /// let error = parse_list("'a + 1").next().unwrap().unwrap_err();
+    /// assert_eq!((error.kind().message(), error.range()), ("unexpected lifetime: a string has double quotes", 0..2));
+    /// assert!(Lit::parse_prefix("-1").is_none());
+    /// assert!(parse_list("-1").next().unwrap().is_ok());
+    /// ```
     ///
     /// A parser reads literals among its own tokens like this:
     ///
@@ -91,9 +103,18 @@ impl<'t> Lit<'t> {
 /// Returns the text after the white space and the plain comments at its start. A doc comment isn't skipped, and neither is a block
 /// comment that isn't closed.
 ///
+/// So the result begins with `//` or `/*` only if one of these two begins it. Look for them before you take a `/` as an operator.
+/// [`parse_list(rest).next()`](crate::parse_list) returns the error.
+///
 /// ```
-/// assert_eq!(navyspindle::skip_trivia(" /* a */ // b\n\t1"), "1");
-/// assert_eq!(navyspindle::skip_trivia("/// doc"), "/// doc");
+/// use navyspindle::{parse_list, skip_trivia};
+///
+/// assert_eq!(skip_trivia(" /* a */ // b\n\t1"), "1");
+/// assert_eq!(skip_trivia("/// doc"), "/// doc");
+/// let rest = skip_trivia(" /* open");
+/// assert!(rest.starts_with("/*"));
+/// let error = parse_list(rest).next().unwrap().unwrap_err();
+/// assert_eq!(error.kind().message(), "unclosed block comment");
 /// ```
 #[must_use]
 pub fn skip_trivia(text: &str) -> &str {
@@ -106,8 +127,8 @@ pub fn skip_trivia(text: &str) -> &str {
 /// result is `None` at the end of the text, at white space or a comment ([`skip_trivia`] skips these two), and at a quote or a
 /// block comment that isn't closed.
 ///
-/// The tokens are those of [`source`](fn@crate::source). A loop over a text skips the tokens that aren't literals one by one, in
-/// time that grows with the text:
+/// The tokens are those of [`source`](fn@crate::source). This loop over a text skips the tokens that aren't literals one by one. It
+/// ends at the first quote or block comment that isn't closed, and its time is proportional to the length of the text:
 ///
 /// ```
 /// use navyspindle::{skip_trivia, skip_token, Lit};
@@ -126,6 +147,10 @@ pub fn skip_trivia(text: &str) -> &str {
 /// let found = strings(r##"f(é, 'a, "b", r#"c"#) // "d""##);
 /// assert_eq!(found.iter().map(Lit::text).collect::<Vec<_>>(), [r#""b""#, r##"r#"c"#"##]);
 /// ```
+///
+/// A loop that continues after the unclosed token, such as on the next line, may take time that grows with the square of the length:
+/// each raw string or block comment that isn't closed costs a search of the whole rest. [`Source::recover`](crate::Source::recover)
+/// continues without these searches, but returns only literals and errors.
 #[must_use]
 pub fn skip_token(text: &str) -> Option<&str> {
     if skip_trivia(text).len() < text.len() {

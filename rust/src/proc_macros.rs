@@ -19,9 +19,10 @@ fn parsed(text: String, span: Span) -> Result<Lit<'static>, MacroError> {
 /// Consumes and returns the next literal of a macro's input, with its span.
 ///
 /// The literal may be a literal token, `true` or `false`, a minus and a number, or a literal that a `macro_rules!` macro passes on
-/// as `$e:literal`, in a group without delimiters. The span is that of the literal's own token, inside a group too. After a minus
-/// it is the span of the number. For an error at the minus too, take the span of `tokens.peek()` before the call, and pass both
-/// spans to [`MacroError::between`].
+/// as `$e:literal`, in a group without delimiters. The span is that of the literal's own token, inside a group too.
+///
+/// After a minus, the span is that of the number only, because the stable compiler can't join two spans. For an error at the minus
+/// too, take the span of `tokens.peek()` before the call, and pass both spans to [`MacroError::between`].
 ///
 /// # Errors
 ///
@@ -55,7 +56,7 @@ pub fn next_literal(
 }
 
 /// Consumes and returns the next literal of a macro's input, which must be of one kind, with its span. It reads like
-/// [`next_literal`].
+/// [`next_literal`]. After a minus, the span is that of the number only.
 ///
 /// # Errors
 ///
@@ -81,7 +82,8 @@ pub fn next_literal_of<L: LitOfKind>(
 }
 
 /// Returns the literal that is the whole input of a macro, which must be of one kind, with its span. It reads like
-/// [`next_literal_of`]. Without the span, `LitStr::try_from(input)` returns the same literal.
+/// [`next_literal_of`]. After a minus, the span is that of the number only. Without the span, `LitStr::try_from(input)` returns the
+/// same literal.
 ///
 /// # Errors
 ///

@@ -1,7 +1,9 @@
 //! Rewriting of the literals of whole sources in a style.
 
 use crate::list_error::ListError;
-use crate::rl_style::{all_rules, is_changed_by_style, is_safe_to_restyle, Restylable, Restylables};
+use crate::rl_style::{
+    all_rules, is_changed_by_style, is_safe_to_restyle, Restylable, Restylables,
+};
 use crate::style::{rewrite_in_context, Style};
 use alloc::borrow::Cow;
 use alloc::string::String;

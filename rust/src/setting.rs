@@ -94,10 +94,7 @@ impl fmt::Display for SettingErrorKind {
             SettingErrorKind::Literal(key, error) => write!(f, "{key}: {}", error.kind()),
             SettingErrorKind::Suffix(key) => write!(f, "{key}: unexpected suffix"),
             SettingErrorKind::Kind(key) => key.fmt(f),
-            SettingErrorKind::Value(key, error) => {
-                write!(f, "{key}: ")?;
-                error.write_reason(f)
-            }
+            SettingErrorKind::Value(key, error) => write!(f, "{key}: {}", error.message()),
             SettingErrorKind::Missing(key) => write!(f, "missing {key}"),
         }
     }

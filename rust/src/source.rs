@@ -43,9 +43,15 @@ pub struct Source<'t> {
 /// to know whether Rust accepts a literal. A literal without a meaning, such as `'\q'`, is [`Lit::Verbatim`]. So is a quote with no
 /// or several characters: `''`, `'ab'`, `b'hello'`, and `'1a`, each up to where rustc's lexer ends it.
 ///
-/// Comments are skipped. A minus isn't part of a literal here; in [`parse_list`](fn@crate::parse_list) it is. `true` and `false`
+/// Comments are skipped, and so are a byte order mark at the start of the text, and a first line that begins with `#!`, such as
+/// `#!/bin/sh`. A text that begins with `#![` begins with an attribute, which isn't skipped. Ranges count the skipped bytes.
+///
+/// A minus isn't part of a literal here; in [`parse_list`](fn@crate::parse_list) it is. `true` and `false`
 /// are literals. A tuple's field is read as a number too: `t.0.1` has the float `0.1`. So look for a dot before a number that you
 /// change.
+///
+/// In strings, CR LF is a line end. The value has LF, and [`Lit::check`] accepts it. [`flaws_in_file`](crate::flaws_in_file)
+/// returns all errors of a literal.
 ///
 /// [`Source::recover`] continues after errors. Two texts are read differently by rustc. In `'\n\''` rustc reads one bad literal,
 /// and `source` reads the literal `'\n\'` and an open quote. A CR in the white space after an escaped line end is accepted by

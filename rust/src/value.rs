@@ -267,22 +267,34 @@ impl ValueError {
     }
 
     /// Returns the error's message without the byte offset. Use it for a message that has a position of its own, such as a macro's.
+    /// The message doesn't borrow from the error.
     ///
     /// ```
-    /// let error = navyspindle::LitInt::parse("10k").unwrap().value::<u8>().unwrap_err();
-    /// assert_eq!(error.message().to_string(), "suffix that isn't u8");
+    /// let message = navyspindle::LitInt::parse("10k").unwrap().value::<u8>().unwrap_err().message();
+    /// assert_eq!(message.to_string(), "suffix that isn't u8");
     /// ```
     #[inline]
     #[must_use]
-    pub fn message(&self) -> impl fmt::Display + '_ {
-        Reason(self)
+    pub fn message(&self) -> impl fmt::Display {
+        Reason(self.kind, self.wanted)
     }
+}
 
-    /// Writes the error's message without the byte offset.
-    #[inline]
-    pub(crate) fn write_reason(&self, f: &mut fmt::Formatter<'_>) -> fmt::Result {
-        let wanted = self.wanted;
-        match self.kind {
+impl fmt::Display for ValueError {
+    fn fmt(&self, f: &mut fmt::Formatter<'_>) -> fmt::Result {
+        write!(f, "{} at byte {}", self.message(), self.range.start)
+    }
+}
+
+impl core::error::Error for ValueError {}
+
+/// The message without the byte offset, for an error of this kind and the requested type.
+struct Reason(ValueErrorKind, NumberType);
+
+impl fmt::Display for Reason {
+    fn fmt(&self, f: &mut fmt::Formatter<'_>) -> fmt::Result {
+        let wanted = self.1;
+        match self.0 {
             ValueErrorKind::Suffix => write!(f, "suffix that isn't {wanted}"),
             ValueErrorKind::Form if wanted.is_float() => {
                 write!(f, "integer where {wanted} is wanted")
@@ -291,24 +303,6 @@ impl ValueError {
             ValueErrorKind::Minus => write!(f, "minus before a number of {wanted}"),
             ValueErrorKind::OutOfRange => write!(f, "number out of range for {wanted}"),
         }
-    }
-}
-
-impl fmt::Display for ValueError {
-    fn fmt(&self, f: &mut fmt::Formatter<'_>) -> fmt::Result {
-        self.write_reason(f)?;
-        write!(f, " at byte {}", self.range.start)
-    }
-}
-
-impl core::error::Error for ValueError {}
-
-/// Prints an error's message without the byte offset.
-struct Reason<'e>(&'e ValueError);
-
-impl fmt::Display for Reason<'_> {
-    fn fmt(&self, f: &mut fmt::Formatter<'_>) -> fmt::Result {
-        self.0.write_reason(f)
     }
 }
 

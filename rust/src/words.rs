@@ -132,7 +132,7 @@ impl LitVerbatim<'_> {
     /// Iterates over all flaws of the text, in order. See [`flaws`](crate::flaws()).
     ///
     /// The first flaw is the reason that [`explain`](LitVerbatim::explain) returns, if it returns one. A text that doesn't begin as
-    /// a quoted literal has no other flaw.
+    /// a quoted literal has no other flaw. For a literal of a file, call [`flaws_in_file`](crate::flaws_in_file) with its text.
     ///
     /// ```
     /// use navyspindle::{FlawKind, Lit};

@@ -2,9 +2,10 @@
 //! piece that the page shows.
 
 use navyspindle::{
-    flaws, parse_list, parse_settings, Key, Lit, LitInt, Number, ParseError, ParseErrorKind,
-    SettingError, Settings, ValueError,
+    flaws, parse_config, parse_list, parse_settings, source, Key, Lit, LitInt, Number, ParseError,
+    ParseErrorKind, SettingError, Settings, ValueError,
 };
+use std::collections::BTreeSet;
 use std::ops::Range;
 
 const PAGE: &str = concat!(env!("CARGO_MANIFEST_DIR"), "/../docs/ERRORS.md");
@@ -222,4 +223,64 @@ fn each_example_has_the_error_of_its_entry() {
             "{heading}: {text}"
         );
     }
+}
+
+/// Returns the texts in code font of a cell.
+fn codes(cell: &str) -> Vec<&str> {
+    let (mut found, mut rest) = (Vec::new(), cell);
+    while let Some(start) = rest.find('`') {
+        let mark = if rest[start..].starts_with("``") {
+            "``"
+        } else {
+            "`"
+        };
+        let (code, after) = rest[start + mark.len()..].split_once(mark).unwrap();
+        found.push(code.trim());
+        rest = after;
+    }
+    found
+}
+
+/// Each text of a row has the row's hint, and the text to write in its place has no error. The rows have all hints of `help.rs`.
+#[test]
+fn each_hint_has_a_row() {
+    let page = std::fs::read_to_string(PAGE).expect("the page");
+    let section = page
+        .split("\n## Settings: hints\n")
+        .nth(1)
+        .expect("the section");
+    let section = section.split("\n## ").next().unwrap();
+    let mut hints = BTreeSet::new();
+    for row in section.lines().filter(|line| line.starts_with("| `")) {
+        let cells: Vec<_> = row.trim_matches('|').split(" | ").collect();
+        let [hint, texts, written] = cells[..] else {
+            panic!("{row}")
+        };
+        let [hint] = codes(hint)[..] else {
+            panic!("{row}")
+        };
+        let (texts, call) = texts.split_once(" with ").unwrap_or((texts, ""));
+        for text in codes(texts) {
+            let of_settings = parse_settings(text).err().and_then(|error| error.help());
+            let of_config = parse_config(text).err().and_then(|error| error.help());
+            match call {
+                "`parse_settings`" => assert_eq!(of_settings, Some(hint), "{text}"),
+                "`parse_config`" => assert_eq!(of_config, Some(hint), "{text}"),
+                _ => assert_eq!((of_settings, of_config), (Some(hint), Some(hint)), "{text}"),
+            }
+        }
+        for text in codes(written) {
+            assert!(parse_config(text).is_ok(), "{text}");
+        }
+        assert!(hints.insert(hint.to_string()), "{row}");
+    }
+    let help = std::fs::read_to_string(concat!(env!("CARGO_MANIFEST_DIR"), "/src/help.rs"));
+    let strings = |text: &str| -> BTreeSet<String> {
+        let strings = source(text).filter_map(|item| match item.unwrap().1 {
+            Lit::Str(string) => Some(string.value().into_owned()),
+            _ => None,
+        });
+        strings.filter(|it| it.contains(' ')).collect()
+    };
+    assert_eq!(hints, strings(&help.unwrap()));
 }

@@ -6,7 +6,9 @@ use navyspindle::FlawKind::{
     NoHexDigit, NoUnicode, NotAscii, Nul, Surrogate, TooManyDigits, TwoCharacters,
     UnderscoreSuffix, UnicodeEscapeOutOfRange, UnknownEscape,
 };
-use navyspindle::{flaws, guess_kind, is_token, pieces, InvalidPiece, Kind, Lit, Piece};
+use navyspindle::{
+    flaws, flaws_in_file, guess_kind, is_token, pieces, InvalidPiece, Kind, Lit, Piece,
+};
 
 const TABLE: &str = include_str!("every_flaw.txt");
 
@@ -86,6 +88,62 @@ fn rustc_names_the_same_flaws() {
         errors += ours.len();
     }
     assert_eq!((literals, errors), (452, 1297));
+}
+
+/// rustc reads each CR LF of a file as LF. So the flaws of a literal with CR LF are those of the literal with LF.
+#[test]
+fn in_a_file_a_line_end_may_have_a_cr() {
+    let (mut literals, mut line_ends) = (0, 0);
+    for line in TABLE.lines() {
+        let text = decoded(line.split('\t').next().unwrap());
+        assert!(flaws_in_file(&text).eq(flaws(&text)) || text.contains("\r\n"));
+        if text.contains('\r') {
+            continue;
+        }
+        let moved = |at: usize| at + text[..at].matches('\n').count();
+        let expected =
+            flaws(&text).map(|bad| (bad.kind(), moved(bad.offset())..moved(bad.range().end)));
+        let in_file = text.replace('\n', "\r\n");
+        let found = flaws_in_file(&in_file).map(|bad| (bad.kind(), bad.range()));
+        assert!(found.eq(expected), "{in_file:?}");
+        literals += 1;
+        line_ends += in_file.len() - text.len();
+    }
+    assert_eq!((literals, line_ends), (274, 77));
+}
+
+#[test]
+fn a_cr_in_a_file() {
+    let of = |text| {
+        flaws_in_file(text)
+            .map(|bad| (bad.kind(), bad.range(), bad.error().offset()))
+            .collect::<Vec<_>>()
+    };
+    for text in [
+        "\"a\r\nb\"",
+        "\"a\\\r\n  b\"",
+        "b\"\r\n\r\n\"",
+        "r#\"\r\n\"#",
+        "c\"\r\n\"",
+        "1",
+    ] {
+        assert_eq!(of(text), [], "{text:?}");
+        assert_eq!(Lit::of_text(text).check(), Ok(()), "{text:?}");
+    }
+    assert_eq!(of("\"a\r\n\\q\""), [(UnknownEscape, 4..6, 5)]);
+    assert_eq!(
+        of("\"a\rb\r\n\\q\r\r\n\""),
+        [
+            (CarriageReturn, 2..3, 2),
+            (UnknownEscape, 6..8, 7),
+            (CarriageReturn, 8..9, 8)
+        ]
+    );
+    assert_eq!(of("'\r\n'"), [(MustEscape, 1..3, 1)]);
+    assert_eq!(of("0b12"), [(FlawKind::InvalidDigit, 0..4, 3)]);
+    // The same text as a text of its own.
+    let kinds: Vec<_> = flaws("\"a\r\n\\q\"").map(|bad| bad.kind()).collect();
+    assert_eq!(kinds, [CarriageReturn, UnknownEscape]);
 }
 
 /// The bad pieces of a literal are its flaws. In a string, the pieces cover the whole text between the quotes.

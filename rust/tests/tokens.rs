@@ -1,7 +1,7 @@
 //! Checks that a loop over the tokens of a text finds the literals that `source` returns.
 #![cfg(feature = "sources")]
 
-use navyspindle::{skip_token, skip_trivia, source, Lit};
+use navyspindle::{parse_list, skip_token, skip_trivia, source, Lit};
 use std::fs;
 use std::ops::Range;
 use std::time::{Duration, Instant};
@@ -156,4 +156,52 @@ fn a_literal_where_source_finds_one() {
         let begins = matches!(first, Some(Ok((ref place, _))) if place.start == 0);
         assert_eq!(Lit::parse_prefix(text).is_some(), begins, "{text}");
     }
+}
+
+/// Calls `check` with each text of at most `length` of these parts.
+fn each_text(length: usize, text: &mut String, check: &mut impl FnMut(&str)) {
+    const PARTS: [&str; 14] = [
+        "-", "1", ".", " ", "\n", "/*", "*/", "//", "!", "'", "\"", "r#", "x", "(",
+    ];
+    check(text);
+    if length > 0 {
+        for part in PARTS {
+            let before = text.len();
+            text.push_str(part);
+            each_text(length - 1, text, check);
+            text.truncate(before);
+        }
+    }
+}
+
+/// Where no literal begins a text, `parse_list` returns the reason, except for a minus before a number. After `skip_trivia`, a text
+/// begins with `//` or `/*` only if `parse_list` returns an error there.
+#[test]
+fn a_reason_where_no_literal_begins() {
+    let (mut reasons, mut comments) = (0, 0);
+    each_text(5, &mut String::new(), &mut |text| {
+        let text = skip_trivia(text);
+        let first = parse_list(text).next();
+        if Lit::parse_prefix(text).is_none() {
+            match first {
+                None => assert_eq!(text, ""),
+                Some(Ok((ref range, ref literal))) => {
+                    assert!(text.starts_with('-') && range.start == 0, "{text:?}");
+                    assert!(literal.text().starts_with('-'), "{text:?}");
+                }
+                Some(Err(ref error)) => {
+                    assert!(text.starts_with('-') || error.offset() == 0, "{text:?}");
+                    reasons += 1;
+                }
+            }
+        }
+        if text.starts_with("//") || text.starts_with("/*") {
+            assert_eq!(first.unwrap().unwrap_err().offset(), 0, "{text:?}");
+            comments += 1;
+        }
+    });
+    assert!(
+        reasons > 100_000 && comments > 10_000,
+        "{reasons}, {comments}"
+    );
 }

@@ -1,9 +1,9 @@
 //! Tests of the traits that all types of literals, errors or iterators implement.
 
 use navyspindle::{
-    flaws, parse_list, pieces, rewrite_source, source, Case, FlawKind, Key, Kind, Lit, LitFloat,
-    LitInt, LitStr, ParseErrorKind, SettingErrorKind, Settings, Style, SyntaxErrorKind, TypeError,
-    ValueErrorKind,
+    flaws, flaws_in_file, parse_list, pieces, rewrite_source, source, Case, FlawKind, Key, Kind,
+    Lit, LitFloat, LitInt, LitStr, ParseErrorKind, SettingErrorKind, Settings, Style,
+    SyntaxErrorKind, TypeError, ValueErrorKind,
 };
 use std::collections::{BTreeSet, HashSet};
 use std::error::Error;
@@ -52,6 +52,7 @@ fn iterators_are_cloned() {
         };
         clones_go_on(|| literal.flaws(), 1);
     }
+    clones_go_on(|| flaws_in_file("\"\r\n\\q\r\n\\y\r\n\\z\""), 3);
     clones_go_on(|| pieces(r#""a\q\u{e9}\yb""#).unwrap(), 5);
     let style = Style::new().hex_digits(Case::Lower).fewest_hashes(true);
     let text = r####"f(0xAB, t.0xF, r##"b"##, 0xab, m!(0xCD)); "c"####;

@@ -124,7 +124,11 @@ fn errors_of_entries() {
         error!(a::),
         ("unexpected end of input, expected identifier", ":", ":")
     );
-    assert_eq!(error!(a:b), ("expected `:`", "b", "b"));
+    assert_eq!(error!(a:b), ("expected `=`", ":", ":"));
+    assert_eq!(error!(a: "b"), ("expected `=`", ":", ":"));
+    assert_eq!(error!(a::b: 1), ("expected `=`", ":", ":"));
+    assert_eq!(error!(a:), ("expected `=`", ":", ":"));
+    assert_eq!(error!(:a), ("expected identifier", ":", ":"));
     assert_eq!(
         error!(a =),
         ("unexpected end of input, expected a value", "=", "=")
@@ -172,10 +176,8 @@ fn errors_by_name() {
         ("unexpected suffix `x`", "\"a\"x", "\"a\"x")
     );
     assert_eq!(error!(name = f()), ("expected literal", "f", "f"));
-    assert_eq!(
-        error!(name = "a" "b"),
-        ("expected literal", "\"b\"", "\"b\"")
-    );
+    assert_eq!(error!(name = "a" "b"), ("expected `,`", "\"b\"", "\"b\""));
+    assert_eq!(error!(name = "a", size = 1 + 2), ("expected `,`", "+", "+"));
     assert_eq!(
         error!(name),
         ("expected a value: `name = ..`", "name", "name")
