@@ -1,13 +1,14 @@
 # Makes one document of SARIF 2.1.0 from the objects that `rl_scan --json` prints with `--bad`, `--invisible` or `--check`:
 #
-#     rl_scan --json --bad src | jq -s -f tools/sarif.jq
+#     rl_scan --generate sarif-jq > sarif.jq
+#     rl_scan --json --bad src | jq -s -f sarif.jq
 #
 # Columns are counted in characters. The object of `--stats` is left out. For standard input the path is `-`.
 #
 # Two arguments add what the objects don't contain. `--arg version "$(rl_scan -V)"` is the program's version. `--arg status N` is its exit
 # status; without it the document has no invocation:
 #
-#     rl_scan --json --bad src > found; jq -s --arg status $? --arg version "$(rl_scan -V)" -f tools/sarif.jq found
+#     rl_scan --json --bad src > found; jq -s --arg status $? --arg version "$(rl_scan -V)" -f sarif.jq found
 def uri:
   sub("^(\\./+)+"; "") | split("/") | map(@uri) | join("/") | if startswith("/") then "file://" + . else . end;
 def rule: if has("new") then "style" else .id end;

@@ -6,6 +6,8 @@ use Rattle.std.specs.Str.{bytes_eq}
 use Rattle.std.specs.Str.Parse.{IsNumeral, digits_value, without_leading_plus}
 use Rattle.rl_restyle.specs.declared.edit.Macros.{Macros as AnyMacros}
 use Rattle.rl_restyle.specs.declared.edit.Macros.TheVariants as macros
+use Rattle.rl_options.specs.declared.command.GeneratedText.{GeneratedText as AnyGenerated}
+use Rattle.rl_options.specs.declared.command.GeneratedText.TheVariants as generated
 use Rattle.rl_output.specs.declared.form.Form.{Form}
 use Rattle.rl_output.specs.declared.form.Form.TheVariants as written
 use Rattle.rl_options.specs.declared.flags.Format.{Format as AnyFormat}
@@ -63,6 +65,15 @@ formatted has_colors written.Colored format.Text = written.Colored
 abbrev pub macros_word : AnyMacros → List ℕ
 macros_word macros.Skip = codes "skip"
 macros_word macros.All = codes "all"
+
+-- The value of `--generate`: the name of a text for another program.
+abbrev pub generated_word : AnyGenerated → List ℕ
+generated_word generated.Man = codes "man"
+generated_word generated.Bash = codes "bash"
+generated_word generated.Zsh = codes "zsh"
+generated_word generated.Fish = codes "fish"
+generated_word generated.SarifJq = codes "sarif-jq"
+generated_word generated.ProblemMatcher = codes "problem-matcher"
 
 -- The word is a number in base ten that fits 64 bits, perhaps after a plus.
 pub record IsCountWord (word : List ℕ) (count : ℕ) : Type 0 where

@@ -5,9 +5,11 @@ pub mod Hints
 pub mod Flags
 pub mod Wishes
 pub mod Modes
+pub mod Allowed
 pub mod Clashes
 pub mod Words
 pub mod Listed
 pub mod Rules
 pub mod RulesPage
+pub mod Generated
 pub mod Settings

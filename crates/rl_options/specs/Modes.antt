@@ -41,11 +41,13 @@ rewriting_mode (Some restyling.Fix) printing = mode.Fix
 rewriting_mode (Some restyling.Check) printing = mode.Check
 rewriting_mode (Some restyling.Diff) printing = mode.Diff
 
--- The mode of a command that prints the help, the version or the rules of a style, or else the mode `other`.
+-- The mode of a command that prints the help, the version, the rules of a style, or a text for another program, or else the mode
+-- `other`.
 abbrev pub acting_mode : Action → Mode → Mode
 acting_mode action.Help other = mode.Help
 acting_mode action.Version other = mode.Help
 acting_mode action.Rules other = mode.Help
+acting_mode (action.Generate which) other = mode.Help
 acting_mode action.Scan other = other
 acting_mode action.Files other = other
 
@@ -72,6 +74,12 @@ abbrev pub is_bad_mode : Mode → Bool
 is_bad_mode mode.Bad = true
 is_bad_mode _ = false
 
+-- The mode is `--bad` or `--invisible`.
+abbrev pub is_bad_or_invisible : Mode → Bool
+is_bad_or_invisible mode.Bad = true
+is_bad_or_invisible mode.Invisible = true
+is_bad_or_invisible _ = false
+
 -- The mode is `--find`.
 abbrev pub is_find_mode : Mode → Bool
 is_find_mode mode.Find = true
@@ -94,14 +102,15 @@ is_in m modes.Listing = lists_findings m
 is_in m modes.Printing = not (rewrites m)
 is_in m modes.Rewriting = rewrites m
 is_in m modes.BadOrRewriting = rewrites m || is_bad_mode m
+is_in m modes.BadOrInvisible = is_bad_or_invisible m
 
--- In the mode, the help or the version is printed.
+-- In the mode, the help, the version, the rules of a style, or a text for another program is printed.
 abbrev pub is_help_mode : Mode → Bool
 is_help_mode mode.Help = true
 is_help_mode _ = false
 
--- An option of these modes may be used in the mode. Beside `--help`, `--version` and `--rules`, any option may
--- be used.
+-- An option of these modes may be used in the mode. Beside `--help`, `--version`, `--rules` and `--generate`, any option may be
+-- used.
 abbrev pub goes_with : Modes → Mode → Bool
 goes_with among m = is_help_mode m || is_in m among
 
@@ -175,6 +184,7 @@ has_operand takes.After w = is_some w.after
 has_operand takes.Style w = is_some w.style
 has_operand takes.Rule w = w.sets_rules
 has_operand takes.Macros w = is_some w.macros
+has_operand takes.Allowed w = w.allows
 has_operand _ w = false
 
 -- The command has the option. For an option that has an effect in all modes, the result is false.
@@ -194,7 +204,7 @@ option_without_effect w =
 
 -- The words for a mode in a message.
 abbrev pub mode_words : Mode → List ℕ
-mode_words mode.Help = codes "with --help, --version or --rules"
+mode_words mode.Help = codes "with --help, --version, --rules or --generate"
 mode_words mode.Unselected = codes "without a mode"
 mode_words mode.Only = codes "with --only"
 mode_words mode.Find = codes "with --find"
@@ -215,3 +225,4 @@ modes_hint modes.Listing = codes "use a mode other than --fix and --diff"
 modes_hint modes.Printing = codes "use only one of them"
 modes_hint modes.Rewriting = codes "use --fix, --check or --diff"
 modes_hint modes.BadOrRewriting = codes "use --bad, --fix, --check or --diff"
+modes_hint modes.BadOrInvisible = codes "use --bad or --invisible"

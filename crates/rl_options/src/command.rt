@@ -6,6 +6,23 @@ use rl_output::{Form, Matching, Shown, Spelling};
 pub use rl_restyle::Macros;
 use rl_style::Style;
 
+/// A text that `--generate` prints, for programs that use `rl_scan`.
+#[derive(Clone, Copy)]
+pub enum GeneratedText {
+    /// The manual page.
+    Man,
+    /// The completions for bash.
+    Bash,
+    /// The completions for zsh.
+    Zsh,
+    /// The completions for fish.
+    Fish,
+    /// The program for `jq` that makes SARIF of JSON objects.
+    SarifJq,
+    /// The problem matchers for GitHub.
+    ProblemMatcher,
+}
+
 /// The action of a call of `rl_scan`.
 #[derive(Clone, Copy)]
 pub enum Action {
@@ -17,6 +34,8 @@ pub enum Action {
     Version,
     /// Print the rules of a style.
     Rules,
+    /// Print a text for another program.
+    Generate(GeneratedText),
     /// Print the files that would be read.
     Files,
 }
@@ -109,6 +128,10 @@ pub struct Command<'a> {
     pub rules: Style,
     /// Whether literals in macro code are treated as all others, if `--macros` is passed.
     pub macros: Option<Macros>,
+    /// Whether `--allow` is passed.
+    pub allows: bool,
+    /// The values of `--allow`: identifiers of findings that aren't shown, and numbers of characters such as `U+200B`.
+    pub allowed: &'a [&'a str],
 }
 
 /// The properties of standard input and output that a call of `rl_scan` depends on.

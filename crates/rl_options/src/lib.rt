@@ -2,11 +2,13 @@
 //! paths or contain the rules of a style.
 #![tactic(auto)]
 
+mod allowed;
 mod argument_error;
 mod arguments;
 mod command;
 mod conflicts;
 mod flags;
+mod generated;
 mod help;
 mod hints;
 mod modes;
@@ -19,8 +21,11 @@ mod visible;
 
 pub use crate::argument_error::ArgumentError;
 pub use crate::arguments::{ParsedArguments, parse_arguments};
-pub use crate::command::{Action, Command, Console, Macros, Output, PlaceForm, Restyling};
+pub use crate::command::{
+    Action, Command, Console, GeneratedText, Macros, Output, PlaceForm, Restyling,
+};
 pub use crate::conflicts::{asks_context, lists_files};
+pub use crate::generated::generated_text;
 pub use crate::help::{HELP, VERSION, rules_page};
 pub use crate::hints::path_hint;
 pub use crate::path_list::{Unread, push_listed_paths};

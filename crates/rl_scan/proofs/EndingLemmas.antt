@@ -12,7 +12,8 @@ use Rattle.rl_files.proofs.WalkLemmas.{some_visits}
 use Rattle.rl_program.specs.declared.exit.Ending.{Ending}
 use Rattle.rl_program.specs.declared.exit.Ending.TheVariants.{Done, FoundBad, Reported, Closed, Usage, Failed}
 use Rattle.rl_options.specs.declared.command.Action.{Action}
-use Rattle.rl_options.specs.declared.command.Action.TheVariants.{Scan, Help, Version, Rules, Files}
+use Rattle.rl_options.specs.declared.command.GeneratedText.{GeneratedText}
+use Rattle.rl_options.specs.declared.command.Action.TheVariants.{Scan, Help, Version, Rules, Generate, Files}
 use Rattle.rl_options.specs.declared.command.Command.{Command}
 use Rattle.rl_options.specs.declared.command.Console.{Console}
 use Rattle.rl_options.specs.declared.argument_error.ArgumentError.{ArgumentError}
@@ -23,6 +24,7 @@ use Rattle.rl_restyle.specs.Styles.{SaysStyle, default_settings}
 use Rattle.rl_options.specs.declared.rules.RulesError.{RulesError}
 use Rattle.rl_options.specs.Rules.{IsNoStyle}
 use Rattle.rl_options.specs.RulesPage.{rules_page}
+use Rattle.rl_options.specs.Generated.{generated_text}
 use Rattle.rl_options.specs.Settings.{settings_text}
 use Rattle.rl_options.specs.declared.rules.RulesError.TheVariants as rules
 use Rattle.rl_scan.specs.Visits.{nothing}
@@ -57,6 +59,13 @@ pub ends_rules : {B : Type 0} (wishes : Wishes) (lacks_input : Bool) (holds : Op
 ends_rules wishes lacks_input holds o0 o1 e h text ending is page ends =
     rw is (subst (λ (t : List ℕ). EndsText t o0 o1 ending) page ends, keeps_same e, refl)
 
+pub ends_generated : {B : Type 0} (wishes : Wishes) (lacks_input : Bool) (holds : Option World) (o0 o1 e : Option (List ℕ))
+    (h : Option (List Replacement)) (which : GeneratedText) (text : List ℕ) (ending : Ending (CallError B))
+    → wishes.action ≡ Generate which → text ≡ generated_text which → EndsText text o0 o1 ending
+    → EndsAsked wishes lacks_input holds (written_on o0 o1 e e h h) ending
+ends_generated wishes lacks_input holds o0 o1 e h which text ending is said ends =
+    rw is (subst (λ (t : List ℕ). EndsText t o0 o1 ending) said ends, keeps_same e, refl)
+
 -- Before a run, a beginning of its output is written: nothing.
 pub front_none : (command : Command) (holds : Option World) (waypoints : List Waypoint) (o e : Option (List ℕ))
     (h : Option (List Replacement)) → IfSome holds (λ w. WritesFront command w waypoints (written_on o o e e h h))
@@ -66,15 +75,16 @@ front_none command (Some w) waypoints o e h =
     inl ([], more.0, nothing, more.1, refl, ((0, Appends-nil o), (0, Appends-nil e), hands_none h))
 
 -- The command with its separately parsed lists is the command of the arguments.
-pub command_for : (command selecting : Command) (style : Style) (finds extensions excludes lists settings paths : List (List ℕ))
-    → IsSelecting command style finds extensions excludes lists selecting
-    → IsCommandFor (wishes_of command finds extensions excludes lists settings paths) style selecting
-command_for command selecting style finds extensions excludes lists settings paths is = record {
-  asked = is.same finds extensions excludes lists settings paths;
+pub command_for : (command selecting : Command) (style : Style) (finds extensions excludes lists settings allowed paths : List (List ℕ))
+    → IsSelecting command style finds extensions excludes lists allowed selecting
+    → IsCommandFor (wishes_of command finds extensions excludes lists settings allowed paths) style selecting
+command_for command selecting style finds extensions excludes lists settings allowed paths is = record {
+  asked = is.same finds extensions excludes lists settings allowed paths;
   finds_are = is.finds_are;
   extensions_are = is.extensions_are;
   excludes_are = is.excludes_are;
   lists_are = is.lists_are;
+  allowed_are = is.allowed_are;
   rules_are = is.rules_are;
 }
 
@@ -96,16 +106,16 @@ ends_listed [] command lacks_input holds paths streams ending some ends = absurd
 ends_listed (file ∷ files) command lacks_input holds paths streams ending some ends = ends
 
 pub scan_ends : {B : Type 0} (command selecting : Command) (style : Style)
-    (finds extensions excludes lists settings paths : List (List ℕ)) (lacks_input is_here : Bool) (holds : Option World)
+    (finds extensions excludes lists settings allowed paths : List (List ℕ)) (lacks_input is_here : Bool) (holds : Option World)
     (streams : Streams) (ending : Ending (CallError B))
-    → IsSelecting command style finds extensions excludes lists selecting
-    → is_here ≡ reads_current_directory lacks_input (wishes_of command finds extensions excludes lists settings paths)
+    → IsSelecting command style finds extensions excludes lists allowed selecting
+    → is_here ≡ reads_current_directory lacks_input (wishes_of command finds extensions excludes lists settings allowed paths)
     → EndsFrom (borrowed_texts selecting.files_from.now) selecting is_here holds paths streams ending
-    → EndsScan (wishes_of command finds extensions excludes lists settings paths) style lacks_input holds streams ending
-scan_ends command selecting style finds extensions excludes lists settings paths lacks_input is_here holds streams ending is here
+    → EndsScan (wishes_of command finds extensions excludes lists settings allowed paths) style lacks_input holds streams ending
+scan_ends command selecting style finds extensions excludes lists settings allowed paths lacks_input is_here holds streams ending is here
     ends = (
       selecting,
-      command_for command selecting style finds extensions excludes lists settings paths is,
+      command_for command selecting style finds extensions excludes lists settings allowed paths is,
       subst (λ (b : Bool). EndsFrom lists selecting b holds paths streams ending) here
           (subst (λ (files : List (List ℕ)). EndsFrom files selecting is_here holds paths streams ending) is.lists_are
           ends),
@@ -212,6 +222,7 @@ no_arguments B Files wishes lacks_input holds streams ends =
 no_arguments B Help wishes lacks_input holds streams (text, ((never, begun), kept, same)) = never
 no_arguments B Version wishes lacks_input holds streams (text, ((never, begun), kept, same)) = never
 no_arguments B Rules wishes lacks_input holds streams ((never, begun), kept, same) = never
+no_arguments B (Generate which) wishes lacks_input holds streams ((never, begun), kept, same) = never
 
 no_word : {B : Type 0} (error : ArgumentError B) (action : Action) (wishes : Wishes) (lacks_input : Bool) (holds : Option World)
     (streams : Streams) → EndsWish {B = B} action wishes lacks_input holds streams (Failed (Word error)) → ⊥
@@ -222,6 +233,7 @@ no_word error Files wishes lacks_input holds streams ends =
 no_word error Help wishes lacks_input holds streams (text, ((never, begun), kept, same)) = never
 no_word error Version wishes lacks_input holds streams (text, ((never, begun), kept, same)) = never
 no_word error Rules wishes lacks_input holds streams ((never, begun), kept, same) = never
+no_word error (Generate which) wishes lacks_input holds streams ((never, begun), kept, same) = never
 
 pub call_asked : {A B : Type 0} (args : List (String A)) (console : Console) (holds : Option World) (streams : Streams)
     (ending : Ending (CallError B)) (wishes : Wishes) → AskForWishes console.has_colors args wishes

@@ -13,7 +13,7 @@ use Rattle.rl_program.specs.Streams.{AppendsBeginning}
 use Rattle.rl_program.specs.declared.exit.Ending.{Ending}
 use Rattle.rl_program.specs.declared.exit.Ending.TheVariants.{Done, FoundBad, Reported, Closed, Usage, Failed}
 use Rattle.rl_options.specs.declared.command.Action.{Action}
-use Rattle.rl_options.specs.declared.command.Action.TheVariants.{Scan, Help, Version, Rules, Files}
+use Rattle.rl_options.specs.declared.command.Action.TheVariants.{Scan, Help, Version, Rules, Generate, Files}
 use Rattle.rl_options.specs.declared.command.Command.{Command}
 use Rattle.rl_options.specs.declared.command.Console.{Console}
 use Rattle.rl_options.specs.declared.command.Restyling.{Restyling}
@@ -28,6 +28,7 @@ use Rattle.rl_options.specs.declared.rules.RulesError.{RulesError}
 use Rattle.rl_options.specs.declared.rules.RulesError.TheVariants as rules
 use Rattle.rl_options.specs.Rules.{HasNoRules, HasRules, IsNoStyle, line_error_words}
 use Rattle.rl_options.specs.RulesPage.{rules_page}
+use Rattle.rl_options.specs.Generated.{generated_text}
 use Rattle.rl_options.specs.Settings.{settings_text}
 use Rattle.rl_options.specs.Listed.{AreWithAllListed, IsFirstUnread}
 use Rattle.rl_scan.specs.Runs.{Streams, WritesWalk, WritesFront, asked_status}
@@ -73,7 +74,7 @@ RunsInVain command holds has_paths waypoints streams =
     (tally : Tally) × IfSome holds (λ w. WritesWalk command w waypoints streams tally)
     × (finds_no_file has_paths tally ≡ true)
 
--- The result of a call after a failed write of the help or the version.
+-- The result of a call after a failed write of a text, as the help.
 abbrev pub IsUnwritten : {B : Type 0} → Ending (CallError B) → Type 0
 IsUnwritten Closed = ⊤
 IsUnwritten (Failed Write) = ⊤
@@ -155,26 +156,28 @@ extensions_read [] = codes "rs" ∷ []
 extensions_read (extension ∷ extensions) = extension ∷ extensions
 
 -- `selecting` is `command` with lists that are parsed separately: the texts to search for, the selection of files in directories,
--- the lists of paths, and the rules of the style.
-pub record IsSelecting (command : Command) (rules : Style) (finds extensions excludes lists : List (List ℕ))
+-- the lists of paths, the allowed findings, and the rules of the style.
+pub record IsSelecting (command : Command) (rules : Style) (finds extensions excludes lists permitted : List (List ℕ))
     (selecting : Command) : Type 0 where
-  pub same : (texts endings patterns files settings paths : List (List ℕ))
-      → wishes_of selecting texts endings patterns files settings paths
-      ≡ wishes_of command texts endings patterns files settings paths
+  pub same : (texts endings patterns files settings allowed paths : List (List ℕ))
+      → wishes_of selecting texts endings patterns files settings allowed paths
+      ≡ wishes_of command texts endings patterns files settings allowed paths
   pub finds_are : borrowed_texts selecting.finds.now ≡ finds
   pub extensions_are : borrowed_texts selecting.selection.extensions.now ≡ extensions_read extensions
   pub excludes_are : borrowed_texts selecting.selection.excludes.now ≡ excludes
   pub lists_are : borrowed_texts selecting.files_from.now ≡ lists
+  pub allowed_are : borrowed_texts selecting.allowed.now ≡ permitted
   pub rules_are : selecting.rules ≡ rules
 
 -- The command is that of the parsed arguments. If literals are rewritten, `rules` is their style.
 pub record IsCommandFor (wishes : Wishes) (rules : Style) (command : Command) : Type 0 where
-  pub asked : wishes_of command wishes.finds wishes.extensions wishes.excludes wishes.files_from wishes.settings wishes.paths
+  pub asked : wishes_of command wishes.finds wishes.extensions wishes.excludes wishes.files_from wishes.settings wishes.allowed wishes.paths
       ≡ wishes
   pub finds_are : borrowed_texts command.finds.now ≡ wishes.finds
   pub extensions_are : borrowed_texts command.selection.extensions.now ≡ extensions_read wishes.extensions
   pub excludes_are : borrowed_texts command.selection.excludes.now ≡ wishes.excludes
   pub lists_are : borrowed_texts command.files_from.now ≡ wishes.files_from
+  pub allowed_are : borrowed_texts command.allowed.now ≡ wishes.allowed
   pub rules_are : command.rules ≡ rules
 
 -- The result of a call that scans files, with the style `rules` if literals are rewritten.
@@ -223,13 +226,15 @@ EndsWriting text streams ending =
     EndsText text streams.out_old streams.out_new ending × Keeps streams.err_old streams.err_new
     × (streams.handed_new ≡ streams.handed_old)
 
--- The result of a call for an action: a run over files, or writing the help, the version or the rules of a style.
+-- The result of a call for an action: a run over files, or writing the help, the version, the rules of a style, or a text for another
+-- program.
 abbrev pub EndsWish : {B : Type 0} → Action → Wishes → Bool → Option World → Streams → Ending (CallError B) → Type 0
 EndsWish Scan wishes lacks_input holds streams ending = EndsStyled wishes.style wishes lacks_input holds streams ending
 EndsWish Files wishes lacks_input holds streams ending = EndsStyled wishes.style wishes lacks_input holds streams ending
 EndsWish Help wishes lacks_input holds streams ending = (text : List ℕ) × EndsWriting text streams ending
 EndsWish Version wishes lacks_input holds streams ending = (text : List ℕ) × EndsWriting text streams ending
 EndsWish Rules wishes lacks_input holds streams ending = EndsWriting rules_page streams ending
+EndsWish (Generate which) wishes lacks_input holds streams ending = EndsWriting (generated_text which) streams ending
 
 abbrev pub EndsAsked : {B : Type 0} → Wishes → Bool → Option World → Streams → Ending (CallError B) → Type 0
 EndsAsked wishes lacks_input holds streams ending =

@@ -11,8 +11,8 @@ use crate::runs::{RunStop, Tally, run};
 use rl_files::{PathError, Replace, Selection, Tree, Walk, WalkError, escaped_non_utf8_path};
 use rl_options::{
     Action, ArgumentError, Command, Console, HELP, LineError, ParsedArguments, Restyling,
-    RulesError, VERSION, lists_files, parse_arguments, push_listed_paths, read_rules_file,
-    rules_page, style_of_settings, visible_text,
+    RulesError, VERSION, generated_text, lists_files, parse_arguments, push_listed_paths,
+    read_rules_file, rules_page, style_of_settings, visible_text,
 };
 use rl_program::{Ending, RunError, WriteError, write_bytes};
 use rl_restyle::default_style;
@@ -71,7 +71,7 @@ impl<A: Allocator> fmt::Display for CallError<A> {
     }
 }
 
-/// Returns the result of a call after a failed write of the help, the version or the rules of a style.
+/// Returns the result of a call after a failed write of a text, as the help.
 fn unwritten<A: Allocator>(error: WriteError) -> Ending<CallError<A>>
     ensures { IsUnwritten result }
 {
@@ -292,7 +292,7 @@ fn extensions_or_default<'a>(extensions: &'a [&'a str]) -> &'a [&'a str]
 }
 
 /// Returns the command with lists that are parsed separately: the texts to search for, the selection of files in directories, the
-/// lists of paths, and the rules of the style.
+/// lists of paths, the allowed findings, and the rules of the style.
 fn selecting<'a>(
     command: Command<'a>,
     rules: Style,
@@ -300,8 +300,9 @@ fn selecting<'a>(
     extensions: &'a [&'a str],
     excludes: &'a [&'a str],
     lists: &'a [&'a str],
+    allowed: &'a [&'a str],
 ) -> Command<'a>
-    ensures { IsSelecting command.entry rules (borrowed_texts finds.now) (borrowed_texts extensions.now) (borrowed_texts excludes.now) (borrowed_texts lists.now) result }
+    ensures { IsSelecting command.entry rules (borrowed_texts finds.now) (borrowed_texts extensions.now) (borrowed_texts excludes.now) (borrowed_texts lists.now) (borrowed_texts allowed.now) result }
 {
     Command {
         action: command.action,
@@ -333,6 +334,8 @@ fn selecting<'a>(
         sets_rules: command.sets_rules,
         rules,
         macros: command.macros,
+        allows: command.allows,
+        allowed,
     }
 }
 
@@ -365,6 +368,7 @@ fn scan_requested<A: Allocator + Copy, T: Tree, W: Write, E: Write, F: Replace>(
         extensions,
         excludes,
         lists,
+        allowed,
         ..
     } = asked;
     let command = selecting(
@@ -374,6 +378,7 @@ fn scan_requested<A: Allocator + Copy, T: Tree, W: Write, E: Write, F: Replace>(
         extensions.as_slice(),
         excludes.as_slice(),
         lists.as_slice(),
+        allowed.as_slice(),
     );
     let named = command.files_from;
     if named.is_empty() {
@@ -479,7 +484,8 @@ fn scan_styled<A: Allocator + Copy, T: Tree, W: Write, E: Write, F: Replace>(
     }
 }
 
-/// Runs the command of the parsed arguments: scans files, or prints the help, the version or the rules of a style.
+/// Runs the command of the parsed arguments: scans files, or prints the help, the version, the rules of a style, or a text for
+/// another program.
 fn answer<A: Allocator + Copy, T: Tree, W: Write, E: Write, F: Replace>(
     alloc: A,
     asked: ParsedArguments<'_, A>,
@@ -502,6 +508,7 @@ fn answer<A: Allocator + Copy, T: Tree, W: Write, E: Write, F: Replace>(
         Action::Help => write_text(out, HELP),
         Action::Version => write_text(out, VERSION),
         Action::Rules => write_text(out, rules_page()),
+        Action::Generate(which) => write_text(out, generated_text(which)),
         Action::Scan | Action::Files => scan_styled(
             alloc,
             asked,

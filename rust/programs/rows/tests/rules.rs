@@ -1,60 +1,10 @@
 //! Tests the output of `rl_scan --rules`: each rule has an example, and `--rule` accepts each listed value. `--check` prints the
 //! examples, and names the rules that change a literal.
 
-use navyspindle_programs::rattle_std::alloc::{Allocator, Global};
-use navyspindle_programs::rattle_std::string::String as Line;
-use navyspindle_programs::rattle_std::vec::Vec as List;
-use navyspindle_programs::rl_files::{MemoryReplacements, PathError, Tree};
+mod command;
+
+use command::run;
 use navyspindle_programs::rl_options::rules_page;
-use navyspindle_programs::rl_scan::{run_with_arguments, Console};
-
-/// A file tree in which standard input has this text, and which has no other files.
-struct Input(String);
-
-impl Tree for Input {
-    fn bytes<A: Allocator>(&self, alloc: A, _path: &str) -> Result<List<u8, A>, PathError> {
-        Ok(List::from_slice(alloc, self.0.as_bytes()).expect("memory"))
-    }
-
-    fn names<A: Allocator + Copy>(
-        &self,
-        _alloc: A,
-        _path: &str,
-    ) -> Result<List<Line<A>, A>, PathError> {
-        Err(PathError::NotADirectory)
-    }
-}
-
-/// Runs `rl_scan` with the arguments on the standard input `text`. Returns standard output, and the exit status.
-fn run(words: &[&str], text: &str) -> (String, u8) {
-    let words: Vec<Line> = ["rl_scan"]
-        .iter()
-        .chain(words)
-        .map(|word| Line::from_str(Global, word).expect("memory"))
-        .collect();
-    let console = Console {
-        lacks_input: false,
-        has_colors: false,
-    };
-    let mut out: List<u8> = List::new(Global);
-    let mut errors: List<u8> = List::new(Global);
-    let mut files = MemoryReplacements {
-        alloc: Global,
-        unwritable: &[],
-        handed: List::new(Global),
-    };
-    let ending = run_with_arguments(
-        Global,
-        &words,
-        console,
-        &Input(text.to_string()),
-        &mut out,
-        &mut errors,
-        &mut files,
-    );
-    let out = std::str::from_utf8(out.as_slice()).expect("text");
-    (out.to_string(), ending.status())
-}
 
 /// A rule of the output of `--rules`.
 struct Entry {
@@ -81,7 +31,8 @@ fn entries() -> Vec<Entry> {
 
 #[test]
 fn the_page_is_printed() {
-    assert_eq!(run(&["--rules"], ""), (rules_page().to_string(), 0));
+    let expected = (rules_page().to_string(), 0, String::new());
+    assert_eq!(run(&["--rules"], ""), expected);
 }
 
 #[test]
@@ -100,8 +51,9 @@ fn examples_are_changes() {
             "min_digits" => "decimal_groups",
             _ => name,
         };
-        let expected = format!("0..{} {change} [{rule}]\n", text.len());
-        assert_eq!(run(&words, &text), (expected, 1), "{example}");
+        let line = format!("0..{} {change} [{rule}]\n", text.len());
+        let expected = (line, 1, String::new());
+        assert_eq!(run(&words, &text), expected, "{example}");
         // A rule that isn't set is off.
         assert_eq!(
             run(&["--check", "--rule", "drop_raw=false"], &text).1,
@@ -163,7 +115,7 @@ fn each_change_has_a_rule() {
             if first.split('=').next() >= second.split('=').next() {
                 continue;
             }
-            let (out, _) = run(&["--check", "--rule", first, "--rule", second], &text);
+            let out = run(&["--check", "--rule", first, "--rule", second], &text).0;
             for line in out.lines() {
                 assert!(
                     line.ends_with(']') && !line.ends_with("[]"),
@@ -228,7 +180,8 @@ fn totals_follow_a_rewritten_input() {
             "f(1e5, \"it's\", 2e5)\nfiles: 1\nfiles with findings: 1\nfindings: 3\nfiles with an error: 0\n\
             exponent_letter: 2\ndrop_quote_escapes: 1\n"
                 .to_string(),
-            0
+            0,
+            String::new()
         )
     );
     assert_eq!(

@@ -1,5 +1,5 @@
 use Rattle.rl_options.specs.Wishes.{wishes_in}
-use Rattle.rl_scan.proofs.EndingLemmas.{ends_help, ends_rules, ends_version}
+use Rattle.rl_scan.proofs.EndingLemmas.{ends_generated, ends_help, ends_rules, ends_version}
 use Rattle.rl_scan.proofs.exit.answer.Goals as goal
 
 pub returns-in-Help : goal.returns-in-Help
@@ -13,3 +13,7 @@ returns-in-Version g c = ends_version (wishes_in c.args.asked) c.args.lacks_inpu
 pub returns-in-Rules : goal.returns-in-Rules
 returns-in-Rules g c = ends_rules (wishes_in c.args.asked) c.args.lacks_input (g.T.Tree.holds c.args.tree.now) _ _
     _ _ _ c.write_text-in-Rules.result c.in-Rules.is c.rules_page.ensures c.write_text-in-Rules.ensures
+
+pub returns-in-Generate : goal.returns-in-Generate
+returns-in-Generate g c = ends_generated (wishes_in c.args.asked) c.args.lacks_input (g.T.Tree.holds c.args.tree.now) _ _
+    _ _ c.in-Generate.which _ c.write_text-in-Generate.result c.in-Generate.is c.generated_text.ensures c.write_text-in-Generate.ensures

@@ -2,7 +2,7 @@
 //! The options of the program `rl_scan`, and their values.
 
 use crate::rl_options::argument_error::ArgumentError;
-use crate::rl_options::command::{Action, Command, Macros, Output, PlaceForm, Restyling};
+use crate::rl_options::command::{Action, Command, GeneratedText, Macros, Output, PlaceForm, Restyling};
 use crate::rl_flaws::Edition;
 use crate::rl_output::{Form, Matching, Shown, Spelling};
 use crate::rattle_std::alloc::Allocator;
@@ -67,6 +67,10 @@ pub(crate) enum Operand {
     Rule,
     /// A word that determines whether literals in macro code are treated as all others.
     Macros,
+    /// The identifier of findings that aren't shown, or the number of a character.
+    Allowed,
+    /// The name of a text for another program.
+    Generated,
 }
 
 /// The effect of an option.
@@ -275,6 +279,19 @@ pub(crate) fn macros_of(word: &str) -> Option<Macros> {
     match word {
         "skip" => Some(Macros::Skip),
         "all" => Some(Macros::All),
+        _ => None,
+    }
+}
+
+/// Returns the text that `word` names as the value of `--generate`, or `None` if the value is unknown.
+pub(crate) fn generated_of(word: &str) -> Option<GeneratedText> {
+    match word {
+        "man" => Some(GeneratedText::Man),
+        "bash" => Some(GeneratedText::Bash),
+        "zsh" => Some(GeneratedText::Zsh),
+        "fish" => Some(GeneratedText::Fish),
+        "sarif-jq" => Some(GeneratedText::SarifJq),
+        "problem-matcher" => Some(GeneratedText::ProblemMatcher),
         _ => None,
     }
 }

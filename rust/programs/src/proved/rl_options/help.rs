@@ -33,6 +33,9 @@ Options of these modes:
                        no token begins, is an error
       --edition YEAR   for --bad and --fix: the edition whose reserved prefixes
                        are errors: 2015, 2018, 2021 (default) or 2024
+      --allow ID       for --bad and --invisible: print no findings with the id
+                       ID, which --json prints; for --invisible, ID may also be
+                       a character, such as U+200B; may be repeated
   -i, --ignore-case    for --find: ignore the case of ASCII letters
   -w, --word           for --find: match only whole words
       --style FILE     for --fix: rewrite by the rules in FILE; without it, drop
@@ -81,6 +84,10 @@ Output:
                        many literals each rule changes
       --               every argument that follows is a PATH
       --rules          print the rules of a style, with values and examples
+      --generate WHAT  man, bash, zsh, fish, sarif-jq or problem-matcher: print
+                       the manual page, the completions for this shell, a jq
+                       program that makes SARIF of --json, or a file with
+                       problem matchers for GitHub
   -h, --help           print this help
   -V, --version        print the version
 

@@ -20,7 +20,7 @@ pub(crate) struct OptionRow {
 }
 
 /// The options of `rl_scan`. If an unknown option is similar to several names, the first one is suggested.
-const OPTIONS: [OptionRow; 39] = [
+const OPTIONS: [OptionRow; 41] = [
     OptionRow {
         name: "--bad",
         letter: None,
@@ -232,9 +232,21 @@ const OPTIONS: [OptionRow; 39] = [
         modes: Modes::BadOrRewriting,
     },
     OptionRow {
+        name: "--allow",
+        letter: None,
+        effect: Effect::Takes(Operand::Allowed),
+        modes: Modes::BadOrInvisible,
+    },
+    OptionRow {
         name: "--rules",
         letter: None,
         effect: Effect::Sets(Flag::Rules),
+        modes: Modes::All,
+    },
+    OptionRow {
+        name: "--generate",
+        letter: None,
+        effect: Effect::Takes(Operand::Generated),
         modes: Modes::All,
     },
     OptionRow {

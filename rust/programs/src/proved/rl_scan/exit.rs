@@ -6,8 +6,8 @@ use crate::rl_scan::runs::{RunStop, Tally, run};
 use crate::rl_files::{PathError, Replace, Selection, Tree, Walk, WalkError, escaped_non_utf8_path};
 use crate::rl_options::{
     Action, ArgumentError, Command, Console, HELP, LineError, ParsedArguments, Restyling,
-    RulesError, VERSION, lists_files, parse_arguments, push_listed_paths, read_rules_file,
-    rules_page, style_of_settings, visible_text,
+    RulesError, VERSION, generated_text, lists_files, parse_arguments, push_listed_paths,
+    read_rules_file, rules_page, style_of_settings, visible_text,
 };
 use crate::rl_program::{Ending, RunError, WriteError, write_bytes};
 use crate::rl_restyle::default_style;
@@ -56,7 +56,7 @@ impl<A: Allocator> fmt::Display for CallError<A> {
     }
 }
 
-/// Returns the result of a call after a failed write of the help, the version or the rules of a style.
+/// Returns the result of a call after a failed write of a text, as the help.
 fn unwritten<A: Allocator>(error: WriteError) -> Ending<CallError<A>> {
     match error {
         WriteError::Closed => Ending::Closed,
@@ -221,7 +221,7 @@ fn extensions_or_default<'a>(extensions: &'a [&'a str]) -> &'a [&'a str] {
 }
 
 /// Returns the command with lists that are parsed separately: the texts to search for, the selection of files in directories, the
-/// lists of paths, and the rules of the style.
+/// lists of paths, the allowed findings, and the rules of the style.
 fn selecting<'a>(
     command: Command<'a>,
     rules: Style,
@@ -229,6 +229,7 @@ fn selecting<'a>(
     extensions: &'a [&'a str],
     excludes: &'a [&'a str],
     lists: &'a [&'a str],
+    allowed: &'a [&'a str],
 ) -> Command<'a> {
     Command {
         action: command.action,
@@ -260,6 +261,8 @@ fn selecting<'a>(
         sets_rules: command.sets_rules,
         rules,
         macros: command.macros,
+        allows: command.allows,
+        allowed,
     }
 }
 
@@ -283,6 +286,7 @@ fn scan_requested<A: Allocator + Copy, T: Tree, W: Write, E: Write, F: Replace>(
         extensions,
         excludes,
         lists,
+        allowed,
         ..
     } = asked;
     let command = selecting(
@@ -292,6 +296,7 @@ fn scan_requested<A: Allocator + Copy, T: Tree, W: Write, E: Write, F: Replace>(
         extensions.as_slice(),
         excludes.as_slice(),
         lists.as_slice(),
+        allowed.as_slice(),
     );
     let named = command.files_from;
     if named.is_empty() {
@@ -375,7 +380,8 @@ fn scan_styled<A: Allocator + Copy, T: Tree, W: Write, E: Write, F: Replace>(
     }
 }
 
-/// Runs the command of the parsed arguments: scans files, or prints the help, the version or the rules of a style.
+/// Runs the command of the parsed arguments: scans files, or prints the help, the version, the rules of a style, or a text for
+/// another program.
 fn answer<A: Allocator + Copy, T: Tree, W: Write, E: Write, F: Replace>(
     alloc: A,
     asked: ParsedArguments<'_, A>,
@@ -389,6 +395,7 @@ fn answer<A: Allocator + Copy, T: Tree, W: Write, E: Write, F: Replace>(
         Action::Help => write_text(out, HELP),
         Action::Version => write_text(out, VERSION),
         Action::Rules => write_text(out, rules_page()),
+        Action::Generate(which) => write_text(out, generated_text(which)),
         Action::Scan | Action::Files => scan_styled(
             alloc,
             asked,

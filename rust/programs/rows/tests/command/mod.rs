@@ -1,0 +1,58 @@
+//! Runs `rl_scan` with arguments on a text as standard input.
+
+use navyspindle_programs::rattle_std::alloc::{Allocator, Global};
+use navyspindle_programs::rattle_std::string::String as Line;
+use navyspindle_programs::rattle_std::vec::Vec as List;
+use navyspindle_programs::rl_files::{MemoryReplacements, PathError, Tree};
+use navyspindle_programs::rl_scan::{run_with_arguments, Console};
+
+/// A file tree in which standard input has this text, and which has no other files.
+struct Input(String);
+
+impl Tree for Input {
+    fn bytes<A: Allocator>(&self, alloc: A, _path: &str) -> Result<List<u8, A>, PathError> {
+        Ok(List::from_slice(alloc, self.0.as_bytes()).expect("memory"))
+    }
+
+    fn names<A: Allocator + Copy>(
+        &self,
+        _alloc: A,
+        _path: &str,
+    ) -> Result<List<Line<A>, A>, PathError> {
+        Err(PathError::NotADirectory)
+    }
+}
+
+/// Runs `rl_scan` with the arguments on the standard input `text`. Returns standard output, the exit status and standard error.
+pub fn run(words: &[&str], text: &str) -> (String, u8, String) {
+    let words: Vec<Line> = ["rl_scan"]
+        .iter()
+        .chain(words)
+        .map(|word| Line::from_str(Global, word).expect("memory"))
+        .collect();
+    let console = Console {
+        lacks_input: false,
+        has_colors: false,
+    };
+    let mut out: List<u8> = List::new(Global);
+    let mut errors: List<u8> = List::new(Global);
+    let mut files = MemoryReplacements {
+        alloc: Global,
+        unwritable: &[],
+        handed: List::new(Global),
+    };
+    let ending = run_with_arguments(
+        Global,
+        &words,
+        console,
+        &Input(text.to_string()),
+        &mut out,
+        &mut errors,
+        &mut files,
+    );
+    let [out, errors] = [out, errors].map(|it| {
+        let text = std::str::from_utf8(it.as_slice()).expect("text");
+        text.to_string()
+    });
+    (out, ending.status(), format!("{errors}{ending}"))
+}
