@@ -168,6 +168,11 @@ Print the version.
 .fi
 "###;
 
+/// Returns the manual page of `rl_scan`.
+fn man_text() -> &'static str {
+    MAN_TEXT
+}
+
 /// The completions for bash.
 const BASH_TEXT: &str = r###"_rl_scan() {
     local word=${COMP_WORDS[COMP_CWORD]} before=${COMP_WORDS[COMP_CWORD - 1]} at
@@ -209,6 +214,11 @@ const BASH_TEXT: &str = r###"_rl_scan() {
 }
 complete -o filenames -F _rl_scan rl_scan
 "###;
+
+/// Returns the completions for bash.
+fn bash_text() -> &'static str {
+    BASH_TEXT
+}
 
 /// The completions for zsh.
 const ZSH_TEXT: &str = r###"#compdef rl_scan
@@ -268,6 +278,11 @@ _arguments -s -S \
     '*:PATH:_files'
 "###;
 
+/// Returns the completions for zsh.
+fn zsh_text() -> &'static str {
+    ZSH_TEXT
+}
+
 /// The completions for fish.
 const FISH_TEXT: &str =
     r###"complete -c rl_scan -l bad -d 'print the literals that Rust rejects, and unclosed quotes and comments'
@@ -311,6 +326,11 @@ complete -c rl_scan -l generate -x -a 'man bash zsh fish sarif-jq problem-matche
 complete -c rl_scan -s h -l help -d 'print this help'
 complete -c rl_scan -s V -l version -d 'print the version'
 "###;
+
+/// Returns the completions for fish.
+fn fish_text() -> &'static str {
+    FISH_TEXT
+}
 
 /// The program for `jq` that makes SARIF of JSON objects.
 const SARIF_JQ_TEXT: &str =
@@ -363,6 +383,11 @@ map(select(has("files_with_findings") | not))
 }
 "###;
 
+/// Returns the program for `jq` that makes SARIF of JSON objects.
+fn sarif_jq_text() -> &'static str {
+    SARIF_JQ_TEXT
+}
+
 /// The problem matchers for GitHub.
 const PROBLEM_MATCHER_TEXT: &str = r###"{
   "problemMatcher": [
@@ -384,14 +409,19 @@ const PROBLEM_MATCHER_TEXT: &str = r###"{
 }
 "###;
 
+/// Returns the problem matchers for GitHub.
+fn problem_matcher_text() -> &'static str {
+    PROBLEM_MATCHER_TEXT
+}
+
 /// Returns the text that `rl_scan --generate` prints.
 pub fn generated_text(which: GeneratedText) -> &'static str {
     match which {
-        GeneratedText::Man => MAN_TEXT,
-        GeneratedText::Bash => BASH_TEXT,
-        GeneratedText::Zsh => ZSH_TEXT,
-        GeneratedText::Fish => FISH_TEXT,
-        GeneratedText::SarifJq => SARIF_JQ_TEXT,
-        GeneratedText::ProblemMatcher => PROBLEM_MATCHER_TEXT,
+        GeneratedText::Man => man_text(),
+        GeneratedText::Bash => bash_text(),
+        GeneratedText::Zsh => zsh_text(),
+        GeneratedText::Fish => fish_text(),
+        GeneratedText::SarifJq => sarif_jq_text(),
+        GeneratedText::ProblemMatcher => problem_matcher_text(),
     }
 }
