@@ -1,7 +1,7 @@
 use Rattle.rl_lenient.specs.Values.{whole_text}
 use Rattle.std.specs.Str.{chars}
 use Rattle.rl_lenient.proofs.ValueLemmas.{value_without_suffix, no_bare_value, suffixed_none}
-use Rattle.rl_lenient.proofs.next_literals.NextLiteral.value.Goals as goal
+use Rattle.rl_lenient.proofs.next_literals.NextLiteral.value_if_unsuffixed.Goals as goal
 
 pub returns-then-has_suffix-clause-none : goal.returns-then-has_suffix-clause-none
 returns-then-has_suffix-clause-none c = suffixed_none (chars (whole_text c.args.self.now)) c.if-has_suffix.ensures.reads
