@@ -56,45 +56,49 @@ no_rule_in_keep = record {
 }
 
 no_value : {A : Type 0} (x : Option A) → is_some x ≡ false → x ≡ None
-no_value None no = refl
-no_value (Some x) no = absurd (false≢true (sym no))
+no_value None unset = refl
+no_value (Some x) unset = absurd (false≢true (sym unset))
 
 no_groups : (style : Style) (rule : Rule) → is_some style.digit_groups ≡ false
     → record keep { digit_groups = option_map (own_groups rule) style.digit_groups } ≡ keep
-no_groups style rule no =
+no_groups style rule unset =
     ap (λ (z : Option DigitGroups). record keep { digit_groups = option_map (own_groups rule) z })
-    (no_value style.digit_groups no)
+    (no_value style.digit_groups unset)
 
 -- A rule that the style doesn't set is, alone, the style without rules.
 keeps_alone : (style : Style) (rule : Rule) → is_set style rule ≡ false → rule_alone style rule ≡ keep
-keeps_alone style HexDigits no = ap (λ (z : Option Case). record keep { hex_digits = z }) (no_value style.hex_digits no)
-keeps_alone style DropUnderscores no = ap (λ (z : Bool). record keep { underscores = z }) no
-keeps_alone style DropLeadingZeros no = ap (λ (z : Bool). record keep { leading_zeros = z }) no
-keeps_alone style SuffixSeparator no = ap (λ (z : Option Separator). record keep { suffix_separator = z }) (no_value style.suffix_separator no)
-keeps_alone style BinaryGroups no = no_groups style BinaryGroups no
-keeps_alone style OctalGroups no = no_groups style OctalGroups no
-keeps_alone style DecimalGroups no = no_groups style DecimalGroups no
-keeps_alone style HexadecimalGroups no = no_groups style HexadecimalGroups no
-keeps_alone style MinDigits no = no_groups style MinDigits no
-keeps_alone style FloatZero no = ap (λ (z : Bool). record keep { float_zero = z }) no
-keeps_alone style ExponentLetter no = ap (λ (z : Option Case). record keep { exponent_letter = z }) (no_value style.exponent_letter no)
-keeps_alone style DropExponentPlus no = ap (λ (z : Bool). record keep { exponent_plus = z }) no
-keeps_alone style EscapeDigits no = ap (λ (z : Option Case). record keep { escape_digits = z }) (no_value style.escape_digits no)
-keeps_alone style FewestEscapeDigits no = ap (λ (z : Bool). record keep { code_digits = z }) no
-keeps_alone style DropAsciiEscapes no = ap (λ (z : Bool). record keep { ascii_escapes = z }) no
-keeps_alone style NamedEscapes no = ap (λ (z : Bool). record keep { named_escapes = z }) no
-keeps_alone style DropQuoteEscapes no = ap (λ (z : Bool). record keep { quote_escapes = z }) no
-keeps_alone style FewestHashes no = ap (λ (z : Bool). record keep { raw_hashes = z }) no
-keeps_alone style DropRaw no = ap (λ (z : Bool). record keep { raw = z }) no
-keeps_alone style EscapeInvisible no = ap (λ (z : Bool). record keep { hidden = z }) no
+keeps_alone style HexDigits unset = ap (λ (z : Option Case). record keep { hex_digits = z }) (no_value style.hex_digits unset)
+keeps_alone style DropUnderscores unset = ap (λ (z : Bool). record keep { underscores = z }) unset
+keeps_alone style DropLeadingZeros unset = ap (λ (z : Bool). record keep { leading_zeros = z }) unset
+keeps_alone style SuffixSeparator unset = ap (λ (z : Option Separator). record keep { suffix_separator = z }) (no_value style.suffix_separator unset)
+keeps_alone style BinaryGroups unset = no_groups style BinaryGroups unset
+keeps_alone style OctalGroups unset = no_groups style OctalGroups unset
+keeps_alone style DecimalGroups unset = no_groups style DecimalGroups unset
+keeps_alone style HexadecimalGroups unset = no_groups style HexadecimalGroups unset
+keeps_alone style MinDigits unset = no_groups style MinDigits unset
+keeps_alone style FloatZero unset = ap (λ (z : Bool). record keep { float_zero = z }) unset
+keeps_alone style ExponentLetter unset = ap (λ (z : Option Case). record keep { exponent_letter = z }) (no_value style.exponent_letter unset)
+keeps_alone style DropExponentPlus unset = ap (λ (z : Bool). record keep { exponent_plus = z }) unset
+keeps_alone style EscapeDigits unset = ap (λ (z : Option Case). record keep { escape_digits = z }) (no_value style.escape_digits unset)
+keeps_alone style FewestEscapeDigits unset = ap (λ (z : Bool). record keep { code_digits = z }) unset
+keeps_alone style DropAsciiEscapes unset = ap (λ (z : Bool). record keep { ascii_escapes = z }) unset
+keeps_alone style NamedEscapes unset = ap (λ (z : Bool). record keep { named_escapes = z }) unset
+keeps_alone style DropQuoteEscapes unset = ap (λ (z : Bool). record keep { quote_escapes = z }) unset
+keeps_alone style FewestHashes unset = ap (λ (z : Bool). record keep { raw_hashes = z }) unset
+keeps_alone style DropRaw unset = ap (λ (z : Bool). record keep { raw = z }) unset
+keeps_alone style EscapeInvisible unset = ap (λ (z : Bool). record keep { hidden = z }) unset
 
 -- A rule that the style doesn't set doesn't change the literal.
 pub rule_unset : (style : Style) (front old : List ℕ) (rule : Rule) (rules : List Rule) → is_set style rule ≡ false
     → TakesRule style front old rule rules rules
-rule_unset style front old rule rules no = inr (
-  (λ changes. changes.2 (no_rule_changes_nothing (rule_alone style rule) front old changes.0
-      (subst HasNoRule (sym (keeps_alone style rule no)) no_rule_in_keep) changes.1)),
-  refl,
+rule_unset style front old rule rules unset = (
+  [],
+  inr (
+    (λ changes. changes.2 (no_rule_changes_nothing (rule_alone style rule) front old changes.0
+        (subst HasNoRule (sym (keeps_alone style rule unset)) no_rule_in_keep) changes.1)),
+    refl,
+  ),
+  sym (append-nil rules),
 )
 
 -- A rule with a new text changes the literal. `rule_kept` is the lemma for a rule without a new text.
@@ -105,7 +109,7 @@ pub rule_taken : {A : Type 0} (style own : Style) (front old : List ℕ) (rule :
 rule_taken style own front old rule before after None is some rewritten pushed = absurd (false≢true some)
 rule_taken style own front old rule before after (Some made) is some rewritten pushed =
     let changed = subst (λ (z : Style). IsRewritten z front old (text_in (Some made))) is rewritten in
-    inl ((chars (string_bytes made), changed.0, changed.1), pushed)
+    (rule ∷ [], inl ((chars (string_bytes made), changed.0, changed.1), refl), pushed)
 
 pub rule_kept : {A : Type 0} (style own : Style) (front old : List ℕ) (rule : Rule) (rules : List Rule)
     (made : Option (String A)) → own ≡ rule_alone style rule → is_some made ≡ false
@@ -113,7 +117,7 @@ pub rule_kept : {A : Type 0} (style own : Style) (front old : List ℕ) (rule : 
 rule_kept style own front old rule rules (Some made) is none rewritten = absurd (false≢true (sym none))
 rule_kept style own front old rule rules None is none rewritten =
     let kept = subst (λ (z : Style). IsRewritten z front old None) is rewritten in
-    inr ((λ changes. changes.2 (kept changes.0 changes.1)), refl)
+    ([], inr ((λ changes. changes.2 (kept changes.0 changes.1)), refl), sym (append-nil rules))
 
 -- The invariant of the loop over the rules: the taken rules, with the changing ones among `rest`, are all changing rules.
 pub record AreTaken (style : Style) (front old : List ℕ) (rest taken : List Rule) : Type 0 where
@@ -131,15 +135,11 @@ taken_none style front old rest taken is none = record {
 pub taken_step : (style : Style) (front old : List ℕ) (rest after taken more : List Rule) (rule : Rule)
     → rest ≡ rule ∷ after → AreTaken style front old rest taken → TakesRule style front old rule taken more
     → AreTaken style front old after more
-taken_step style front old rest after taken more rule is are (inl (changes, pushed)) = record {
+taken_step style front old rest after taken more rule is are (own, is_own, pushed) = record {
   goes = λ others left. subst (AreChangingRules style front old)
-      (sym (ap (λ (z : List Rule). z ++ others) pushed ∙ append_assoc taken (rule ∷ []) others))
-      (are.goes (rule ∷ others) (subst (λ (z : List Rule). AreChangingAmong style front old z (rule ∷ others)) (sym is)
-      (inl (changes, (others, left, refl)))));
-}
-taken_step style front old rest after taken more rule is are (inr (same, kept)) = record {
-  goes = λ others left. subst (λ (z : List Rule). AreChangingRules style front old (z ++ others)) (sym kept)
-      (are.goes others (subst (λ (z : List Rule). AreChangingAmong style front old z others) (sym is) (inr (same, left))));
+      (sym (ap (λ (z : List Rule). z ++ others) pushed ∙ append_assoc taken own others))
+      (are.goes (own ++ others) (subst (λ (z : List Rule). AreChangingAmong style front old z (own ++ others)) (sym is)
+      (own, others, is_own, left, refl)));
 }
 
 -- After the last rule, the taken rules are all changing rules.

@@ -77,13 +77,18 @@ is_set given EscapeInvisible = given.hidden
 abbrev pub ChangesAlone : Style → List ℕ → List ℕ → Rule → Type 0
 ChangesAlone given front old rule = Changes (rule_alone given rule) front old
 
--- The rules `rules` are those of the rules `all` each of which alone changes the literal `old`. `front` is the text before it.
+-- `rules` is the rule if it alone changes the literal `old`, and no rule otherwise.
+abbrev pub IsChangingRule : Style → List ℕ → List ℕ → Rule → List Rule → Type 0
+IsChangingRule given front old rule rules =
+    (ChangesAlone given front old rule × (rules ≡ rule ∷ []))
+    ⊎ ((ChangesAlone given front old rule → ⊥) × (rules ≡ []))
+
+-- `rules` are those of the rules `all` each of which alone changes the literal `old`, in order.
 abbrev pub AreChangingAmong : Style → List ℕ → List ℕ → List Rule → List Rule → Type 0
 AreChangingAmong given front old [] rules = rules ≡ []
 AreChangingAmong given front old (rule ∷ all) rules =
-    (ChangesAlone given front old rule
-    × ((others : List Rule) × AreChangingAmong given front old all others × (rules ≡ rule ∷ others)))
-    ⊎ ((ChangesAlone given front old rule → ⊥) × AreChangingAmong given front old all rules)
+    (own others : List Rule) × IsChangingRule given front old rule own × AreChangingAmong given front old all others
+    × (rules ≡ own ++ others)
 
 -- The rules are those of the style each of which alone changes the literal `old`.
 abbrev pub AreChangingRules : Style → List ℕ → List ℕ → List Rule → Type 0
@@ -92,5 +97,4 @@ AreChangingRules given front old rules = AreChangingAmong given front old settab
 -- `after` are the rules `before`, and also the rule `rule` if this rule alone changes the literal `old`.
 abbrev pub TakesRule : Style → List ℕ → List ℕ → Rule → List Rule → List Rule → Type 0
 TakesRule given front old rule before after =
-    (ChangesAlone given front old rule × (after ≡ before ++ rule ∷ []))
-    ⊎ ((ChangesAlone given front old rule → ⊥) × (after ≡ before))
+    (own : List Rule) × IsChangingRule given front old rule own × (after ≡ before ++ own)

@@ -17,7 +17,7 @@ add_assoc a b c = omega arith
 -- A rule occurs in two lists together as many times as in both of them.
 occurrences_both : (rule : Rule) (first second : List Rule)
     → occurrences rule (first ++ second) ≡ occurrences rule first + occurrences rule second
-occurrences_both rule [] second = refl
+occurrences_both rule [] second = omega arith
 occurrences_both rule (other ∷ first) second =
     let own = cond {A = ℕ} (rule_number other == rule_number rule) 1 0 in
     ap (λ (n : ℕ). own + n) (occurrences_both rule first second)

@@ -23,6 +23,14 @@ tally_of totals = record {
   with_errors = u64_saturate totals.with_errors;
 }
 
+-- The totals of a run as lines of text.
+abbrev pub totals_lines : Tally → List ℕ
+totals_lines tally =
+    codes "files: " ++ (decimal tally.read ++ (codes "\nfiles with findings: " ++ (decimal tally.with_findings
+    ++ (codes "\nfindings: " ++ (decimal tally.findings ++ (codes "\nfiles with an error: "
+    ++ (decimal tally.with_errors
+    ++ codes "\n")))))))
+
 -- The line for a rule that changes literals: its name, and the number of literals. If the number is 0, there is no line.
 abbrev pub rule_line : ℕ → Rule → List ℕ
 rule_line count rule =
@@ -32,13 +40,15 @@ rule_line count rule =
 abbrev pub rule_lines : List ℕ → List Rule → List ℕ
 rule_lines counts rules = flat_map (λ rule. rule_line (count_at counts rule) rule) rules
 
--- The statistics of a run as lines of text.
+-- The statistics of a run as lines of text: the totals, and a line for each rule that changes literals.
 abbrev pub stats_lines : Tally → List ℕ
-stats_lines tally =
-    codes "files: " ++ (decimal tally.read ++ (codes "\nfiles with findings: " ++ (decimal tally.with_findings
-    ++ (codes "\nfindings: " ++ (decimal tally.findings ++ (codes "\nfiles with an error: "
-    ++ (decimal tally.with_errors
-    ++ (codes "\n" ++ rule_lines tally.rules settable_rules))))))))
+stats_lines tally = totals_lines tally ++ rule_lines tally.rules settable_rules
+
+-- The totals of a run as the members of a JSON object, after its `{`.
+abbrev pub totals_members : Tally → List ℕ
+totals_members tally =
+    codes "{\"files\":" ++ (decimal tally.read ++ (codes ",\"files_with_findings\":" ++ (decimal tally.with_findings
+    ++ (codes ",\"findings\":" ++ (decimal tally.findings ++ (codes ",\"errors\":" ++ decimal tally.with_errors))))))
 
 -- The JSON member for a rule that changes literals: its name, and the number of literals. `lead` is before the name. If the number is
 -- 0, there is no member.
@@ -58,12 +68,9 @@ abbrev pub rules_member : Option Restyling → List ℕ → List ℕ
 rules_member None counts = []
 rules_member (Some restyling) counts = codes ",\"rules\":{" ++ (rule_members [] counts settable_rules ++ codes "}")
 
--- The statistics of a run as a JSON object.
+-- The statistics of a run as a JSON object: the totals, and the member `rules`.
 abbrev pub stats_object : Option Restyling → Tally → List ℕ
-stats_object restyle tally =
-    codes "{\"files\":" ++ (decimal tally.read ++ (codes ",\"files_with_findings\":" ++ (decimal tally.with_findings
-    ++ (codes ",\"findings\":" ++ (decimal tally.findings ++ (codes ",\"errors\":" ++ (decimal tally.with_errors
-    ++ (rules_member restyle tally.rules ++ codes "}\n"))))))))
+stats_object restyle tally = totals_members tally ++ (rules_member restyle tally.rules ++ codes "}\n")
 
 -- The statistics of a run: a JSON object if output lines are JSON, else lines of text.
 abbrev pub stats_text : Command → Tally → List ℕ

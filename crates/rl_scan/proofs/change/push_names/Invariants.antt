@@ -1,3 +1,5 @@
+use denote.Shadow.{shadow}
+use denote.Text.{Utf8}
 use Rattle.std.proofs.Common.{length, true, ◌++◌, ◌≡◌, string_bytes, []}
 use Rattle.std.specs.Char.{is_ascii}
 use Rattle.std.specs.List.{list_all}
@@ -7,7 +9,7 @@ use Rattle.rl_scan.proofs.change.push_names.Given as goal
 
 abbrev pub invariant-loop-rule : goal.invariant-loop-rule
 invariant-loop-rule g l =
-    (list_all is_ascii l.lead ≡ true)
+    shadow (Utf8 l.lead) × (list_all is_ascii l.lead ≡ true)
     × (chars (string_bytes l.out) ++ joined_names l.lead l.separator l.mark l.rest
     ≡ chars (string_bytes l.initial.out) ++ joined_names [] l.separator l.mark l.rules)
 
