@@ -150,7 +150,7 @@ pub fn skip_trivia(text: &str) -> &str {
 ///
 /// A loop that continues after the unclosed token, such as on the next line, may take time that grows with the square of the length:
 /// each raw string or block comment that isn't closed costs a search of the whole rest. [`Source::recover`](crate::Source::recover)
-/// continues without these searches, but returns only literals and errors.
+/// doesn't repeat these searches, but returns only literals and errors.
 #[must_use]
 pub fn skip_token(text: &str) -> Option<&str> {
     if skip_trivia(text).len() < text.len() {
