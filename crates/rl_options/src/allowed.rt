@@ -1,9 +1,7 @@
 //! The identifiers of findings that `--allow` may leave out.
 
 ghost use Rattle.std.specs.Prelude.{◌≡◌, not, IfNone, IfOk, IfSome, None, Some, find, option_copied};
-ghost use Rattle.std.specs.List.{list_any};
 ghost use Rattle.std.specs.Option.{option_map};
-ghost use Rattle.std.specs.Str.{bytes_eq};
 ghost use Rattle.rl_files.specs.Globs.{borrowed_texts};
 ghost use Rattle.rl_options.specs.Allowed.{IsIdError, IsUnknownAllowed, first_unknown as unknown_in, ids_hint as hint_for, ids_of as listed_ids, is_known as is_known_id, is_other_value as other_known, is_unclosed as ends_reading, near_id as nearest_id};
 ghost use Rattle.rl_options.specs.Meant.{is_near as near};
@@ -12,7 +10,7 @@ ghost use Rattle.rl_options.specs.Wishes.{wanted_of};
 use crate::argument_error::ArgumentError;
 use crate::suggestion::is_near;
 use crate::visible::visible_text;
-use rl_output::{Shown, code_point};
+use rl_output::{Shown, code_point, contains_id};
 use std::alloc::{AllocError, Allocator};
 
 /// The identifiers of the errors of `--bad` that may be allowed.
@@ -68,13 +66,6 @@ const CHARACTER_IDS: [&str; 5] = [
     "control-character",
     "invisible-character",
 ];
-
-/// Whether `id` is one of the identifiers.
-fn contains_id(ids: &[&str], id: &str) -> bool
-    ensures { result ≡ list_any (λ other. bytes_eq other.now id.now) ids.now }
-{
-    ids.iter().any(|other| *other == id)
-}
 
 /// Returns the identifiers that `--allow` may name, for the findings that are shown.
 #[tactic(auto, unfolding(crate::specs::Allowed::bad_ids, crate::specs::Allowed::character_ids))]

@@ -1,19 +1,11 @@
 //! Findings that the options allow, so that they have no line.
 
 ghost use Rattle.std.specs.Prelude.{◌≡◌};
-ghost use Rattle.std.specs.Str.{bytes_eq};
 ghost use Rattle.std.specs.List.{list_any};
 ghost use Rattle.rl_sources.specs.Allowed.{allows_id as is_allowed_id, has_number as is_number, names_character as is_named};
 
 use crate::options::Options;
-use rl_output::code_point;
-
-/// Whether one of the words is the identifier `id`.
-fn contains_id(words: &[&str], id: &str) -> bool
-    ensures { result ≡ list_any (λ word. bytes_eq word.now id.now) words.now }
-{
-    words.iter().any(|word| *word == id)
-}
+use rl_output::{code_point, contains_id};
 
 /// Whether findings with the identifier `id` are allowed.
 pub(crate) fn allows_id(options: &Options<'_>, id: &str) -> bool

@@ -4,7 +4,7 @@
 use crate::rl_options::argument_error::ArgumentError;
 use crate::rl_options::suggestion::is_near;
 use crate::rl_options::visible::visible_text;
-use crate::rl_output::{Shown, code_point};
+use crate::rl_output::{Shown, code_point, contains_id};
 use crate::rattle_std::alloc::{AllocError, Allocator};
 
 /// The identifiers of the errors of `--bad` that may be allowed.
@@ -60,11 +60,6 @@ const CHARACTER_IDS: [&str; 5] = [
     "control-character",
     "invisible-character",
 ];
-
-/// Whether `id` is one of the identifiers.
-fn contains_id(ids: &[&str], id: &str) -> bool {
-    ids.iter().any(|other| *other == id)
-}
 
 /// Returns the identifiers that `--allow` may name, for the findings that are shown.
 fn ids_of(shown: Shown<'_>) -> &'static [&'static str] {

@@ -2,12 +2,7 @@
 //! Findings that the options allow, so that they have no line.
 
 use crate::rl_sources::options::Options;
-use crate::rl_output::code_point;
-
-/// Whether one of the words is the identifier `id`.
-fn contains_id(words: &[&str], id: &str) -> bool {
-    words.iter().any(|word| *word == id)
-}
+use crate::rl_output::{code_point, contains_id};
 
 /// Whether findings with the identifier `id` are allowed.
 pub(crate) fn allows_id(options: &Options<'_>, id: &str) -> bool {
