@@ -141,7 +141,7 @@ fn a_cr_in_a_file() {
     );
     assert_eq!(of("'\r\n'"), [(MustEscape, 1..3, 1)]);
     assert_eq!(of("0b12"), [(FlawKind::InvalidDigit, 0..4, 3)]);
-    // The same text as a text of its own.
+    // The text itself, not as a literal of a file.
     let kinds: Vec<_> = flaws("\"a\r\n\\q\"").map(|bad| bad.kind()).collect();
     assert_eq!(kinds, [CarriageReturn, UnknownEscape]);
 }

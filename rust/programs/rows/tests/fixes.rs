@@ -1,13 +1,17 @@
 //! Tests the output for a source whose literals would be rewritten: changes as text, JSON objects and annotations, and unified
 //! diffs. The expected output is written by hand.
 
-use navyspindle_programs::rattle_std::alloc::{Allocator, Global};
+#[path = "command/one_text.rs"]
+mod one_text;
+
+use navyspindle_programs::rattle_std::alloc::Global;
 use navyspindle_programs::rattle_std::string::String as Line;
 use navyspindle_programs::rattle_std::vec::Vec as List;
-use navyspindle_programs::rl_files::{MemoryReplacements, PathError, Tree, Visit};
+use navyspindle_programs::rl_files::{MemoryReplacements, Visit};
 use navyspindle_programs::rl_options::parse_arguments;
 use navyspindle_programs::rl_output::{Extent, Form, LineColumn, Place, Position};
 use navyspindle_programs::rl_scan::{push_change, push_diff, report_of, Command, Output};
+use one_text::OneText;
 
 fn diff(path: &str, old: &str, new: &str) -> String {
     let mut out = Line::new(Global);
@@ -145,23 +149,6 @@ fn changes_as_objects_and_annotations() {
     );
 }
 
-/// A directory in which every file has the same text.
-struct Same(&'static str);
-
-impl Tree for Same {
-    fn bytes<A: Allocator>(&self, alloc: A, _path: &str) -> Result<List<u8, A>, PathError> {
-        Ok(List::from_slice(alloc, self.0.as_bytes()).expect("memory"))
-    }
-
-    fn names<A: Allocator + Copy>(
-        &self,
-        _alloc: A,
-        _path: &str,
-    ) -> Result<List<Line<A>, A>, PathError> {
-        Err(PathError::NotADirectory)
-    }
-}
-
 /// Returns standard output for the file at `path` with the contents `text`. The command is that of the option `mode`, changed by
 /// `set`.
 fn output(mode: &str, set: impl Fn(&mut Command<'_>), path: &str, text: &'static str) -> String {
@@ -177,7 +164,14 @@ fn output(mode: &str, set: impl Fn(&mut Command<'_>), path: &str, text: &'static
         handed: List::new(Global),
     };
     let visit = Visit::File(Line::from_str(Global, path).expect("memory"));
-    let report = report_of(Global, command, &Same(text), &mut files, &visit).expect("memory");
+    let report = report_of(
+        Global,
+        command,
+        &OneText(text.to_string()),
+        &mut files,
+        &visit,
+    )
+    .expect("memory");
     assert!(report.errors.is_empty());
     String::from_utf8(report.out.to_vec()).expect("it is UTF-8")
 }

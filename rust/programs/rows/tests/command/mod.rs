@@ -1,27 +1,13 @@
 //! Runs `rl_scan` with arguments on a text as standard input.
 
-use navyspindle_programs::rattle_std::alloc::{Allocator, Global};
+mod one_text;
+
+use navyspindle_programs::rattle_std::alloc::Global;
 use navyspindle_programs::rattle_std::string::String as Line;
 use navyspindle_programs::rattle_std::vec::Vec as List;
-use navyspindle_programs::rl_files::{MemoryReplacements, PathError, Tree};
+use navyspindle_programs::rl_files::MemoryReplacements;
 use navyspindle_programs::rl_scan::{run_with_arguments, Console};
-
-/// A file tree in which standard input has this text, and which has no other files.
-struct Input(String);
-
-impl Tree for Input {
-    fn bytes<A: Allocator>(&self, alloc: A, _path: &str) -> Result<List<u8, A>, PathError> {
-        Ok(List::from_slice(alloc, self.0.as_bytes()).expect("memory"))
-    }
-
-    fn names<A: Allocator + Copy>(
-        &self,
-        _alloc: A,
-        _path: &str,
-    ) -> Result<List<Line<A>, A>, PathError> {
-        Err(PathError::NotADirectory)
-    }
-}
+use one_text::OneText;
 
 /// Runs `rl_scan` with the arguments on the standard input `text`. Returns standard output, the exit status and standard error.
 pub fn run(words: &[&str], text: &str) -> (String, u8, String) {
@@ -45,7 +31,7 @@ pub fn run(words: &[&str], text: &str) -> (String, u8, String) {
         Global,
         &words,
         console,
-        &Input(text.to_string()),
+        &OneText(text.to_string()),
         &mut out,
         &mut errors,
         &mut files,
