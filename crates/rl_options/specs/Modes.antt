@@ -92,7 +92,6 @@ is_in m modes.Find = is_find_mode m
 is_in m modes.Bad = is_bad_mode m
 is_in m modes.Literals = prints_literals m
 is_in m modes.Tokens = prints_literals m || is_bad_mode m
-is_in m modes.Findings = not (rewrites m)
 is_in m modes.Listing = lists_findings m
 is_in m modes.Printing = not (rewrites m)
 is_in m modes.Rewriting = rewrites m
@@ -164,7 +163,6 @@ has_flag flag.AnySuffix w = w.any_suffix
 has_flag flag.Count w = is_count w.output
 has_flag flag.FilesWithMatches w = is_path w.output
 has_flag flag.Files w = lists_files w.action
-has_flag flag.Stats w = w.prints_stats
 has_flag _ w = false
 
 -- The command has the option with a value. For an option that has an effect in all modes, the result is false.
@@ -215,7 +213,6 @@ modes_hint modes.Find = codes "use --find"
 modes_hint modes.Bad = codes "use --bad"
 modes_hint modes.Literals = codes "use --only, --find or no mode"
 modes_hint modes.Tokens = codes "use --bad, --only, --find or no mode"
-modes_hint modes.Findings = codes "use --bad, --invisible, --only, --find or no mode"
 modes_hint modes.Listing = codes "use a mode other than --fix and --diff"
 modes_hint modes.Printing = codes "use only one of them"
 modes_hint modes.Rewriting = codes "use --fix, --check or --diff"

@@ -54,7 +54,7 @@ options =
     option_entry (codes "--files-with-matches") (Some (code "l")) (Sets FilesWithMatches) modes.Listing ∷
     option_entry (codes "--null") (Some (code "Z")) (Sets Nul) modes.All ∷
     option_entry (codes "--quiet") (Some (code "q")) (Sets Quiet) modes.All ∷
-    option_entry (codes "--stats") None (Sets Stats) modes.Findings ∷
+    option_entry (codes "--stats") None (Sets Stats) modes.All ∷
     option_entry (codes "--fix") None (Sets Fix) modes.All ∷
     option_entry (codes "--check") None (Sets Check) modes.All ∷
     option_entry (codes "--diff") None (Sets Diff) modes.All ∷

@@ -79,7 +79,8 @@ Output:
                        for standard input are still printed
       --no-messages    print no errors about unreadable or skipped files
       --stats          print totals at the end: files read, files with findings,
-                       findings, and files with an error
+                       findings, and files with an error; for --fix, also how
+                       many literals each rule changes
       --               every argument that follows is a PATH
       --rules          print the rules of a style, with values and examples
       --generate WHAT  man, bash, zsh, fish, sarif-jq or problem-matcher: print
@@ -93,7 +94,7 @@ Lines:
   PATH:LINE:COLUMN: KIND VALUE SUFFIX
   PATH:LINE:COLUMN: error: MESSAGE: PIECE
   PATH:LINE:COLUMN: U+202E RIGHT-TO-LEFT OVERRIDE
-  PATH:LINE:COLUMN: OLD -> NEW
+  PATH:LINE:COLUMN: OLD -> NEW [RULE, ..]
   LO..HI KIND VALUE SUFFIX
 
 Status:

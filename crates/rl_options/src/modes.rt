@@ -36,11 +36,9 @@ pub(crate) enum Modes {
     Literals,
     /// `--bad`, or a mode of `Literals`.
     Tokens,
-    /// `--invisible`, or a mode of `Tokens`.
-    Findings,
-    /// `--check`, or a mode of `Findings`: each finding or change has a position.
+    /// `--check`, or a mode of `Printing`: each finding or change has a position.
     Listing,
-    /// A mode of `Findings`. The option itself selects what is printed.
+    /// `--invisible`, or a mode of `Tokens`. The option itself selects what is printed.
     Printing,
     /// `--fix`, `--check` or `--diff`.
     Rewriting,
@@ -98,7 +96,7 @@ fn is_in(mode: Mode, modes: Modes) -> bool
         Modes::Bad => matches!(mode, Mode::Bad),
         Modes::Literals => prints_literals(mode),
         Modes::Tokens => prints_literals(mode) || matches!(mode, Mode::Bad),
-        Modes::Findings | Modes::Printing => !rewrites(mode),
+        Modes::Printing => !rewrites(mode),
         Modes::Listing => !matches!(mode, Mode::Fix | Mode::Diff),
         Modes::Rewriting => rewrites(mode),
         Modes::BadOrRewriting => rewrites(mode) || matches!(mode, Mode::Bad),
@@ -130,7 +128,6 @@ fn has_flag(command: Command<'_>, flag: Flag) -> bool
         Flag::Count => matches!(command.output, Output::Count),
         Flag::FilesWithMatches => matches!(command.output, Output::Path),
         Flag::Files => matches!(command.action, Action::Files),
-        Flag::Stats => command.prints_stats,
         _ => false,
     }
 }
@@ -192,7 +189,6 @@ pub(crate) fn modes_hint(modes: Modes) -> &'static str
         Modes::Bad => "use --bad",
         Modes::Literals => "use --only, --find or no mode",
         Modes::Tokens => "use --bad, --only, --find or no mode",
-        Modes::Findings => "use --bad, --invisible, --only, --find or no mode",
         Modes::Listing => "use a mode other than --fix and --diff",
         Modes::Printing => "use only one of them",
         Modes::Rewriting => "use --fix, --check or --diff",

@@ -199,7 +199,7 @@ const OPTIONS: [OptionRow; 40] = [
         name: "--stats",
         letter: None,
         effect: Effect::Sets(Flag::Stats),
-        modes: Modes::Findings,
+        modes: Modes::All,
     },
     OptionRow {
         name: "--fix",

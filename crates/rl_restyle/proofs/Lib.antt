@@ -7,3 +7,4 @@ pub mod KeptCuts
 pub mod EditPlaces
 pub mod OneText
 pub mod Theorems
+pub mod ChangingLemmas

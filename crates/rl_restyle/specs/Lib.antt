@@ -5,3 +5,4 @@ pub mod Held
 pub mod Places
 pub mod Edits
 pub mod Mirrors
+pub mod Changing

@@ -1,9 +1,16 @@
 -- The rules of a style: their names in a configuration, and the values that each may have.
-use Rattle.std.specs.Prelude.{ℕ, List, codes}
+use Rattle.std.specs.Prelude.{ℕ, List, [], ◌∷◌, codes}
 use Rattle.rl_restyle.specs.declared.rule.Rule.{Rule}
 use Rattle.rl_restyle.specs.declared.rule.Rule.TheVariants.{HexDigits, DropUnderscores, DropLeadingZeros, SuffixSeparator, BinaryGroups, OctalGroups, DecimalGroups, HexadecimalGroups, MinDigits, FloatZero, ExponentLetter, DropExponentPlus, EscapeDigits, FewestEscapeDigits, DropAsciiEscapes, NamedEscapes, DropQuoteEscapes, FewestHashes, DropRaw, EscapeInvisible}
 use Rattle.rl_restyle.specs.declared.style_error.Expected.{Expected}
 use Rattle.rl_restyle.specs.declared.style_error.Expected.TheVariants.{Truth, Size, Case, Separator}
+
+-- All rules that a configuration can set, in the order of `rl_scan --rules`.
+abbrev pub settable_rules : List Rule
+settable_rules =
+    HexDigits ∷ DropUnderscores ∷ DropLeadingZeros ∷ SuffixSeparator ∷ BinaryGroups ∷ OctalGroups ∷ DecimalGroups
+    ∷ HexadecimalGroups ∷ MinDigits ∷ FloatZero ∷ ExponentLetter ∷ DropExponentPlus ∷ EscapeDigits ∷ FewestEscapeDigits
+    ∷ DropAsciiEscapes ∷ NamedEscapes ∷ DropQuoteEscapes ∷ FewestHashes ∷ DropRaw ∷ EscapeInvisible ∷ []
 
 -- The name of a rule in a configuration.
 abbrev pub rule_name : Rule → List ℕ
@@ -41,7 +48,7 @@ expected_of ExponentLetter = Case
 expected_of EscapeDigits = Case
 expected_of _ = Truth
 
--- The index of a rule in the list of all rules.
+-- The index of a rule in the list of settable rules.
 abbrev pub rule_number : Rule → ℕ
 rule_number HexDigits = 0
 rule_number DropUnderscores = 1

@@ -1,6 +1,7 @@
 //! Rewrites all literals of a source by a style, and returns the edits and the new text. Parses styles from configurations too.
 #![tactic(auto)]
 
+mod changing;
 mod draft;
 mod edit;
 pub mod laws;
@@ -13,7 +14,9 @@ mod value;
 mod values;
 mod whole;
 
+pub use crate::changing::changing_rules;
 pub use crate::edit::{Edit, Macros, RestyleError, Restyled};
+pub use crate::rule::{RULES, Rule, number_of, settable_rules};
 pub use crate::slices::between;
 pub use crate::style_error::{Expected, StyleError, StyleErrorKind};
 pub use crate::styles::{default_style, parse_style};

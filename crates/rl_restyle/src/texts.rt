@@ -39,7 +39,7 @@ fn other_text<A: Allocator>(alloc: A, old: &str, new: &str) -> Result<Option<Str
 
 /// Returns the rewritten text of the literal `text` if it differs, and `None` otherwise. `front` is the text before the
 /// literal.
-fn new_text<A: Allocator + Copy>(
+pub(crate) fn new_text<A: Allocator + Copy>(
     alloc: A,
     style: Style,
     front: &str,

@@ -2,7 +2,8 @@
 use Rattle.rl_syntax.proofs.Common.{◌≡◌, ℕ, ◌+◌, List, [], ◌∷◌, ◌++◌, length, drop, map, refl, sym, ◌∙◌, ap, subst, arith, append-nil, append_assoc, chars, encode_utf8, false, true, IsCharBoundary, IsUtf8}
 use Rattle.std.proofs.lemmas.Grind.{flat_map-append}
 use Rattle.std.proofs.lemmas.List.{length-drop}
-use Rattle.std.specs.List.{flat_map}
+use Rattle.std.specs.Char.{is_ascii}
+use Rattle.std.specs.List.{flat_map, list_all}
 use Rattle.rl_files.proofs.VisibleLemmas.{chars_written}
 use Rattle.rl_files.specs.Visible.{is_control_invisible_or_bidi}
 use Rattle.rl_lexer.specs.Cursors.{IsCursorState}
@@ -14,7 +15,12 @@ use Rattle.rl_restyle.specs.Places.{AreEditsIn, IsTextBetween}
 use Rattle.rl_sources.proofs.StepLemmas.{in_context}
 use Rattle.rl_sources.specs.Places.{IsContextIn, IsPlaceIn}
 use Rattle.rl_sources.specs.declared.options.Options.{Options}
-use Rattle.rl_scan.specs.Changes.{AreChangeLines, IsChangeLine, IsOwnChangeLine, bracketed_number, change_line, numbered_char}
+use Rattle.rl_restyle.specs.Rules.{rule_name}
+use Rattle.rl_restyle.specs.declared.rule.Rule.{Rule}
+use Rattle.rl_restyle.specs.declared.rule.Rule.TheVariants.{HexDigits, DropUnderscores, DropLeadingZeros, SuffixSeparator, BinaryGroups, OctalGroups, DecimalGroups, HexadecimalGroups, MinDigits, FloatZero, ExponentLetter, DropExponentPlus, EscapeDigits, FewestEscapeDigits, DropAsciiEscapes, NamedEscapes, DropQuoteEscapes, FewestHashes, DropRaw, EscapeInvisible}
+use Rattle.rl_style.specs.declared.style.Style.{Style}
+use Rattle.rl_scan.specs.Changes.{AreChangeLines, IsChangeLine, IsOwnChangeLine, bracketed_number, change_line, joined_names, marked_name, numbered_char}
+use Rattle.rl_scan.specs.EditRules.{AreRulesOfEdit}
 
 -- The loop's invariant stays true after one more character is appended, as the function `f` writes it.
 pub shown_more : (f : ℕ → List ℕ) (first old new done : List ℕ) (c : ℕ) → old ≡ first ++ flat_map f done
@@ -51,81 +57,124 @@ left places text rest lo hi old same u s is =
     let cut = slice text lo hi old u s in
     rw (is, same) (omega (arith, length-drop lo text, cut.ordered, cut.within))
 
+-- A rule's name is ASCII.
+pub ascii_name : (rule : Rule) → list_all is_ascii (rule_name rule) ≡ true
+ascii_name HexDigits = refl
+ascii_name DropUnderscores = refl
+ascii_name DropLeadingZeros = refl
+ascii_name SuffixSeparator = refl
+ascii_name BinaryGroups = refl
+ascii_name OctalGroups = refl
+ascii_name DecimalGroups = refl
+ascii_name HexadecimalGroups = refl
+ascii_name MinDigits = refl
+ascii_name FloatZero = refl
+ascii_name ExponentLetter = refl
+ascii_name DropExponentPlus = refl
+ascii_name EscapeDigits = refl
+ascii_name FewestEscapeDigits = refl
+ascii_name DropAsciiEscapes = refl
+ascii_name NamedEscapes = refl
+ascii_name DropQuoteEscapes = refl
+ascii_name FewestHashes = refl
+ascii_name DropRaw = refl
+ascii_name EscapeInvisible = refl
+
+-- The invariant of the loop over names of rules stays true after one more name.
+pub names_more : (separator mark whole now later lead : List ℕ) (rest after : List Rule) (rule : Rule)
+    → rest ≡ rule ∷ after → now ++ joined_names lead separator mark rest ≡ whole
+    → later ≡ now ++ (lead ++ marked_name mark rule)
+    → later ++ joined_names separator separator mark after ≡ whole
+names_more separator mark whole now later lead rest after rule is told written =
+    ap (λ (z : List ℕ). z ++ joined_names separator separator mark after) written
+    ∙ append_assoc now (lead ++ marked_name mark rule) (joined_names separator separator mark after)
+    ∙ ap (λ (z : List ℕ). now ++ z)
+    (append_assoc lead (marked_name mark rule) (joined_names separator separator mark after))
+    ∙ subst (λ (z : List Rule). now ++ joined_names lead separator mark z ≡ whole) is told
+
+-- After the last name, all names are written.
+pub names_end : (separator mark whole now lead : List ℕ) (rest : List Rule) → length rest ≡ 0
+    → now ++ joined_names lead separator mark rest ≡ whole → now ≡ whole
+names_end separator mark whole now lead [] none told = sym (append-nil now) ∙ told
+names_end separator mark whole now lead (rule ∷ rest) none told = absurd (omega (arith, none))
+
 -- The line that the code appends for one rewritten literal is the output line for it.
-pub change_told : (options : Options) (places text old old_text new : List ℕ) (lo hi : ℕ) (place : Place)
-    (before after : List ℕ) → places ≡ text → IsPlaceIn options (chars places) lo hi place
-    → IsTextBetween (chars text) lo hi old → old_text ≡ old
-    → after ≡ before ++ change_line options.form options.path place old_text new
-    → Appends (IsOwnChangeLine options (chars text) (lo, hi, new)) before after
-change_told options places text old old_text new lo hi place before after same is stands old_is told = (
-  change_line options.form options.path place old_text new,
+pub change_told : (style : Style) (options : Options) (places text old old_text new : List ℕ) (rules : List Rule) (lo hi : ℕ)
+    (place : Place) (before after : List ℕ) → places ≡ text → IsPlaceIn options (chars places) lo hi place
+    → IsTextBetween (chars text) lo hi old → old_text ≡ old → AreRulesOfEdit style (chars text) (lo, hi, new) rules
+    → after ≡ before ++ change_line options.form options.path place old_text new rules
+    → Appends (IsOwnChangeLine style options (chars text) (lo, hi, new)) before after
+change_told style options places text old old_text new rules lo hi place before after same is stands old_is changing told = (
+  change_line options.form options.path place old_text new rules,
   (
     place,
     old_text,
+    rules,
     subst (λ (t : List ℕ). IsPlaceIn options (chars t) lo hi place) same is,
     subst (λ (t : List ℕ). IsTextBetween (chars text) lo hi t) (sym old_is) stands,
+    changing,
     refl,
   ),
   told,
 )
 
 -- The line for one rewritten literal, and then the lines of context below it, are the output for it.
-pub change_in_context : (options : Options) (places text new : List ℕ) (lo hi : ℕ) (before middle after : List ℕ)
-    → places ≡ text → Appends (IsOwnChangeLine options (chars text) (lo, hi, new)) before middle
+pub change_in_context : (style : Style) (options : Options) (places text new : List ℕ) (lo hi : ℕ) (before middle after : List ℕ)
+    → places ≡ text → Appends (IsOwnChangeLine style options (chars text) (lo, hi, new)) before middle
     → Appends (IsContextIn options (chars places) lo hi) middle after
-    → Appends (IsChangeLine options (chars text) (lo, hi, new)) before after
-change_in_context options places text new lo hi before middle after same line below =
-    in_context (IsOwnChangeLine options (chars text) (lo, hi, new)) options (chars text) lo hi before middle after line
+    → Appends (IsChangeLine style options (chars text) (lo, hi, new)) before after
+change_in_context style options places text new lo hi before middle after same line below =
+    in_context (IsOwnChangeLine style options (chars text) (lo, hi, new)) options (chars text) lo hi before middle after line
     (subst (λ (t : List ℕ). Appends (IsContextIn options (chars t) lo hi) middle after) same below)
 
 -- The invariant of the loop over rewritten literals: the written lines, with those for the literals in `rest`, are all lines.
-pub record Told (options : Options) (text : List ℕ) (all rest : List (ℕ × ℕ × List ℕ)) (before now : List ℕ)
+pub record Told (style : Style) (options : Options) (text : List ℕ) (all rest : List (ℕ × ℕ × List ℕ)) (before now : List ℕ)
     : Type 0 where
   pub made : List ℕ
   pub now_is : now ≡ before ++ made
-  pub goes : (more : List ℕ) → AreChangeLines options text rest more
-      → AreChangeLines options text all (made ++ more)
+  pub goes : (more : List ℕ) → AreChangeLines style options text rest more
+      → AreChangeLines style options text all (made ++ more)
 
-pub told_none : (options : Options) (text : List ℕ) (all : List (ℕ × ℕ × List ℕ)) (before : List ℕ)
-    → Told options text all all before before
-told_none options text all before = record {
+pub told_none : (style : Style) (options : Options) (text : List ℕ) (all : List (ℕ × ℕ × List ℕ)) (before : List ℕ)
+    → Told style options text all all before before
+told_none style options text all before = record {
   made = [];
   now_is = sym (append-nil before);
   goes = λ more are. are;
 }
 
-pub told_more : (options : Options) (text : List ℕ) (all rest : List (ℕ × ℕ × List ℕ))
-    (edit : ℕ × ℕ × List ℕ) (before now after : List ℕ) → Told options text all (edit ∷ rest) before now
-    → Appends (IsChangeLine options text edit) now after → Told options text all rest before after
-told_more options text all rest edit before now after told (line, is, after_is) = record {
+pub told_more : (style : Style) (options : Options) (text : List ℕ) (all rest : List (ℕ × ℕ × List ℕ))
+    (edit : ℕ × ℕ × List ℕ) (before now after : List ℕ) → Told style options text all (edit ∷ rest) before now
+    → Appends (IsChangeLine style options text edit) now after → Told style options text all rest before after
+told_more style options text all rest edit before now after told (line, is, after_is) = record {
   made = told.made ++ line;
   now_is = after_is ∙ ap (λ (z : List ℕ). z ++ line) told.now_is ∙ append_assoc before told.made line;
-  goes = λ more are. subst (λ (z : List ℕ). AreChangeLines options text all z)
+  goes = λ more are. subst (λ (z : List ℕ). AreChangeLines style options text all z)
       (sym (append_assoc told.made line more)) (told.goes (line ++ more) (line, more, is, are, refl));
 }
 
-pub told_all : (options : Options) (text : List ℕ) (all : List (ℕ × ℕ × List ℕ)) (before now : List ℕ)
-    → Told options text all [] before now → Appends (AreChangeLines options text all) before now
-told_all options text all before now told = (
+pub told_all : (style : Style) (options : Options) (text : List ℕ) (all : List (ℕ × ℕ × List ℕ)) (before now : List ℕ)
+    → Told style options text all [] before now → Appends (AreChangeLines style options text all) before now
+told_all style options text all before now told = (
   told.made,
-  subst (λ (z : List ℕ). AreChangeLines options text all z) (append-nil told.made) (told.goes [] refl),
+  subst (λ (z : List ℕ). AreChangeLines style options text all z) (append-nil told.made) (told.goes [] refl),
   told.now_is,
 )
 
 -- The loop's invariant stays true after one more line.
-pub told_step : (options : Options) (text : List ℕ) (all rest after : List (ℕ × ℕ × List ℕ))
+pub told_step : (style : Style) (options : Options) (text : List ℕ) (all rest after : List (ℕ × ℕ × List ℕ))
     (edit : ℕ × ℕ × List ℕ) (before now later : List ℕ) → rest ≡ edit ∷ after → AreEditsIn text rest
-    → Told options text all rest before now → Appends (IsChangeLine options text edit) now later
-    → AreEditsIn text after × Told options text all after before later
-told_step options text all rest after edit before now later is stands told line = (
+    → Told style options text all rest before now → Appends (IsChangeLine style options text edit) now later
+    → AreEditsIn text after × Told style options text all after before later
+told_step style options text all rest after edit before now later is stands told line = (
   (subst (λ (z : List (ℕ × ℕ × List ℕ)). AreEditsIn text z) is stands).1,
-  told_more options text all after edit before now later
-      (subst (λ (z : List (ℕ × ℕ × List ℕ)). Told options text all z before now) is told) line,
+  told_more style options text all after edit before now later
+      (subst (λ (z : List (ℕ × ℕ × List ℕ)). Told style options text all z before now) is told) line,
 )
 
 -- After the last rewritten literal, all lines are written.
-pub told_end : {X : Type 0} (f : X → ℕ × ℕ × List ℕ) (xs : List X) (options : Options) (text : List ℕ)
+pub told_end : {X : Type 0} (f : X → ℕ × ℕ × List ℕ) (xs : List X) (style : Style) (options : Options) (text : List ℕ)
     (all : List (ℕ × ℕ × List ℕ)) (before now : List ℕ) → length xs ≡ 0
-    → Told options text all (map f xs) before now → Appends (AreChangeLines options text all) before now
-told_end f [] options text all before now none told = told_all options text all before now told
-told_end f (x ∷ xs) options text all before now none told = absurd (omega (arith, none))
+    → Told style options text all (map f xs) before now → Appends (AreChangeLines style options text all) before now
+told_end f [] style options text all before now none told = told_all style options text all before now told
+told_end f (x ∷ xs) style options text all before now none told = absurd (omega (arith, none))

@@ -1,4 +1,6 @@
+pub mod RuleCountLemmas
 pub mod DiffLemmas
+pub mod EditRuleLemmas
 pub mod ChangeLemmas
 pub mod PatchLemmas
 pub mod Theorems

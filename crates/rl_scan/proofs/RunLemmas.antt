@@ -12,11 +12,13 @@ use Rattle.rl_files.specs.Trees.{World}
 use Rattle.rl_files.specs.Walks.{Waypoint, Visited, Visits, VisitsFirst}
 use Rattle.rl_files.proofs.WalkLemmas.{some_visits}
 use Rattle.rl_options.specs.declared.command.Command.{Command}
+use Rattle.rl_restyle.specs.declared.rule.Rule.{Rule}
 use Rattle.rl_scan.specs.declared.runs.Tally.{Tally}
 use Rattle.rl_scan.specs.Reports.{Findings, with_handed}
 use Rattle.rl_scan.specs.Visits.{AreReports, IsReport, ReportsAs, Totals, both_of, nothing, totals_of}
 use Rattle.rl_scan.specs.declared.report.Report.{Report}
 use Rattle.rl_scan.proofs.Handing.{hands_both, hands_none, written_on}
+use Rattle.rl_scan.proofs.RuleCountLemmas.{counts_both, sum_saturated}
 use Rattle.rl_scan.specs.Runs.{Streams, both_tallies, shown_errors, IsWritten, WritesReport, WritesReports, WritesSome, WritesFirst, WritesFront, WritesWalk}
 use Rattle.rl_scan.specs.Stats.{tally_of, shown_stats}
 
@@ -59,19 +61,30 @@ pub not_empty : (n : ℕ) → not (suc n == 0) ≡ true
 not_empty n = search rules
 
 -- Totals with equal parts are equal.
-same_totals : (q : Totals) {a b : List ℕ} {d : List Replacement} {v r f n e : ℕ} → a ≡ q.out → b ≡ q.errors
+same_totals : (q : Totals) {a b : List ℕ} {d : List Replacement} {v r f n e : ℕ} {rules : List Rule} → a ≡ q.out → b ≡ q.errors
     → d ≡ q.handed → v ≡ q.visited → r ≡ q.read
-    → f ≡ q.with_findings → n ≡ q.findings → e ≡ q.with_errors
-    → record { out = a; errors = b; handed = d; visited = v; read = r; with_findings = f; findings = n; with_errors = e } ≡ q
-same_totals q a b d v r f n e = rw (a, b, d, v, r, f, n, e) refl
+    → f ≡ q.with_findings → n ≡ q.findings → rules ≡ q.rules → e ≡ q.with_errors
+    → record {
+      out = a;
+      errors = b;
+      handed = d;
+      visited = v;
+      read = r;
+      with_findings = f;
+      findings = n;
+      rules = rules;
+      with_errors = e;
+    } ≡ q
+same_totals q a b d v r f n rules e = rw (a, b, d, v, r, f, n, rules, e) refl
 
 nothing_before : (t : Totals) → both_of nothing t ≡ both_of t nothing
 nothing_before t = same_totals (both_of t nothing) (sym (append-nil t.out)) (sym (append-nil t.errors)) (sym (append-nil t.handed)) (omega arith)
-    (omega arith) (omega arith) (omega arith) (omega arith)
+    (omega arith) (omega arith) (omega arith) (sym (append-nil t.rules)) (omega arith)
 
 both_assoc : (p q r : Totals) → both_of (both_of p q) r ≡ both_of p (both_of q r)
 both_assoc p q r = same_totals (both_of p (both_of q r)) (append_assoc p.out q.out r.out)
-    (append_assoc p.errors q.errors r.errors) (append_assoc p.handed q.handed r.handed) (omega arith) (omega arith) (omega arith) (omega arith) (omega arith)
+    (append_assoc p.errors q.errors r.errors) (append_assoc p.handed q.handed r.handed) (omega arith) (omega arith) (omega arith)
+    (omega arith) (append_assoc p.rules q.rules r.rules) (omega arith)
 
 -- The output for some visits, with the output for one more visit after it, is the output for all of them.
 reports_more : (command : Command) (w : World) (visits : List Visited) (visit : Visited) (done : Totals) (one : Findings)
@@ -101,16 +114,13 @@ told_both command a b = go command.prints_errors
     go true = refl
     go false = refl
 
--- Adding two counts that stop at the largest number of 64 bits gives a count that also stops at it.
-sum_saturated : (a b : ℕ) → u64_saturate (u64_saturate a + u64_saturate b) ≡ u64_saturate (a + b)
-sum_saturated a b = omega arith
-
 tally_both : (s t : Totals) → both_tallies (tally_of s) (tally_of t) ≡ tally_of (both_of s t)
 tally_both s t = rw (
   sum_saturated s.visited t.visited,
   sum_saturated s.read t.read,
   sum_saturated s.with_findings t.with_findings,
   sum_saturated s.findings t.findings,
+  counts_both s.rules t.rules,
   sum_saturated s.with_errors t.with_errors,
 ) refl
 

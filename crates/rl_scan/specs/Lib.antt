@@ -1,3 +1,5 @@
+pub mod EditRules
+pub mod RuleCounts
 pub mod Changes
 pub mod Diffs
 pub mod Outcomes

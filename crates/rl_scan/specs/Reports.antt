@@ -22,6 +22,7 @@ use Rattle.rl_output.specs.declared.color.Paint.TheVariants as paint
 use Rattle.rl_output.specs.declared.form.Form.{Form}
 use Rattle.rl_output.specs.declared.form.Form.TheVariants.{Plain}
 use Rattle.rl_restyle.specs.declared.edit.Macros.{Macros}
+use Rattle.rl_restyle.specs.declared.rule.Rule.{Rule}
 use Rattle.rl_restyle.specs.declared.edit.Macros.TheVariants as macros
 use Rattle.rl_sources.specs.declared.options.Options.{Options}
 use Rattle.rl_output.specs.declared.choice.Shown.{Shown}
@@ -171,8 +172,8 @@ abbrev pub HandsOn : Option (List Replacement) → Option (List Replacement) →
 HandsOn old new handed = new ≡ option_map (λ before. before ++ handed) old
 
 -- The output for one file or path. It has the bytes for standard output and standard error, and tells whether these have an error.
--- It also has the replaced files, whether the file was read, whether it has a finding, and the number of findings if statistics are
--- requested.
+-- It also has the replaced files, whether the file was read, and whether it has a finding. If statistics are requested, it has the
+-- number of findings, and the rules that change literals.
 pub record Findings : Type 0 where
   pub out : List ℕ
   pub errors : List ℕ
@@ -181,6 +182,7 @@ pub record Findings : Type 0 where
   pub read : Bool
   pub found : Bool
   pub count : ℕ
+  pub rules : List Rule
 
 -- The parts of a report in the program, with the replaced files added.
 abbrev pub with_handed : {A : Type 0} → List Replacement → Report A → Findings
@@ -192,6 +194,7 @@ with_handed handed report = record {
   read = report.read;
   found = report.found;
   count = report.count;
+  rules = report.rules.items;
 }
 
 abbrev pub in_report : {A : Type 0} → Report A → Findings
@@ -221,6 +224,7 @@ pub record IsReportOf (command : Command) (options : Options) (path : Option (Bo
   pub handed : printed.handed ≡ []
   pub read : printed.read ≡ true
   pub found : printed.found ≡ not (length lines == 0)
+  pub rules : printed.rules ≡ []
 
 -- The output for the source of the file at `path`.
 abbrev pub IsTextReport : Command → List ℕ → List ℕ → Findings → Type 0
@@ -242,6 +246,7 @@ pub record IsListReport (command : Command) (path : List ℕ) (printed : Finding
   pub read : printed.read ≡ false
   pub found : printed.found ≡ true
   pub count : printed.count ≡ 0
+  pub rules : printed.rules ≡ []
 
 -- An error ends a call with status 2. A name in a directory, or a path, that isn't UTF-8 is skipped with a warning.
 abbrev pub is_error : PathError → Bool
@@ -262,6 +267,7 @@ pub record IsErrorReport (path : List ℕ) (why : PathError) (printed : Findings
   pub read : printed.read ≡ false
   pub found : printed.found ≡ false
   pub count : printed.count ≡ 0
+  pub rules : printed.rules ≡ []
   pub errors : chars printed.errors
       ≡ codes "rl_scan: " ++ (visible (chars path)
       ++ chars (codes ": " ++ (path_error_message why ++ (error_hint path why ++ codes "\n"))))

@@ -7,25 +7,32 @@ use Rattle.rl_files.specs.Visible.{visible}
 use Rattle.rl_files.specs.declared.tree.PathError.{PathError}
 use Rattle.rl_scan.specs.Changes.{AreChangeLines}
 use Rattle.rl_scan.specs.Diffs.{diff}
+use Rattle.rl_scan.specs.EditRules.{IsChangeCount}
 use Rattle.rl_scan.specs.Outcomes.{AreRejections, IsJudging, IsRestyledAs}
 use Rattle.rl_restyle.specs.declared.edit.Macros.{Macros}
 use Rattle.rl_restyle.specs.declared.edit.Macros.TheVariants.{Skip}
+use Rattle.rl_restyle.specs.declared.rule.Rule.{Rule}
+use Rattle.rl_output.specs.declared.form.Form.{Form}
 use Rattle.rl_sources.specs.declared.options.Options.{Options}
 use Rattle.rl_style.specs.Recut.{begins_with_code}
+use Rattle.rl_style.specs.declared.style.Style.{Style}
 use Rattle.rl_options.specs.declared.command.Command.{Command}
 use Rattle.rl_options.specs.declared.command.Output.{Output}
 use Rattle.rl_options.specs.declared.command.Output.TheVariants as output
 use Rattle.rl_options.specs.declared.command.Restyling.{Restyling}
 use Rattle.rl_options.specs.declared.command.Restyling.TheVariants.{Fix, Check, Diff}
-use Rattle.rl_scan.specs.Reports.{Findings, IsErrorReport, IsOptionsFor, IsPathIn, IsShownPath, edition_read, is_by_line, is_input, printed_of}
+use Rattle.rl_scan.specs.Reports.{Findings, IsErrorReport, IsOptionsFor, IsPathIn, IsShownPath, count_line, edition_read, is_by_line, is_input, path_line, printed_of}
 
--- The output is only `out` on standard output. `handed` are the replaced files.
-pub record PrintsAlone (out : List ℕ) (found : Bool) (handed : List Replacement) (printed : Findings) : Type 0 where
+-- The output is only `out` on standard output. `counts` is the number of changed literals and the rules that change them. `handed` are
+-- the replaced files.
+pub record PrintsAlone (out : List ℕ) (found : Bool) (counts : ℕ × List Rule) (handed : List Replacement)
+    (printed : Findings) : Type 0 where
   pub out_is : printed.out ≡ out
   pub errors_are : printed.errors ≡ []
   pub has_error_is : printed.has_error ≡ false
   pub read_is : printed.read ≡ true
-  pub count_is : printed.count ≡ 0
+  pub count_is : printed.count ≡ counts.0
+  pub rules_are : printed.rules ≡ counts.1
   pub found_is : printed.found ≡ found
   pub handed_is : printed.handed ≡ handed
 
@@ -35,63 +42,59 @@ macros_read None = Skip
 macros_read (Some macros) = macros
 
 -- An output line for each rewritten literal of a source, with its lines of context, in bytes.
-abbrev pub AreChangeBytes : Options → List ℕ → List (ℕ × ℕ × List ℕ) → List ℕ → Type 0
-AreChangeBytes options text edits bytes =
-    (lines : List ℕ) × AreChangeLines options text edits lines × (bytes ≡ encode_utf8_all lines)
+abbrev pub AreChangeBytes : Style → Options → List ℕ → List (ℕ × ℕ × List ℕ) → List ℕ → Type 0
+AreChangeBytes style options text edits bytes =
+    (lines : List ℕ) × AreChangeLines style options text edits lines × (bytes ≡ encode_utf8_all lines)
 
--- The selection of output for `--fix`: the number of rewritten literals, and not their lines.
-abbrev pub fixed_output : Output → Output
-fixed_output output.Lines = output.Count
-fixed_output output.Count = output.Count
-fixed_output output.Path = output.Path
-fixed_output output.Nothing = output.Nothing
+-- The output of `--fix` for a file in which literals are rewritten: the number of these literals, the path, or nothing.
+abbrev pub fixed_of : Output → Bool → Form → Option (Bor (List ℕ)) → ℕ → List ℕ
+fixed_of output.Lines nul form path edits = count_line nul form path edits
+fixed_of output.Count nul form path edits = count_line nul form path edits
+fixed_of output.Path nul form path edits = path_line nul form path
+fixed_of output.Nothing nul form path edits = []
 
--- The output for the rewritten literals of a file: a line for each, their number, the path, or nothing.
-abbrev pub IsPrintOf : Command → Output → Options → Option (Bor (List ℕ)) → List ℕ → List (ℕ × ℕ × List ℕ) → List ℕ
-    → Type 0
-IsPrintOf command output options named text edits out =
-    (lines : List ℕ) × AreChangeBytes options text edits lines
-    × (out ≡ printed_of output command.nul_after_paths command.form named lines)
-
--- The output of `--check`: the literals that would be rewritten, with their new texts.
-abbrev pub IsChecked : Command → Options → Option (Bor (List ℕ)) → List ℕ → List (ℕ × ℕ × List ℕ) → Findings → Type 0
-IsChecked command options named text edits printed =
-    (out : List ℕ) × IsPrintOf command command.output options named text edits out
-    × PrintsAlone out (not (length edits == 0)) [] printed
+-- The output of `--check`: the literals that would be rewritten, with their new texts. It is a line for each of them, their number,
+-- the path, or nothing.
+abbrev pub IsChecked : Command → Options → Option (Bor (List ℕ)) → List ℕ → List (ℕ × ℕ × List ℕ) → ℕ × List Rule
+    → Findings → Type 0
+IsChecked command options named text edits counts printed =
+    (lines : List ℕ) × AreChangeBytes command.rules options text edits lines
+    × PrintsAlone (printed_of command.output command.nul_after_paths command.form named lines)
+    (not (length edits == 0)) counts [] printed
 
 -- The output of `--diff`: the diff of a source and its rewritten form.
-abbrev pub IsCompared : Command → List ℕ → Option (Bor (List ℕ)) → List ℕ → List ℕ → Findings → Type 0
-IsCompared command path named text new printed =
+abbrev pub IsCompared : Command → List ℕ → Option (Bor (List ℕ)) → List ℕ → List ℕ → ℕ × List Rule → Findings → Type 0
+IsCompared command path named text new counts printed =
     (lines : List ℕ) × (lines ≡ encode_utf8_all (diff path text new))
     × PrintsAlone (printed_of command.output command.nul_after_paths command.form named lines)
-    (not (length lines == 0)) [] printed
+    (not (length lines == 0)) counts [] printed
 
 -- The output for a file that is replaced: `out`, or the reason why the file can't be replaced. Texts are lists of bytes.
-abbrev pub IsReplaced : List ℕ → List ℕ → List ℕ → List ℕ → Findings → Type 0
-IsReplaced path text new out printed =
-    PrintsAlone out false (replacing path text new ∷ []) printed
+abbrev pub IsReplaced : List ℕ → List ℕ → List ℕ → List ℕ → ℕ × List Rule → Findings → Type 0
+IsReplaced path text new out counts printed =
+    PrintsAlone out true counts (replacing path text new ∷ []) printed
     ⊎ ((why : PathError) × IsErrorReport path why printed)
 
--- The output of `--fix`. A file is replaced if a literal is rewritten. For standard input, the output is the rewritten source. The
--- number of rewritten literals counts no lines of context.
-abbrev pub IsFixed : Command → Options → List ℕ → Option (Bor (List ℕ)) → List ℕ → List ℕ → List (ℕ × ℕ × List ℕ)
+-- The output of `--fix`. A file is replaced if a literal is rewritten. For standard input, the output is the rewritten source.
+abbrev pub IsFixed : Command → List ℕ → Option (Bor (List ℕ)) → List ℕ → List ℕ → List (ℕ × ℕ × List ℕ) → ℕ × List Rule
     → Findings → Type 0
-IsFixed command options path named text new edits printed =
-    ((is_input path ≡ true) × PrintsAlone new false [] printed)
-    ⊎ ((is_input path ≡ false) × ((length edits == 0) ≡ true) × PrintsAlone [] false [] printed)
+IsFixed command path named text new edits counts printed =
+    ((is_input path ≡ true) × PrintsAlone new (not (length edits == 0)) counts [] printed)
+    ⊎ ((is_input path ≡ false) × ((length edits == 0) ≡ true) × PrintsAlone [] false counts [] printed)
     ⊎ ((is_input path ≡ false) × ((length edits == 0) ≡ false)
-    × ((out : List ℕ) × IsPrintOf command (fixed_output command.output) (record options { context = None }) named (chars text) edits out
-    × IsReplaced path text new out printed))
+    × IsReplaced path text new (fixed_of command.output command.nul_after_paths command.form named (length edits)) counts
+    printed)
 
--- The output for a source and its rewritten form, for `--check`, `--diff` or `--fix`.
+-- The output for a source and its rewritten form, for `--check`, `--diff` or `--fix`. `counts` is the number of changed literals and
+-- the rules that change them.
 abbrev pub IsChanged : Restyling → Command → Options → List ℕ → Option (Bor (List ℕ)) → List ℕ → List ℕ
-    → List (ℕ × ℕ × List ℕ) → Findings → Type 0
-IsChanged Check command options path named text new edits printed =
-    IsChecked command options named (chars text) edits printed
-IsChanged Diff command options path named text new edits printed =
-    IsCompared command (chars path) named (chars text) (chars new) printed
-IsChanged Fix command options path named text new edits printed =
-    IsFixed command options path named text new edits printed
+    → List (ℕ × ℕ × List ℕ) → ℕ × List Rule → Findings → Type 0
+IsChanged Check command options path named text new edits counts printed =
+    IsChecked command options named (chars text) edits counts printed
+IsChanged Diff command options path named text new edits counts printed =
+    IsCompared command (chars path) named (chars text) (chars new) counts printed
+IsChanged Fix command options path named text new edits counts printed =
+    IsFixed command path named text new edits counts printed
 
 -- The output for a source with errors, which isn't rewritten: only the lines that explain the errors, on standard error.
 pub record PrintsRejections (lines : List ℕ) (printed : Findings) : Type 0 where
@@ -100,6 +103,7 @@ pub record PrintsRejections (lines : List ℕ) (printed : Findings) : Type 0 whe
   pub has_error_is : printed.has_error ≡ true
   pub read_is : printed.read ≡ true
   pub count_is : printed.count ≡ 0
+  pub rules_are : printed.rules ≡ []
   pub found_is : printed.found ≡ false
   pub handed_is : printed.handed ≡ []
 
@@ -118,6 +122,7 @@ pub record IsScriptReport (restyling : Restyling) (path text : List ℕ) (printe
   pub read : printed.read ≡ true
   pub found : printed.found ≡ false
   pub count : printed.count ≡ 0
+  pub rules : printed.rules ≡ []
   pub errors : chars printed.errors
       ≡ codes "rl_scan: " ++ (visible (chars path) ++ codes ": left alone: its first line begins with #!\n")
 
@@ -132,6 +137,7 @@ IsRestyledReport restyling command path text printed =
     × ((lines ≢ []) × PrintsRejections lines printed
     ⊎ ((lines ≡ []) × IsFalse (begins_with_code (chars text)) × IsScriptReport restyling path text printed)
     ⊎ ((lines ≡ []) × IsTrue (begins_with_code (chars text))
-    × ((options : Options) × (new : List ℕ) × (edits : List (ℕ × ℕ × List ℕ)) × IsUtf8 new
+    × ((options : Options) × (new : List ℕ) × (edits : List (ℕ × ℕ × List ℕ)) × (counts : ℕ × List Rule) × IsUtf8 new
     × IsRestyledAs command.rules (macros_read command.macros) (chars text) (chars new) edits
-    × IsOptionsFor command path options × IsChanged restyling command options path named text new edits printed)))
+    × IsChangeCount command.prints_stats command.rules (chars text) edits counts.0 counts.1
+    × IsOptionsFor command path options × IsChanged restyling command options path named text new edits counts printed)))

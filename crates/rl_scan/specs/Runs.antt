@@ -13,6 +13,7 @@ use Rattle.rl_options.specs.declared.command.Restyling.{Restyling}
 use Rattle.rl_options.specs.declared.command.Restyling.TheVariants.{Fix, Check, Diff}
 use Rattle.rl_scan.specs.declared.runs.Tally.{Tally}
 use Rattle.rl_scan.specs.Reports.{Findings, HandsOn, is_alarm}
+use Rattle.rl_scan.specs.RuleCounts.{both_counts}
 use Rattle.rl_scan.specs.Visits.{AreReports, IsReport, Totals, totals_of}
 use Rattle.rl_scan.specs.Stats.{tally_of, shown_stats}
 use Rattle.rl_options.specs.Modes.{lists_files}
@@ -44,6 +45,7 @@ both_tallies first second = record {
   read = u64_saturate (first.read + second.read);
   with_findings = u64_saturate (first.with_findings + second.with_findings);
   findings = u64_saturate (first.findings + second.findings);
+  rules = both_counts first.rules second.rules;
   with_errors = u64_saturate (first.with_errors + second.with_errors);
 }
 

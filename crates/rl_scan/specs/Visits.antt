@@ -8,6 +8,7 @@ use Rattle.rl_files.specs.Walks.{Visited, FileAt, ErrorAt}
 use Rattle.rl_files.specs.declared.tree.PathError.{PathError}
 use Rattle.rl_options.specs.declared.command.Command.{Command}
 use Rattle.rl_options.specs.declared.command.Restyling.{Restyling}
+use Rattle.rl_restyle.specs.declared.rule.Rule.{Rule}
 use Rattle.rl_scan.specs.declared.report.Report.{Report}
 use Rattle.rl_options.specs.Reads.{IsNotUtf8, IsReadError}
 use Rattle.rl_scan.specs.Reports.{Findings, HandsOn, IsErrorReport, IsListReport, IsTextReport, with_handed}
@@ -46,7 +47,8 @@ ReportsAs IsThis report old new =
     (handed : List Replacement) × IsThis (with_handed handed report) × HandsOn old new handed
 
 -- The output for all visits of a walk: the bytes for standard output and standard error, the replaced files, and the counts. The
--- counts are those of visits except skipped ones, of files that were read, of files with findings, of findings, and of visits with an error.
+-- counts are those of visits except skipped ones, of files that were read, of files with findings, of findings, and of visits with
+-- an error. `rules` are the rules that change literals, once for each literal.
 pub record Totals : Type 0 where
   pub out : List ℕ
   pub errors : List ℕ
@@ -55,6 +57,7 @@ pub record Totals : Type 0 where
   pub read : ℕ
   pub with_findings : ℕ
   pub findings : ℕ
+  pub rules : List Rule
   pub with_errors : ℕ
 
 -- `nothing` is the output without any visit. `totals_of` is that of one visit, and `both_of` that of one part of a walk and a later
@@ -68,6 +71,7 @@ nothing = record {
   read = 0;
   with_findings = 0;
   findings = 0;
+  rules = [];
   with_errors = 0;
 }
 
@@ -87,6 +91,7 @@ totals_of one = record {
   read = one_where_true one.read;
   with_findings = one_where_true one.found;
   findings = one.count;
+  rules = one.rules;
   with_errors = one_where_true one.has_error;
 }
 
@@ -99,6 +104,7 @@ both_of first second = record {
   read = first.read + second.read;
   with_findings = first.with_findings + second.with_findings;
   findings = first.findings + second.findings;
+  rules = first.rules ++ second.rules;
   with_errors = first.with_errors + second.with_errors;
 }
 

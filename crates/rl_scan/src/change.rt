@@ -1,14 +1,17 @@
 //! Writes the output for a literal that is rewritten.
 
-ghost use Rattle.std.specs.Prelude.{◌≡◌, ◌++◌, OnOk, codes, string_bytes};
+ghost use Rattle.std.specs.Prelude.{◌≡◌, ◌++◌, [], OnOk, codes, string_bytes, true};
+ghost use Rattle.std.specs.Char.{is_ascii};
+ghost use Rattle.std.specs.List.{list_all};
 ghost use Rattle.std.specs.Str.{chars};
 ghost use Rattle.rl_output.specs.Github.{annotation_end};
-ghost use Rattle.rl_scan.specs.Changes.{bracketed_number, change_end, change_line, change_members, change_words, literal_char, literal_text, numbered_char};
+ghost use Rattle.rl_scan.specs.Changes.{bracketed_number, change_end, change_line, change_members, change_words, literal_char, joined_names, literal_text, marked_name, numbered_char};
 
 use rl_files::is_control_invisible_or_bidi;
 use rl_output::{
     Form, Level, Place, push_annotation_end, push_ascii_str, push_line_start, push_member,
 };
+use rl_restyle::Rule;
 use std::alloc::{AllocError, Allocator};
 
 /// Appends the number of a character in angle brackets, as `<U+200B>`.
@@ -54,45 +57,93 @@ fn push_literal<A: Allocator>(out: &mut String<A>, literal: &str) -> Result<(), 
     Ok(())
 }
 
-/// Appends the old text of a rewritten literal, `->` and its new text.
+/// Appends `lead`, and the name of a rule between two marks.
+#[tactic(auto, using(crate::proofs::ChangeLemmas::ascii_name))]
+fn push_name<A: Allocator>(
+    out: &mut String<A>,
+    lead: &str,
+    mark: &str,
+    rule: Rule,
+) -> Result<(), AllocError>
+    requires { (list_all is_ascii lead.now ≡ true) × (list_all is_ascii mark.now ≡ true) }
+    ensures { OnOk result (chars (string_bytes out.new)
+        ≡ chars (string_bytes out.old) ++ (lead.now ++ marked_name mark.now rule)) }
+{
+    push_ascii_str(out, lead)?;
+    push_ascii_str(out, mark)?;
+    push_ascii_str(out, rule.name())?;
+    push_ascii_str(out, mark)
+}
+
+/// Appends the names of rules, each between two marks, with a separator between two names.
+fn push_names<A: Allocator>(
+    out: &mut String<A>,
+    separator: &str,
+    mark: &str,
+    rules: &[Rule],
+) -> Result<(), AllocError>
+    requires { (list_all is_ascii separator.now ≡ true) × (list_all is_ascii mark.now ≡ true) }
+    ensures { OnOk result (chars (string_bytes out.new)
+        ≡ chars (string_bytes out.old) ++ joined_names [] separator.now mark.now rules.now) }
+{
+    let mut lead = "";
+    let mut rest = rules;
+    while let Some((rule, after)) = rest.split_first() {
+        push_name(out, lead, mark, *rule)?;
+        lead = separator;
+        rest = after;
+    }
+    Ok(())
+}
+
+/// Appends the old text of a rewritten literal, `->`, its new text, and the names of the rules that change it.
 fn push_change_words<A: Allocator>(
     out: &mut String<A>,
     old: &str,
     new: &str,
+    rules: &[Rule],
 ) -> Result<(), AllocError>
     ensures { OnOk result (chars (string_bytes out.new)
-        ≡ chars (string_bytes out.old) ++ change_words (chars old.now) (chars new.now)) }
+        ≡ chars (string_bytes out.old) ++ change_words (chars old.now) (chars new.now) rules.now) }
 {
     push_literal(out, old)?;
     push_ascii_str(out, " -> ")?;
-    push_literal(out, new)
+    push_literal(out, new)?;
+    push_ascii_str(out, " [")?;
+    push_names(out, ", ", "", rules)?;
+    push_ascii_str(out, "]")
 }
 
-/// Appends the old text of a rewritten literal, `->`, its new text and a line end.
+/// Appends the old text of a rewritten literal, `->`, its new text, the names of the rules that change it, and a line end.
 fn push_worded_change<A: Allocator>(
     out: &mut String<A>,
     old: &str,
     new: &str,
+    rules: &[Rule],
 ) -> Result<(), AllocError>
     ensures { OnOk result (chars (string_bytes out.new) ≡ chars (string_bytes out.old)
-        ++ (change_words (chars old.now) (chars new.now) ++ codes "\n")) }
+        ++ (change_words (chars old.now) (chars new.now) rules.now ++ codes "\n")) }
 {
-    push_change_words(out, old, new)?;
+    push_change_words(out, old, new, rules)?;
     push_ascii_str(out, "\n")
 }
 
-/// Appends the JSON members for a rewritten literal, `}` and a line end. The members are the old text and the new text.
+/// Appends the JSON members for a rewritten literal, `}` and a line end. The members are the old text, the new text, and
+/// the names of the rules that change the literal.
 fn push_change_members<A: Allocator>(
     out: &mut String<A>,
     old: &str,
     new: &str,
+    rules: &[Rule],
 ) -> Result<(), AllocError>
     ensures { OnOk result (chars (string_bytes out.new)
-        ≡ chars (string_bytes out.old) ++ change_members (chars old.now) (chars new.now)) }
+        ≡ chars (string_bytes out.old) ++ change_members (chars old.now) (chars new.now) rules.now) }
 {
     push_member(out, "text", old)?;
     push_member(out, "new", new)?;
-    push_ascii_str(out, "}\n")
+    push_ascii_str(out, ",\"rules\":[")?;
+    push_names(out, ",", "\"", rules)?;
+    push_ascii_str(out, "]}\n")
 }
 
 /// Appends a GitHub annotation's text after its position, for a rewritten literal.
@@ -101,38 +152,43 @@ fn push_change_annotation<A: Allocator + Copy>(
     out: &mut String<A>,
     old: &str,
     new: &str,
+    rules: &[Rule],
 ) -> Result<(), AllocError>
     ensures { OnOk result (chars (string_bytes out.new) ≡ chars (string_bytes out.old)
-        ++ annotation_end (codes "style") (change_words (chars old.now) (chars new.now))) }
+        ++ annotation_end (codes "style") (change_words (chars old.now) (chars new.now) rules.now)) }
 {
     let mut words = String::new(alloc);
-    push_change_words(&mut words, old, new)?;
+    push_change_words(&mut words, old, new, rules)?;
     push_annotation_end(out, "style", words.as_str(), "")
 }
 
-/// Appends the output for a rewritten literal after its position: its old and its new text, JSON members, or an annotation's text.
+/// Appends the output for a rewritten literal after its position: its old and its new text and rules, JSON members, or an
+/// annotation's text.
 fn push_change_end<A: Allocator + Copy>(
     alloc: A,
     out: &mut String<A>,
     form: Form,
     old: &str,
     new: &str,
+    rules: &[Rule],
 ) -> Result<(), AllocError>
     ensures { OnOk result (chars (string_bytes out.new)
-        ≡ chars (string_bytes out.old) ++ change_end form (chars old.now) (chars new.now)) }
+        ≡ chars (string_bytes out.old) ++ change_end form (chars old.now) (chars new.now) rules.now) }
 {
     match form {
-        Form::Json => push_change_members(out, old, new),
-        Form::Github => push_change_annotation(alloc, out, old, new),
-        Form::Plain | Form::Colored => push_worded_change(out, old, new),
+        Form::Json => push_change_members(out, old, new, rules),
+        Form::Github => push_change_annotation(alloc, out, old, new, rules),
+        Form::Plain | Form::Colored => push_worded_change(out, old, new, rules),
     }
 }
 
-/// Appends the output for a literal that is rewritten: its position, its old text and its new text, in the format `form`.
+/// Appends the output for a literal that is rewritten: its position, its old text, its new text and the rules that change it, in
+/// the format `form`.
 ///
-/// A line of text has `->` between the old and the new text. In both texts, LF, CR and a tab are written as escapes. Another
-/// control, invisible or bidirectional character is written as its number, as in `<U+200B>`. So a character differs from its escape.
-/// The message of a GitHub annotation is the same text. A JSON object has both texts as JSON strings.
+/// A line of text has `->` between the old and the new text, and ends with the names of the rules in brackets. In both texts, LF, CR
+/// and a tab are written as escapes. Another control, invisible or bidirectional character is written as its number, as in
+/// `<U+200B>`. So a character differs from its escape. The message of a GitHub annotation is the same text. A JSON object has both
+/// texts as JSON strings, and the names of the rules as an array.
 ///
 /// # Errors
 ///
@@ -145,10 +201,11 @@ pub fn push_change<A: Allocator + Copy>(
     place: &Place,
     old: &str,
     new: &str,
+    rules: &[Rule],
 ) -> Result<(), AllocError>
     ensures { OnOk result (chars (string_bytes out.new) ≡ chars (string_bytes out.old)
-        ++ change_line form path.entry place.now (chars old.now) (chars new.now)) }
+        ++ change_line form path.entry place.now (chars old.now) (chars new.now) rules.now) }
 {
     push_line_start(out, Level::Error, form, path, place)?;
-    push_change_end(alloc, out, form, old, new)
+    push_change_end(alloc, out, form, old, new, rules)
 }

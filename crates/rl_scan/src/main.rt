@@ -5,12 +5,14 @@
 mod change;
 mod changes;
 mod diff;
+mod edit_rules;
 mod exit;
 mod host;
 pub mod laws;
 mod outcome;
 mod report;
 mod restyling;
+mod rule_counts;
 mod runs;
 mod stats;
 mod visit_report;

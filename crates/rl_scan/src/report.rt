@@ -12,7 +12,7 @@ use crate::stats::requested_count;
 use rl_files::{PathError, push_visible};
 use rl_options::{Command, Output, PlaceForm, asks_context, path_hint, visible_text};
 use rl_output::{LineColumn, count_line_feeds};
-use rl_restyle::Macros;
+use rl_restyle::{Macros, Rule};
 use rl_sources::{
     Context, Edition, Form, Options, Paint, Place, ScanError, Shown, is_json, push_painted,
     push_source_error, scan,
@@ -36,6 +36,9 @@ pub struct Report<A: Allocator = Global> {
     pub found: bool,
     /// The number of findings, or 0 if statistics aren't requested.
     pub count: usize,
+    /// If literals are rewritten and statistics are requested, the rules that change the literals. A rule that changes several
+    /// literals occurs once for each of them.
+    pub rules: Vec<Rule, A>,
 }
 
 /// The output lines for a source, and an error of the source that isn't in these lines.
@@ -231,7 +234,7 @@ fn after_path(nul: bool, usual: &str) -> &str
 }
 
 /// Appends the line with the number of output lines of a file, with the path if there is one.
-fn push_count_line<A: Allocator>(
+pub(crate) fn push_count_line<A: Allocator>(
     out: &mut String<A>,
     nul: bool,
     form: Form,
@@ -251,7 +254,7 @@ fn push_count_line<A: Allocator>(
 }
 
 /// Appends the path of a file, or `-` without a path, with a line end or a NUL.
-fn push_path_line<A: Allocator>(
+pub(crate) fn push_path_line<A: Allocator>(
     out: &mut String<A>,
     nul: bool,
     form: Form,
@@ -326,6 +329,7 @@ pub(crate) fn report_text<A: Allocator + Copy>(
         read: true,
         found,
         count,
+        rules: Vec::new(alloc),
     })
 }
 
@@ -369,6 +373,7 @@ pub(crate) fn report_error<A: Allocator + Copy>(
         read: false,
         found: false,
         count: 0,
+        rules: Vec::new(alloc),
     })
 }
 
@@ -408,5 +413,6 @@ pub(crate) fn report_listed<A: Allocator + Copy>(
         read: false,
         found: true,
         count: 0,
+        rules: Vec::new(alloc),
     })
 }

@@ -4,24 +4,32 @@ ghost use Rattle.std.specs.Prelude.{◌≡◌, [], OnErr, IfOk, map, string_byte
 ghost use Rattle.std.specs.Str.{chars};
 ghost use Rattle.rl_restyle.specs.Edits.{edit_in};
 ghost use Rattle.rl_restyle.specs.Places.{AreEditsIn};
+ghost use Rattle.rl_scan.specs.EditRules.{IsChangeCount};
 ghost use Rattle.rl_scan.specs.Reports.{in_report};
 ghost use Rattle.rl_scan.specs.Visits.{ReportsAs};
-ghost use Rattle.rl_scan.specs.Restyling.{AreChangeBytes, IsChanged, IsChecked, IsCompared, IsFixed, IsReplaced, IsRestyledReport, IsScriptReport, PrintsAlone, PrintsRejections, fixed_output as output_of_fixed, macros_read, text_left as text_left_of};
+ghost use Rattle.rl_scan.specs.Restyling.{AreChangeBytes, IsChanged, IsChecked, IsCompared, IsFixed, IsReplaced, IsRestyledReport, IsScriptReport, PrintsAlone, PrintsRejections, fixed_of, macros_read, text_left as text_left_of};
 
+use crate::edit_rules::{ChangeCount, requested_change_count};
 use crate::report::{
-    Report, edition_for, is_by_line, is_input, options_for, path_before, path_in, report_error,
-    written,
+    Report, edition_for, is_by_line, is_input, options_for, path_before, path_in, push_count_line,
+    push_path_line, report_error, written,
 };
 use crate::{Outcome, push_changes, push_diff, rewrite_outcome, source_check_options};
 use rl_files::{Replace, push_visible};
 use rl_options::{Command, Output, Restyling, visible_text};
 use rl_restyle::{Macros, Restyled};
-use rl_sources::Options;
+use rl_sources::{Form, Options};
+use rl_style::Style;
 use std::alloc::{AllocError, Allocator};
 
-/// Returns a report with the bytes `out` for standard output, and nothing for standard error.
-fn report_out<A: Allocator + Copy>(alloc: A, out: Vec<u8, A>, found: bool) -> Report<A>
-    ensures { PrintsAlone out.items found [] (in_report result) }
+/// Returns a report with the bytes `out` for standard output, the counts of changes, and nothing for standard error.
+fn report_out<A: Allocator + Copy>(
+    alloc: A,
+    out: Vec<u8, A>,
+    found: bool,
+    count: ChangeCount<A>,
+) -> Report<A>
+    ensures { PrintsAlone out.items found (count.literals, count.rules.items) [] (in_report result) }
 {
     Report {
         out,
@@ -29,23 +37,32 @@ fn report_out<A: Allocator + Copy>(alloc: A, out: Vec<u8, A>, found: bool) -> Re
         has_error: false,
         read: true,
         found,
-        count: 0,
+        count: count.literals,
+        rules: count.rules,
     }
 }
 
 /// Returns an output line for each rewritten literal of a source, and the lines of context below each.
 fn change_lines<A: Allocator + Copy>(
     alloc: A,
+    style: Style,
     options: Options<'_>,
     text: &str,
     restyled: &Restyled<A>,
 ) -> Result<Vec<u8, A>, AllocError>
     requires { AreEditsIn (chars text.now) (map edit_in restyled.now.edits.items) }
-    ensures { IfOk result (λ lines. AreChangeBytes options.entry (chars text.now)
+    ensures { IfOk result (λ lines. AreChangeBytes style options.entry (chars text.now)
         (map edit_in restyled.now.edits.items) lines.items) }
 {
     let mut lines = String::new(alloc);
-    push_changes(alloc, &mut lines, options, text, restyled.edits.as_slice())?;
+    push_changes(
+        alloc,
+        &mut lines,
+        style,
+        options,
+        text,
+        restyled.edits.as_slice(),
+    )?;
     Ok(lines.into_bytes())
 }
 
@@ -57,12 +74,13 @@ fn report_checked<A: Allocator + Copy>(
     path: Option<&str>,
     text: &str,
     restyled: &Restyled<A>,
+    count: ChangeCount<A>,
 ) -> Result<Report<A>, AllocError>
     requires { AreEditsIn (chars text.now) (map edit_in restyled.now.edits.items) }
     ensures { IfOk result (λ r. IsChecked command.entry options.entry path.entry (chars text.now)
-        (map edit_in restyled.now.edits.items) (in_report r)) }
+        (map edit_in restyled.now.edits.items) (count.literals, count.rules.items) (in_report r)) }
 {
-    let lines = change_lines(alloc, options, text, restyled)?;
+    let lines = change_lines(alloc, command.rules, options, text, restyled)?;
     let out = written(
         alloc,
         command.output,
@@ -71,7 +89,7 @@ fn report_checked<A: Allocator + Copy>(
         path,
         lines,
     )?;
-    Ok(report_out(alloc, out, !restyled.edits.is_empty()))
+    Ok(report_out(alloc, out, !restyled.edits.is_empty(), count))
 }
 
 /// Returns the output of `--diff`: the diff of a source and its rewritten form.
@@ -82,9 +100,10 @@ fn report_compared<A: Allocator + Copy>(
     named: Option<&str>,
     text: &str,
     new: &str,
+    count: ChangeCount<A>,
 ) -> Result<Report<A>, AllocError>
     ensures { IfOk result (λ r. IsCompared command.entry (chars path.now) named.entry (chars text.now) (chars new.now)
-        (in_report r)) }
+        (count.literals, count.rules.items) (in_report r)) }
 {
     let mut lines = String::new(alloc);
     push_diff(&mut lines, path, text, new)?;
@@ -98,17 +117,28 @@ fn report_compared<A: Allocator + Copy>(
         named,
         lines,
     )?;
-    Ok(report_out(alloc, out, found))
+    Ok(report_out(alloc, out, found, count))
 }
 
-/// Returns the selection of output for `--fix`. It prints the number of rewritten literals, and not their lines.
-fn fixed_output(output: Output) -> Output
-    ensures { result ≡ output_of_fixed output }
+/// Returns the output of `--fix` for a file in which literals are rewritten: their number, the path, or nothing. `edits` is their
+/// number.
+fn fixed<A: Allocator>(
+    alloc: A,
+    output: Output,
+    nul: bool,
+    form: Form,
+    path: Option<&str>,
+    edits: usize,
+) -> Result<String<A>, AllocError>
+    ensures { IfOk result (λ out. string_bytes out ≡ fixed_of output nul form path.entry edits) }
 {
+    let mut line = String::new(alloc);
     match output {
-        Output::Lines => Output::Count,
-        _ => output,
+        Output::Lines | Output::Count => push_count_line(&mut line, nul, form, path, edits)?,
+        Output::Path => push_path_line(&mut line, nul, form, path)?,
+        Output::Nothing => {}
     }
+    Ok(line)
 }
 
 /// Replaces the file at `path`, and returns `out` as its output. If the file can't be replaced, the output is the reason.
@@ -119,13 +149,14 @@ fn report_replaced<A: Allocator + Copy, F: Replace>(
     text: &str,
     new: &str,
     out: Vec<u8, A>,
+    count: ChangeCount<A>,
 ) -> Result<Report<A>, AllocError>
-    ensures reports { IfOk result (λ r. ReportsAs (IsReplaced path.now text.now new.now out.items)
-        r (F.handed files.old) (F.handed files.new)) }
+    ensures reports { IfOk result (λ r. ReportsAs (IsReplaced path.now text.now new.now out.items
+        (count.literals, count.rules.items)) r (F.handed files.old) (F.handed files.new)) }
     ensures kept { OnErr result (F.handed files.new ≡ F.handed files.old) }
 {
     match files.replace(alloc, path, text.as_bytes(), new.as_bytes()) {
-        Ok(()) => Ok(report_out(alloc, out, false)),
+        Ok(()) => Ok(report_out(alloc, out, true, count)),
         Err(why) => report_error(alloc, path, why),
     }
 }
@@ -136,38 +167,29 @@ fn report_replaced<A: Allocator + Copy, F: Replace>(
 fn report_fixed<A: Allocator + Copy, F: Replace>(
     alloc: A,
     command: Command<'_>,
-    options: Options<'_>,
     files: &mut F,
     path: &str,
     named: Option<&str>,
     text: &str,
     restyled: Restyled<A>,
+    count: ChangeCount<A>,
 ) -> Result<Report<A>, AllocError>
-    requires { AreEditsIn (chars text.now) (map edit_in restyled.edits.items) }
-    ensures reports { IfOk result (λ r. ReportsAs (IsFixed command.entry options.entry path.now named.entry text.now
-        (string_bytes restyled.text) (map edit_in restyled.edits.items))
+    ensures reports { IfOk result (λ r. ReportsAs (IsFixed command.entry path.now named.entry text.now
+        (string_bytes restyled.text) (map edit_in restyled.edits.items) (count.literals, count.rules.items))
         r (F.handed files.old) (F.handed files.new)) }
     ensures kept { OnErr result (F.handed files.new ≡ F.handed files.old) }
 {
     if is_input(path) {
-        return Ok(report_out(alloc, restyled.text.into_bytes(), false));
+        let found = !restyled.edits.as_slice().is_empty();
+        return Ok(report_out(alloc, restyled.text.into_bytes(), found, count));
     }
     if restyled.edits.as_slice().is_empty() {
-        return Ok(report_out(alloc, Vec::new(alloc), false));
+        return Ok(report_out(alloc, Vec::new(alloc), false, count));
     }
-    let mut bare = options;
-    bare.context = None;
-    let lines = change_lines(alloc, bare, text, &restyled)?;
-    let output = fixed_output(command.output);
-    let out = written(
-        alloc,
-        output,
-        command.nul_after_paths,
-        command.form,
-        named,
-        lines,
-    )?;
-    report_replaced(alloc, files, path, text, restyled.text.as_str(), out)
+    let edits = restyled.edits.as_slice().len();
+    let nul = command.nul_after_paths;
+    let out = fixed(alloc, command.output, nul, command.form, named, edits)?.into_bytes();
+    report_replaced(alloc, files, path, text, restyled.text.as_str(), out, count)
 }
 
 /// Returns the output for a source and its rewritten form, for `--check`, `--diff` or `--fix`.
@@ -181,15 +203,16 @@ fn report_change<A: Allocator + Copy, F: Replace>(
     named: Option<&str>,
     text: &str,
     restyled: Restyled<A>,
+    count: ChangeCount<A>,
 ) -> Result<Report<A>, AllocError>
     requires { AreEditsIn (chars text.now) (map edit_in restyled.edits.items) }
     ensures reports { IfOk result (λ r. ReportsAs (IsChanged restyling command.entry options.entry path.now named.entry
-        text.now (string_bytes restyled.text) (map edit_in restyled.edits.items))
+        text.now (string_bytes restyled.text) (map edit_in restyled.edits.items) (count.literals, count.rules.items))
         r (F.handed files.old) (F.handed files.new)) }
     ensures kept { OnErr result (F.handed files.new ≡ F.handed files.old) }
 {
     match restyling {
-        Restyling::Check => report_checked(alloc, command, options, named, text, &restyled),
+        Restyling::Check => report_checked(alloc, command, options, named, text, &restyled, count),
         Restyling::Diff => report_compared(
             alloc,
             command,
@@ -197,8 +220,9 @@ fn report_change<A: Allocator + Copy, F: Replace>(
             named,
             text,
             restyled.text.as_str(),
+            count,
         ),
-        Restyling::Fix => report_fixed(alloc, command, options, files, path, named, text, restyled),
+        Restyling::Fix => report_fixed(alloc, command, files, path, named, text, restyled, count),
     }
 }
 
@@ -213,6 +237,7 @@ fn report_rejected<A: Allocator + Copy>(alloc: A, lines: Vec<u8, A>) -> Report<A
         read: true,
         found: false,
         count: 0,
+        rules: Vec::new(alloc),
     }
 }
 
@@ -256,6 +281,7 @@ fn report_script<A: Allocator + Copy>(
         read: true,
         found: false,
         count: 0,
+        rules: Vec::new(alloc),
     })
 }
 
@@ -287,8 +313,15 @@ pub(crate) fn report_restyled<A: Allocator + Copy, F: Replace>(
         Outcome::Script => report_script(alloc, restyling, path, text),
         Outcome::Restyled(restyled) => {
             let options = options_for(command, path, before);
+            let count = requested_change_count(
+                alloc,
+                command.prints_stats,
+                command.rules,
+                text,
+                restyled.edits.as_slice(),
+            )?;
             report_change(
-                alloc, command, restyling, options, files, path, named, text, restyled,
+                alloc, command, restyling, options, files, path, named, text, restyled, count,
             )
         }
     }

@@ -8,11 +8,13 @@ ghost use Rattle.rl_scan.specs.Runs.{both_tallies as both, has_errors, has_findi
 ghost use Rattle.rl_scan.specs.Stats.{tally_of};
 
 use crate::report::{Report, is_alarm};
+use crate::rule_counts::{rule_counts, rule_sums};
 use crate::stats::write_stats;
 use crate::visit_report::report_of;
 use rl_files::{Replace, Tree, Visit, Walk, WalkError};
 use rl_options::{Command, Restyling};
 use rl_program::{WriteError, write_bytes};
+use rl_restyle::RULES;
 use rl_sources::Shown;
 use std::alloc::Allocator;
 use std::io::Write;
@@ -37,6 +39,9 @@ pub struct Tally {
     pub with_findings: u64,
     /// The number of findings, or 0 if statistics aren't requested.
     pub findings: u64,
+    /// The number of literals that each rule changes, in the order of all rules. The numbers are 0 if literals aren't rewritten, or
+    /// if statistics aren't requested.
+    pub rules: [u64; RULES],
     /// The number of files and paths with an error.
     pub with_errors: u64,
 }
@@ -51,6 +56,7 @@ impl Tally {
             read: 0,
             with_findings: 0,
             findings: 0,
+            rules: rule_counts(&[]),
             with_errors: 0,
         }
     }
@@ -64,6 +70,7 @@ impl Tally {
             read: one_where_true(report.read),
             with_findings: one_where_true(report.found),
             findings: report.count as u64,
+            rules: rule_counts(report.rules.as_slice()),
             with_errors: one_where_true(report.has_error),
         }
     }
@@ -77,6 +84,7 @@ impl Tally {
             read: self.read.saturating_add(other.read),
             with_findings: self.with_findings.saturating_add(other.with_findings),
             findings: self.findings.saturating_add(other.findings),
+            rules: rule_sums(&self.rules, &other.rules),
             with_errors: self.with_errors.saturating_add(other.with_errors),
         }
     }

@@ -10,6 +10,7 @@ use navyspindle_programs::rattle_std::vec::Vec as List;
 use navyspindle_programs::rl_files::{MemoryReplacements, Visit};
 use navyspindle_programs::rl_options::parse_arguments;
 use navyspindle_programs::rl_output::{Extent, Form, LineColumn, Place, Position};
+use navyspindle_programs::rl_restyle::Rule;
 use navyspindle_programs::rl_scan::{push_change, push_diff, report_of, Command, Output};
 use one_text::OneText;
 
@@ -26,9 +27,16 @@ fn hunks(old: &str, new: &str) -> String {
     hunks.expect("a head").to_string()
 }
 
-fn change(form: Form, path: Option<&str>, place: &Place, old: &str, new: &str) -> String {
+fn change(
+    form: Form,
+    path: Option<&str>,
+    place: &Place,
+    old: &str,
+    new: &str,
+    rules: &[Rule],
+) -> String {
     let mut out = Line::new(Global);
-    push_change(Global, &mut out, form, path, place, old, new).expect("memory");
+    push_change(Global, &mut out, form, path, place, old, new, rules).expect("memory");
     out.as_str().to_string()
 }
 
@@ -101,8 +109,15 @@ fn paths_as_they_are_printed() {
 fn lines_of_changes() {
     let place = Place::Line(LineColumn { line: 3, column: 7 });
     assert_eq!(
-        change(Form::Plain, Some("a.rs"), &place, "0XFF", "0xff"),
-        "a.rs:3:7: 0XFF -> 0xff\n"
+        change(
+            Form::Plain,
+            Some("a.rs"),
+            &place,
+            "0XFF",
+            "0xff",
+            &[Rule::HexDigits]
+        ),
+        "a.rs:3:7: 0XFF -> 0xff [hex_digits]\n"
     );
     assert_eq!(
         change(
@@ -110,13 +125,14 @@ fn lines_of_changes() {
             None,
             &Place::Bytes(2, 9),
             "\"a\nb\"",
-            "\"\u{202e}\""
+            "\"\u{202e}\"",
+            &[Rule::DropQuoteEscapes, Rule::NamedEscapes, Rule::DropRaw]
         ),
-        "2..9 \"a\\nb\" -> \"<U+202E>\"\n"
+        "2..9 \"a\\nb\" -> \"<U+202E>\" [drop_quote_escapes, named_escapes, drop_raw]\n"
     );
     assert_eq!(
-        change(Form::Colored, Some("a.rs"), &place, "1", "2"),
-        "\x1b[35ma.rs\x1b[0m:\x1b[32m3:7\x1b[0m: 1 -> 2\n"
+        change(Form::Colored, Some("a.rs"), &place, "1", "2", &[]),
+        "\x1b[35ma.rs\x1b[0m:\x1b[32m3:7\x1b[0m: 1 -> 2 []\n"
     );
 }
 
@@ -135,17 +151,33 @@ fn changes_as_objects_and_annotations() {
     });
     let old = "'\\'\u{200b}50%\n'";
     assert_eq!(
-        change(Form::Json, Some("a:\u{202e}.rs"), &place, old, "\t\\"),
+        change(
+            Form::Json,
+            Some("a:\u{202e}.rs"),
+            &place,
+            old,
+            "\t\\",
+            &[Rule::FewestHashes, Rule::EscapeInvisible]
+        ),
         "{\"path\":\"a:\\u202e.rs\",\"lo\":20,\"hi\":29,\"line\":3,\"column\":7,\"end_line\":4,\"end_column\":2,\
-        \"byte_column\":8,\"end_byte_column\":3,\"text\":\"'\\\\'\\u200b50%\\n'\",\"new\":\"\\t\\\\\"}\n"
+        \"byte_column\":8,\"end_byte_column\":3,\"text\":\"'\\\\'\\u200b50%\\n'\",\"new\":\"\\t\\\\\",\
+        \"rules\":[\"fewest_hashes\",\"escape_invisible\"]}\n"
     );
     assert_eq!(
-        change(Form::Github, Some("./a:.rs"), &place, old, "\t\\"),
-        "::error file=a%3A.rs,line=3,endLine=4,col=7,endColumn=2,title=style::'\\'<U+200B>50%25\\n' -> \\t\\\n"
+        change(
+            Form::Github,
+            Some("./a:.rs"),
+            &place,
+            old,
+            "\t\\",
+            &[Rule::DecimalGroups]
+        ),
+        "::error file=a%3A.rs,line=3,endLine=4,col=7,endColumn=2,title=style::\
+        '\\'<U+200B>50%25\\n' -> \\t\\ [decimal_groups]\n"
     );
     assert_eq!(
-        change(Form::Github, None, &place, "", ""),
-        "::error line=3,endLine=4,col=7,endColumn=2,title=style:: -> \n"
+        change(Form::Github, None, &place, "", "", &[]),
+        "::error line=3,endLine=4,col=7,endColumn=2,title=style:: ->  []\n"
     );
 }
 
@@ -185,14 +217,16 @@ fn changes_of_a_source_as_objects() {
     assert_eq!(
         output("--check", json, "\u{200b}.rs", TEXT),
         "{\"path\":\"\\u200b.rs\",\"lo\":9,\"hi\":12,\"line\":1,\"column\":9,\"end_line\":1,\"end_column\":12,\
-        \"byte_column\":10,\"end_byte_column\":13,\"text\":\"1E5\",\"new\":\"1e5\"}\n\
+        \"byte_column\":10,\"end_byte_column\":13,\"text\":\"1E5\",\"new\":\"1e5\",\
+        \"rules\":[\"exponent_letter\"]}\n\
         {\"path\":\"\\u200b.rs\",\"lo\":16,\"hi\":26,\"line\":2,\"column\":3,\"end_line\":3,\"end_column\":3,\
-        \"byte_column\":3,\"end_byte_column\":4,\"text\":\"\\\"it\\\\'s\\nä\\\"\",\"new\":\"\\\"it's\\nä\\\"\"}\n"
+        \"byte_column\":3,\"end_byte_column\":4,\"text\":\"\\\"it\\\\'s\\nä\\\"\",\"new\":\"\\\"it's\\nä\\\"\",\
+        \"rules\":[\"drop_quote_escapes\"]}\n"
     );
     assert_eq!(
         output("--check", json, "-", "1E5"),
         "{\"lo\":0,\"hi\":3,\"line\":1,\"column\":1,\"end_line\":1,\"end_column\":4,\"byte_column\":1,\
-        \"end_byte_column\":4,\"text\":\"1E5\",\"new\":\"1e5\"}\n"
+        \"end_byte_column\":4,\"text\":\"1E5\",\"new\":\"1e5\",\"rules\":[\"exponent_letter\"]}\n"
     );
     assert_eq!(output("--check", json, "a.rs", "1e5"), "");
 }
@@ -202,16 +236,17 @@ fn changes_of_a_source_as_annotations() {
     let github = |command: &mut Command<'_>| command.form = Form::Github;
     assert_eq!(
         output("--check", github, "./\u{200b}.rs", TEXT),
-        "::error file=\\u{200b}.rs,line=1,endLine=1,col=9,endColumn=12,title=style::1E5 -> 1e5\n\
-        ::error file=\\u{200b}.rs,line=2,endLine=3,col=3,endColumn=3,title=style::\"it\\'s\\nä\" -> \"it's\\nä\"\n"
+        "::error file=\\u{200b}.rs,line=1,endLine=1,col=9,endColumn=12,title=style::1E5 -> 1e5 [exponent_letter]\n\
+        ::error file=\\u{200b}.rs,line=2,endLine=3,col=3,endColumn=3,title=style::\"it\\'s\\nä\" -> \"it's\\nä\" \
+        [drop_quote_escapes]\n"
     );
 }
 
 #[test]
 fn changes_of_a_source_with_context() {
     let around = |command: &mut Command<'_>| command.around = Some(1);
-    let first = "a.rs:1:9: 1E5 -> 1e5\n    let é = 1E5;\n            ^^^\n    f(\"it\\'s\n";
-    let second = "a.rs:2:3: \"it\\'s\\nä\" -> \"it's\\nä\"\n    let é = 1E5;\n    f(\"it\\'s\n      ^^^^^^\n    ä\", 2);\n";
+    let first = "a.rs:1:9: 1E5 -> 1e5 [exponent_letter]\n    let é = 1E5;\n            ^^^\n    f(\"it\\'s\n";
+    let second = "a.rs:2:3: \"it\\'s\\nä\" -> \"it's\\nä\" [drop_quote_escapes]\n    let é = 1E5;\n    f(\"it\\'s\n      ^^^^^^\n    ä\", 2);\n";
     assert_eq!(
         output("--check", around, "a.rs", TEXT),
         first.to_string() + second
@@ -219,7 +254,7 @@ fn changes_of_a_source_with_context() {
     let before = |command: &mut Command<'_>| command.before = Some(0);
     assert_eq!(
         output("--check", before, "-", "é 1E5\n"),
-        "3..6 1E5 -> 1e5\n    é 1E5\n      ^^^\n"
+        "3..6 1E5 -> 1e5 [exponent_letter]\n    é 1E5\n      ^^^\n"
     );
     let count = |command: &mut Command<'_>| {
         command.around = Some(1);

@@ -5,7 +5,7 @@ use Rattle.rl_scan.proofs.change.push_change_annotation.Goals as goal
 
 pub returns : goal.returns
 returns g c =
-    let says : chars c.as_str.result.now ≡ change_words (chars c.args.old.now) (chars c.args.new.now) =
+    let says : chars c.as_str.result.now ≡ change_words (chars c.args.old.now) (chars c.args.new.now) c.args.rules.now =
     ap chars c.as_str.ensures.value
     ∙ from_nothing _ _ _ c.new-words.ensures.bytes c.in_ok-push_change_words.ensures in
     rw (says, chars-nil) at c.push_annotation_end.ensures

@@ -9,7 +9,7 @@ use Rattle.rl_scan.proofs.changes.push_changes.Given as goal
 abbrev pub invariant-loop-edit : goal.invariant-loop-edit
 invariant-loop-edit g l =
     (l.places ≡ l.text) × AreEditsIn (chars l.text) (map edit_in l.rest)
-    × Told l.options (chars l.text) (map edit_in l.edits) (map edit_in l.rest)
+    × Told l.style l.options (chars l.text) (map edit_in l.edits) (map edit_in l.rest)
     (chars (string_bytes l.initial.out)) (chars (string_bytes l.out))
 
 abbrev pub decreases-loop-edit : goal.decreases-loop-edit

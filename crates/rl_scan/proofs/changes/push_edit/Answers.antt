@@ -30,11 +30,13 @@ push_context_of-requires-clause-lo g c = left c.displayed_place-place.new.places
     (rw c.displayed_place-place.ensures.same c.rest_at-rest.ensures)
 
 pub returns-clause-line : goal.returns-clause-line
-returns-clause-line g c = on_ok_weaker c.push_context_of.result (change_in_context c.args.options.now
+returns-clause-line g c = on_ok_weaker c.push_context_of.result (change_in_context c.args.style c.args.options.now
     c.displayed_place-place.new.places c.args.text.now (chars (string_bytes c.args.edit.now.text)) c.args.edit.now.lo
     c.args.edit.now.hi _ _ _ (c.displayed_place-place.ensures.same ∙ c.requires.places)
-    (change_told c.args.options.now c.args.places.now c.args.text.now c.requires.stands.0
-    (chars c.between-old.result.now) (chars (string_bytes c.args.edit.now.text)) c.args.edit.now.lo
-    c.args.edit.now.hi c.displayed_place-place.result _ _ c.requires.places c.displayed_place-place.ensures.place
-    c.requires.stands.1 (c.between-old.ensures c.requires.stands.0 c.requires.stands.1)
-    (rw c.as_str-new.ensures.value at c.in_ok-push_change.ensures))) c.push_context_of.ensures.context
+    (change_told c.args.style c.args.options.now c.args.places.now c.args.text.now c.requires.stands.0
+    (chars c.between-old.result.now) (chars (string_bytes c.args.edit.now.text)) c.in_ok-rules.rules.items
+    c.args.edit.now.lo c.args.edit.now.hi c.displayed_place-place.result _ _ c.requires.places
+    c.displayed_place-place.ensures.place c.requires.stands.1
+    (c.between-old.ensures c.requires.stands.0 c.requires.stands.1) c.in_ok-rules.ensures
+    (rw (c.as_str-new.ensures.value, c.as_slice.ensures.value) at c.in_ok-push_change.ensures)))
+    c.push_context_of.ensures.context

@@ -42,6 +42,12 @@ returns-in-Script-clause-reports g c =
     )) (unhanded (IsScriptReport c.args.restyling c.args.path.now c.args.text.now) c.report_script.result _ _ refl
     c.report_script.ensures)
 
+pub requested_change_count-count-requires : goal.requested_change_count-count-requires
+requested_change_count-count-requires g c = rw c.as_slice.ensures.value (stand_in c.args.command.rules
+    (macros_read c.args.command.macros) (chars c.args.text.now) (chars (string_bytes c.in-Restyled.restyled.text))
+    (map edit_in c.in-Restyled.restyled.edits.items)
+    ((rw (c.macros_for.ensures, c.in-Restyled.is) at c.in_ok-lines.ensures).2))
+
 pub report_change-requires : goal.report_change-requires
 report_change-requires g c = stand_in c.args.command.rules (macros_read c.args.command.macros) (chars c.args.text.now)
     (chars (string_bytes c.in-Restyled.restyled.text)) (map edit_in c.in-Restyled.restyled.edits.items)
@@ -51,7 +57,8 @@ pub returns-clause-reports : goal.returns-clause-reports
 returns-clause-reports g c =
     let outcome = rw (c.macros_for.ensures, c.in-Restyled.is) at c.in_ok-lines.ensures in reports_as
     (IsChanged c.args.restyling c.args.command c.options_for-options.result c.args.path.now c.path_in-named.result
-    c.args.text.now (string_bytes c.in-Restyled.restyled.text) (map edit_in c.in-Restyled.restyled.edits.items))
+    c.args.text.now (string_bytes c.in-Restyled.restyled.text) (map edit_in c.in-Restyled.restyled.edits.items)
+    (c.in_ok-count.count.literals, c.in_ok-count.count.rules.items))
     (IsRestyledReport c.args.restyling c.args.command c.args.path.now c.args.text.now) c.report_change.result _ _
     (λ f is. (
       c.source_check_options-checking.result,
@@ -69,8 +76,10 @@ returns-clause-reports g c =
           c.options_for-options.result,
           string_bytes c.in-Restyled.restyled.text,
           map edit_in c.in-Restyled.restyled.edits.items,
+          (c.in_ok-count.count.literals, c.in_ok-count.count.rules.items),
           IsUtf8-string_bytes c.in-Restyled.restyled.text,
           outcome.2,
+          rw c.as_slice.ensures.value at c.in_ok-count.ensures,
           c.options_for-options.ensures,
           is,
         ),

@@ -10,6 +10,7 @@ returns g c = record {
   read = refl;
   found = refl;
   count = refl;
+  rules = c.new.ensures.items;
   errors = rw c.into_bytes-2.ensures.value (script_reported c.args.path.now _ _ _
       (IsUtf8-string_bytes c.push_visible.new.out) c.in_ok-warning.ensures.ok c.in_ok-push_visible.ensures
       c.in_ok-writeln.ensures.bytes);

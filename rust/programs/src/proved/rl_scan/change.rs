@@ -6,6 +6,7 @@ use crate::rl_files::is_control_invisible_or_bidi;
 use crate::rl_output::{
     Form, Level, Place, push_annotation_end, push_ascii_str, push_line_start, push_member,
 };
+use crate::rl_restyle::Rule;
 use crate::rattle_std::alloc::{AllocError, Allocator};
 
 /// Appends the number of a character in angle brackets, as `<U+200B>`.
@@ -42,36 +43,75 @@ fn push_literal<A: Allocator>(out: &mut String<A>, literal: &str) -> Result<(), 
     Ok(())
 }
 
-/// Appends the old text of a rewritten literal, `->` and its new text.
+/// Appends `lead`, and the name of a rule between two marks.
+fn push_name<A: Allocator>(
+    out: &mut String<A>,
+    lead: &str,
+    mark: &str,
+    rule: Rule,
+) -> Result<(), AllocError> {
+    push_ascii_str(out, lead)?;
+    push_ascii_str(out, mark)?;
+    push_ascii_str(out, rule.name())?;
+    push_ascii_str(out, mark)
+}
+
+/// Appends the names of rules, each between two marks, with a separator between two names.
+fn push_names<A: Allocator>(
+    out: &mut String<A>,
+    separator: &str,
+    mark: &str,
+    rules: &[Rule],
+) -> Result<(), AllocError> {
+    let mut lead = "";
+    let mut rest = rules;
+    while let Some((rule, after)) = rest.split_first() {
+        push_name(out, lead, mark, *rule)?;
+        lead = separator;
+        rest = after;
+    }
+    Ok(())
+}
+
+/// Appends the old text of a rewritten literal, `->`, its new text, and the names of the rules that change it.
 fn push_change_words<A: Allocator>(
     out: &mut String<A>,
     old: &str,
     new: &str,
+    rules: &[Rule],
 ) -> Result<(), AllocError> {
     push_literal(out, old)?;
     push_ascii_str(out, " -> ")?;
-    push_literal(out, new)
+    push_literal(out, new)?;
+    push_ascii_str(out, " [")?;
+    push_names(out, ", ", "", rules)?;
+    push_ascii_str(out, "]")
 }
 
-/// Appends the old text of a rewritten literal, `->`, its new text and a line end.
+/// Appends the old text of a rewritten literal, `->`, its new text, the names of the rules that change it, and a line end.
 fn push_worded_change<A: Allocator>(
     out: &mut String<A>,
     old: &str,
     new: &str,
+    rules: &[Rule],
 ) -> Result<(), AllocError> {
-    push_change_words(out, old, new)?;
+    push_change_words(out, old, new, rules)?;
     push_ascii_str(out, "\n")
 }
 
-/// Appends the JSON members for a rewritten literal, `}` and a line end. The members are the old text and the new text.
+/// Appends the JSON members for a rewritten literal, `}` and a line end. The members are the old text, the new text, and
+/// the names of the rules that change the literal.
 fn push_change_members<A: Allocator>(
     out: &mut String<A>,
     old: &str,
     new: &str,
+    rules: &[Rule],
 ) -> Result<(), AllocError> {
     push_member(out, "text", old)?;
     push_member(out, "new", new)?;
-    push_ascii_str(out, "}\n")
+    push_ascii_str(out, ",\"rules\":[")?;
+    push_names(out, ",", "\"", rules)?;
+    push_ascii_str(out, "]}\n")
 }
 
 /// Appends a GitHub annotation's text after its position, for a rewritten literal.
@@ -80,32 +120,37 @@ fn push_change_annotation<A: Allocator + Copy>(
     out: &mut String<A>,
     old: &str,
     new: &str,
+    rules: &[Rule],
 ) -> Result<(), AllocError> {
     let mut words = String::new(alloc);
-    push_change_words(&mut words, old, new)?;
+    push_change_words(&mut words, old, new, rules)?;
     push_annotation_end(out, "style", words.as_str(), "")
 }
 
-/// Appends the output for a rewritten literal after its position: its old and its new text, JSON members, or an annotation's text.
+/// Appends the output for a rewritten literal after its position: its old and its new text and rules, JSON members, or an
+/// annotation's text.
 fn push_change_end<A: Allocator + Copy>(
     alloc: A,
     out: &mut String<A>,
     form: Form,
     old: &str,
     new: &str,
+    rules: &[Rule],
 ) -> Result<(), AllocError> {
     match form {
-        Form::Json => push_change_members(out, old, new),
-        Form::Github => push_change_annotation(alloc, out, old, new),
-        Form::Plain | Form::Colored => push_worded_change(out, old, new),
+        Form::Json => push_change_members(out, old, new, rules),
+        Form::Github => push_change_annotation(alloc, out, old, new, rules),
+        Form::Plain | Form::Colored => push_worded_change(out, old, new, rules),
     }
 }
 
-/// Appends the output for a literal that is rewritten: its position, its old text and its new text, in the format `form`.
+/// Appends the output for a literal that is rewritten: its position, its old text, its new text and the rules that change it, in
+/// the format `form`.
 ///
-/// A line of text has `->` between the old and the new text. In both texts, LF, CR and a tab are written as escapes. Another
-/// control, invisible or bidirectional character is written as its number, as in `<U+200B>`. So a character differs from its escape.
-/// The message of a GitHub annotation is the same text. A JSON object has both texts as JSON strings.
+/// A line of text has `->` between the old and the new text, and ends with the names of the rules in brackets. In both texts, LF, CR
+/// and a tab are written as escapes. Another control, invisible or bidirectional character is written as its number, as in
+/// `<U+200B>`. So a character differs from its escape. The message of a GitHub annotation is the same text. A JSON object has both
+/// texts as JSON strings, and the names of the rules as an array.
 ///
 /// # Errors
 ///
@@ -118,7 +163,8 @@ pub fn push_change<A: Allocator + Copy>(
     place: &Place,
     old: &str,
     new: &str,
+    rules: &[Rule],
 ) -> Result<(), AllocError> {
     push_line_start(out, Level::Error, form, path, place)?;
-    push_change_end(alloc, out, form, old, new)
+    push_change_end(alloc, out, form, old, new, rules)
 }

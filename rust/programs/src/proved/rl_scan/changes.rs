@@ -3,15 +3,18 @@
 
 use crate::rattle_std::prelude::{String};
 use crate::rl_scan::change::push_change;
+use crate::rl_scan::edit_rules::rules_of_edit;
 use crate::rl_output::Places;
 use crate::rl_restyle::{Edit, between};
 use crate::rl_sources::{Options, displayed_place, push_context_of};
+use crate::rl_style::Style;
 use crate::rattle_std::alloc::{AllocError, Allocator};
 
 /// Appends the output line for one rewritten literal of the source `text`, and the lines of context.
 fn push_edit<'t, A: Allocator + Copy, B: Allocator>(
     alloc: A,
     out: &mut String<A>,
+    style: Style,
     options: &Options<'_>,
     text: &'t str,
     places: &mut Places<'t>,
@@ -20,13 +23,23 @@ fn push_edit<'t, A: Allocator + Copy, B: Allocator>(
     let rest = places.rest_at(edit.lo);
     let place = displayed_place(options, places, rest, edit.lo, edit.hi);
     let old = between(text, edit.lo, edit.hi);
+    let rules = rules_of_edit(alloc, style, text, edit)?;
     let new = edit.text.as_str();
-    push_change(alloc, out, options.form, options.path, &place, old, new)?;
+    push_change(
+        alloc,
+        out,
+        options.form,
+        options.path,
+        &place,
+        old,
+        new,
+        rules.as_slice(),
+    )?;
     push_context_of(out, options, places, rest, edit.lo, edit.hi)
 }
 
 /// Appends an output line for each rewritten literal of the source `text`, and the lines of context below each. `edits` are the
-/// changes of its literals, in order.
+/// changes of its literals in the style, in order.
 ///
 /// # Errors
 ///
@@ -34,6 +47,7 @@ fn push_edit<'t, A: Allocator + Copy, B: Allocator>(
 pub fn push_changes<A: Allocator + Copy, B: Allocator>(
     alloc: A,
     out: &mut String<A>,
+    style: Style,
     options: Options<'_>,
     text: &str,
     edits: &[Edit<B>],
@@ -41,7 +55,7 @@ pub fn push_changes<A: Allocator + Copy, B: Allocator>(
     let mut places = Places::new(text);
     let mut rest = edits;
     while let Some((edit, after)) = rest.split_first() {
-        push_edit(alloc, out, &options, text, &mut places, edit)?;
+        push_edit(alloc, out, style, &options, text, &mut places, edit)?;
         rest = after;
     }
     Ok(())

@@ -6,7 +6,7 @@ use crate::rl_scan::stats::requested_count;
 use crate::rl_files::{PathError, push_visible};
 use crate::rl_options::{Command, Output, PlaceForm, asks_context, path_hint, visible_text};
 use crate::rl_output::{LineColumn, count_line_feeds};
-use crate::rl_restyle::Macros;
+use crate::rl_restyle::{Macros, Rule};
 use crate::rl_sources::{
     Context, Edition, Form, Options, Paint, Place, ScanError, Shown, is_json, push_painted,
     push_source_error, scan,
@@ -29,6 +29,9 @@ pub struct Report<A: Allocator = Global> {
     pub found: bool,
     /// The number of findings, or 0 if statistics aren't requested.
     pub count: usize,
+    /// If literals are rewritten and statistics are requested, the rules that change the literals. A rule that changes several
+    /// literals occurs once for each of them.
+    pub rules: Vec<Rule, A>,
 }
 
 /// The output lines for a source, and an error of the source that isn't in these lines.
@@ -189,7 +192,7 @@ fn after_path(nul: bool, usual: &str) -> &str {
 }
 
 /// Appends the line with the number of output lines of a file, with the path if there is one.
-fn push_count_line<A: Allocator>(
+pub(crate) fn push_count_line<A: Allocator>(
     out: &mut String<A>,
     nul: bool,
     form: Form,
@@ -207,7 +210,7 @@ fn push_count_line<A: Allocator>(
 }
 
 /// Appends the path of a file, or `-` without a path, with a line end or a NUL.
-fn push_path_line<A: Allocator>(
+pub(crate) fn push_path_line<A: Allocator>(
     out: &mut String<A>,
     nul: bool,
     form: Form,
@@ -276,6 +279,7 @@ pub(crate) fn report_text<A: Allocator + Copy>(
         read: true,
         found,
         count,
+        rules: Vec::new(alloc),
     })
 }
 
@@ -313,6 +317,7 @@ pub(crate) fn report_error<A: Allocator + Copy>(
         read: false,
         found: false,
         count: 0,
+        rules: Vec::new(alloc),
     })
 }
 
@@ -347,5 +352,6 @@ pub(crate) fn report_listed<A: Allocator + Copy>(
         read: false,
         found: true,
         count: 0,
+        rules: Vec::new(alloc),
     })
 }

@@ -2,38 +2,54 @@
 //! Creates the output for a source whose literals are rewritten.
 
 use crate::rattle_std::prelude::{String, Vec};
+use crate::rl_scan::edit_rules::{ChangeCount, requested_change_count};
 use crate::rl_scan::report::{
-    Report, edition_for, is_by_line, is_input, options_for, path_before, path_in, report_error,
-    written,
+    Report, edition_for, is_by_line, is_input, options_for, path_before, path_in, push_count_line,
+    push_path_line, report_error, written,
 };
 use crate::rl_scan::{Outcome, push_changes, push_diff, rewrite_outcome, source_check_options};
 use crate::rl_files::{Replace, push_visible};
 use crate::rl_options::{Command, Output, Restyling, visible_text};
 use crate::rl_restyle::{Macros, Restyled};
-use crate::rl_sources::Options;
+use crate::rl_sources::{Form, Options};
+use crate::rl_style::Style;
 use crate::rattle_std::alloc::{AllocError, Allocator};
 
-/// Returns a report with the bytes `out` for standard output, and nothing for standard error.
-fn report_out<A: Allocator + Copy>(alloc: A, out: Vec<u8, A>, found: bool) -> Report<A> {
+/// Returns a report with the bytes `out` for standard output, the counts of changes, and nothing for standard error.
+fn report_out<A: Allocator + Copy>(
+    alloc: A,
+    out: Vec<u8, A>,
+    found: bool,
+    count: ChangeCount<A>,
+) -> Report<A> {
     Report {
         out,
         errors: Vec::new(alloc),
         has_error: false,
         read: true,
         found,
-        count: 0,
+        count: count.literals,
+        rules: count.rules,
     }
 }
 
 /// Returns an output line for each rewritten literal of a source, and the lines of context below each.
 fn change_lines<A: Allocator + Copy>(
     alloc: A,
+    style: Style,
     options: Options<'_>,
     text: &str,
     restyled: &Restyled<A>,
 ) -> Result<Vec<u8, A>, AllocError> {
     let mut lines = String::new(alloc);
-    push_changes(alloc, &mut lines, options, text, restyled.edits.as_slice())?;
+    push_changes(
+        alloc,
+        &mut lines,
+        style,
+        options,
+        text,
+        restyled.edits.as_slice(),
+    )?;
     Ok(lines.into_bytes())
 }
 
@@ -45,8 +61,9 @@ fn report_checked<A: Allocator + Copy>(
     path: Option<&str>,
     text: &str,
     restyled: &Restyled<A>,
+    count: ChangeCount<A>,
 ) -> Result<Report<A>, AllocError> {
-    let lines = change_lines(alloc, options, text, restyled)?;
+    let lines = change_lines(alloc, command.rules, options, text, restyled)?;
     let out = written(
         alloc,
         command.output,
@@ -55,7 +72,7 @@ fn report_checked<A: Allocator + Copy>(
         path,
         lines,
     )?;
-    Ok(report_out(alloc, out, !restyled.edits.is_empty()))
+    Ok(report_out(alloc, out, !restyled.edits.is_empty(), count))
 }
 
 /// Returns the output of `--diff`: the diff of a source and its rewritten form.
@@ -66,6 +83,7 @@ fn report_compared<A: Allocator + Copy>(
     named: Option<&str>,
     text: &str,
     new: &str,
+    count: ChangeCount<A>,
 ) -> Result<Report<A>, AllocError> {
     let mut lines = String::new(alloc);
     push_diff(&mut lines, path, text, new)?;
@@ -79,15 +97,26 @@ fn report_compared<A: Allocator + Copy>(
         named,
         lines,
     )?;
-    Ok(report_out(alloc, out, found))
+    Ok(report_out(alloc, out, found, count))
 }
 
-/// Returns the selection of output for `--fix`. It prints the number of rewritten literals, and not their lines.
-fn fixed_output(output: Output) -> Output {
+/// Returns the output of `--fix` for a file in which literals are rewritten: their number, the path, or nothing. `edits` is their
+/// number.
+fn fixed<A: Allocator>(
+    alloc: A,
+    output: Output,
+    nul: bool,
+    form: Form,
+    path: Option<&str>,
+    edits: usize,
+) -> Result<String<A>, AllocError> {
+    let mut line = String::new(alloc);
     match output {
-        Output::Lines => Output::Count,
-        _ => output,
+        Output::Lines | Output::Count => push_count_line(&mut line, nul, form, path, edits)?,
+        Output::Path => push_path_line(&mut line, nul, form, path)?,
+        Output::Nothing => {}
     }
+    Ok(line)
 }
 
 /// Replaces the file at `path`, and returns `out` as its output. If the file can't be replaced, the output is the reason.
@@ -98,9 +127,10 @@ fn report_replaced<A: Allocator + Copy, F: Replace>(
     text: &str,
     new: &str,
     out: Vec<u8, A>,
+    count: ChangeCount<A>,
 ) -> Result<Report<A>, AllocError> {
     match files.replace(alloc, path, text.as_bytes(), new.as_bytes()) {
-        Ok(()) => Ok(report_out(alloc, out, false)),
+        Ok(()) => Ok(report_out(alloc, out, true, count)),
         Err(why) => report_error(alloc, path, why),
     }
 }
@@ -111,32 +141,24 @@ fn report_replaced<A: Allocator + Copy, F: Replace>(
 fn report_fixed<A: Allocator + Copy, F: Replace>(
     alloc: A,
     command: Command<'_>,
-    options: Options<'_>,
     files: &mut F,
     path: &str,
     named: Option<&str>,
     text: &str,
     restyled: Restyled<A>,
+    count: ChangeCount<A>,
 ) -> Result<Report<A>, AllocError> {
     if is_input(path) {
-        return Ok(report_out(alloc, restyled.text.into_bytes(), false));
+        let found = !restyled.edits.as_slice().is_empty();
+        return Ok(report_out(alloc, restyled.text.into_bytes(), found, count));
     }
     if restyled.edits.as_slice().is_empty() {
-        return Ok(report_out(alloc, Vec::new(alloc), false));
+        return Ok(report_out(alloc, Vec::new(alloc), false, count));
     }
-    let mut bare = options;
-    bare.context = None;
-    let lines = change_lines(alloc, bare, text, &restyled)?;
-    let output = fixed_output(command.output);
-    let out = written(
-        alloc,
-        output,
-        command.nul_after_paths,
-        command.form,
-        named,
-        lines,
-    )?;
-    report_replaced(alloc, files, path, text, restyled.text.as_str(), out)
+    let edits = restyled.edits.as_slice().len();
+    let nul = command.nul_after_paths;
+    let out = fixed(alloc, command.output, nul, command.form, named, edits)?.into_bytes();
+    report_replaced(alloc, files, path, text, restyled.text.as_str(), out, count)
 }
 
 /// Returns the output for a source and its rewritten form, for `--check`, `--diff` or `--fix`.
@@ -150,9 +172,10 @@ fn report_change<A: Allocator + Copy, F: Replace>(
     named: Option<&str>,
     text: &str,
     restyled: Restyled<A>,
+    count: ChangeCount<A>,
 ) -> Result<Report<A>, AllocError> {
     match restyling {
-        Restyling::Check => report_checked(alloc, command, options, named, text, &restyled),
+        Restyling::Check => report_checked(alloc, command, options, named, text, &restyled, count),
         Restyling::Diff => report_compared(
             alloc,
             command,
@@ -160,8 +183,9 @@ fn report_change<A: Allocator + Copy, F: Replace>(
             named,
             text,
             restyled.text.as_str(),
+            count,
         ),
-        Restyling::Fix => report_fixed(alloc, command, options, files, path, named, text, restyled),
+        Restyling::Fix => report_fixed(alloc, command, files, path, named, text, restyled, count),
     }
 }
 
@@ -174,6 +198,7 @@ fn report_rejected<A: Allocator + Copy>(alloc: A, lines: Vec<u8, A>) -> Report<A
         read: true,
         found: false,
         count: 0,
+        rules: Vec::new(alloc),
     }
 }
 
@@ -211,6 +236,7 @@ fn report_script<A: Allocator + Copy>(
         read: true,
         found: false,
         count: 0,
+        rules: Vec::new(alloc),
     })
 }
 
@@ -238,8 +264,15 @@ pub(crate) fn report_restyled<A: Allocator + Copy, F: Replace>(
         Outcome::Script => report_script(alloc, restyling, path, text),
         Outcome::Restyled(restyled) => {
             let options = options_for(command, path, before);
+            let count = requested_change_count(
+                alloc,
+                command.prints_stats,
+                command.rules,
+                text,
+                restyled.edits.as_slice(),
+            )?;
             report_change(
-                alloc, command, restyling, options, files, path, named, text, restyled,
+                alloc, command, restyling, options, files, path, named, text, restyled, count,
             )
         }
     }

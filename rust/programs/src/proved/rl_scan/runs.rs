@@ -2,11 +2,13 @@
 //! Runs a command over all files of a walk.
 
 use crate::rl_scan::report::{Report, is_alarm};
+use crate::rl_scan::rule_counts::{rule_counts, rule_sums};
 use crate::rl_scan::stats::write_stats;
 use crate::rl_scan::visit_report::report_of;
 use crate::rl_files::{Replace, Tree, Visit, Walk, WalkError};
 use crate::rl_options::{Command, Restyling};
 use crate::rl_program::{WriteError, write_bytes};
+use crate::rl_restyle::RULES;
 use crate::rl_sources::Shown;
 use crate::rattle_std::alloc::Allocator;
 use crate::rattle_std::io::Write;
@@ -31,6 +33,9 @@ pub struct Tally {
     pub with_findings: u64,
     /// The number of findings, or 0 if statistics aren't requested.
     pub findings: u64,
+    /// The number of literals that each rule changes, in the order of all rules. The numbers are 0 if literals aren't rewritten, or
+    /// if statistics aren't requested.
+    pub rules: [u64; RULES],
     /// The number of files and paths with an error.
     pub with_errors: u64,
 }
@@ -43,6 +48,7 @@ impl Tally {
             read: 0,
             with_findings: 0,
             findings: 0,
+            rules: rule_counts(&[]),
             with_errors: 0,
         }
     }
@@ -54,6 +60,7 @@ impl Tally {
             read: one_where_true(report.read),
             with_findings: one_where_true(report.found),
             findings: report.count as u64,
+            rules: rule_counts(report.rules.as_slice()),
             with_errors: one_where_true(report.has_error),
         }
     }
@@ -65,6 +72,7 @@ impl Tally {
             read: self.read.saturating_add(other.read),
             with_findings: self.with_findings.saturating_add(other.with_findings),
             findings: self.findings.saturating_add(other.findings),
+            rules: rule_sums(&self.rules, &other.rules),
             with_errors: self.with_errors.saturating_add(other.with_errors),
         }
     }
