@@ -43,7 +43,8 @@ def with_streams(source, call):
 
 # Options for the printed literals, their form, the count of lines, and more. A word without hyphens needs an argument.
 WHICH = [[], [], [], ['--bad'], ['--bad'], ['--invisible'], ['--invisible'], ['only'], ['find'], ['find', '-i'], ['find', 'only', '-w'],
-         ['--check'], ['--diff'], ['--check', '--macros=all']]
+         ['--check'], ['--diff'], ['--check', '--macros=all'], ['--bad', 'allow'], ['--bad', 'allow', 'allow', '--no-stray'],
+         ['--invisible', 'allow'], ['--invisible', 'allow', 'allow']]
 FORMS = [[], [], [], ['--lines'], ['--bytes'], ['--text'], ['--json'], ['--json', '--lines'], ['--text', '--bytes']]
 COUNTS = [[]] * 20 + [['-c'], ['--count'], ['-l'], ['--files-with-matches'], ['-q'], ['--quiet'], ['-iw'], ['-lq']]
 MORE = [[]] * 5 + [['--no-stray'], ['color'], ['color'], ['color', '--no-stray'], ['--all'], ['extension'], ['--stats']]
@@ -52,13 +53,15 @@ TAKEN = {
     'find': ['a', 'room', 'o', 'b', '\n', '\u00e9', '\\', '"', ' ', '=', '-', '1', '\u202e', '\U0001f600', '114', 'a=b'],
     'color': ['always', 'always', 'never', 'auto'],
     'extension': ['rs', 'txt', '', '.rs'],
+    'allow': ['unknown-escape', 'unknown-suffix', 'not-ascii', 'stray-character', 'U+202E', 'U+202e', 'joiner', 'bidirectional-character'],
 }
-SHORT = {'only': '--only', 'find': '-e', 'color': '--color', 'extension': '--extension'}
+SHORT = {'only': '--only', 'find': '-e', 'color': '--color', 'extension': '--extension', 'allow': '--allow'}
 # Invalid options, and valid ones that exclude others.
 WRONG = [
     '--nope', '-x', '-b', '-cl', '-cb', '-kStr', '-ea', '-lea', '-\u00e9', '--hiden', '--fnid', b'-\xff', '---', '--BAD', '--col', '--bad=x', '--json=1', '--lines=',
     '--only', '-k', '--only=', '--only=Str,', '--only=x', '--only:Str', '--find', '-e', '--find=', b'--find=\xff',
-    '--generate', '--generate=man', '--generate=x', '--color', '--color=x', '--color=', '--bad', '--invisible', '--extension', '-h', '--help', '-V', '--version', '--', '-',
+    '--allow', '--allow=', '--allow=U+', '--allow=unclosed-quote', '--generate', '--generate=man', '--generate=x',
+    '--color', '--color=x', '--color=', '--bad', '--invisible', '--extension', '-h', '--help', '-V', '--version', '--', '-',
 ]
 
 

@@ -11,11 +11,11 @@ use Rattle.rl_options.specs.Options.{options}
 use Rattle.rl_options.specs.Wishes.{wishes_of}
 
 -- Whether an option has an effect doesn't depend on the texts, file extensions, patterns, lists and paths of the command line.
-pub same_options : (command : Command) (finds extensions excludes lists settings paths : List (List ℕ))
-    → option_without_effect (wishes_of command finds extensions excludes lists settings paths)
-    ≡ option_without_effect (wishes_of command [] [] [] [] [] [])
+pub same_options : (command : Command) (finds extensions excludes lists settings allowed paths : List (List ℕ))
+    → option_without_effect (wishes_of command finds extensions excludes lists settings allowed paths)
+    ≡ option_without_effect (wishes_of command [] [] [] [] [] [] [])
 unfolding option_without_effect options
-same_options command finds extensions excludes lists settings paths = refl
+same_options command finds extensions excludes lists settings allowed paths = refl
 
 -- A test of the elements of a list is a test of their texts.
 pub any_text : {X : Type 0} (text : X → List ℕ) (q : List ℕ → Bool) (xs : List X)

@@ -7,3 +7,4 @@ pub mod RulesLemmas
 pub mod ClashLemmas
 pub mod OptionLemmas
 pub mod SettingLemmas
+pub mod AllowedLemmas

@@ -17,7 +17,8 @@ use Rattle.rl_options.specs.Options.{effect_lettered, effect_named, name_meant, 
 abbrev pub entry_of : OptionRow → OptionEntry
 entry_of row = record { name = row.name.now; letter = row.letter; effect = row.effect; modes = row.modes }
 
-find_map : {X Y : Type 0} (f : X → Y) (q : Y → Bool) (xs : List X) → option_map f (find (λ x. q (f x)) xs)
+-- A search in a list of images finds the image of what a search in the list finds.
+pub find_map : {X Y : Type 0} (f : X → Y) (q : Y → Bool) (xs : List X) → option_map f (find (λ x. q (f x)) xs)
     ≡ find q (map f xs)
 find_map f q [] = refl
 find_map f q (x ∷ xs) = go (find_map f q xs) (q (f x))

@@ -5,6 +5,7 @@ pub mod Hints
 pub mod Flags
 pub mod Wishes
 pub mod Modes
+pub mod Allowed
 pub mod Clashes
 pub mod Words
 pub mod Listed

@@ -74,6 +74,12 @@ abbrev pub is_bad_mode : Mode → Bool
 is_bad_mode mode.Bad = true
 is_bad_mode _ = false
 
+-- The mode is `--bad` or `--invisible`.
+abbrev pub is_bad_or_invisible : Mode → Bool
+is_bad_or_invisible mode.Bad = true
+is_bad_or_invisible mode.Invisible = true
+is_bad_or_invisible _ = false
+
 -- The mode is `--find`.
 abbrev pub is_find_mode : Mode → Bool
 is_find_mode mode.Find = true
@@ -96,6 +102,7 @@ is_in m modes.Listing = lists_findings m
 is_in m modes.Printing = not (rewrites m)
 is_in m modes.Rewriting = rewrites m
 is_in m modes.BadOrRewriting = rewrites m || is_bad_mode m
+is_in m modes.BadOrInvisible = is_bad_or_invisible m
 
 -- In the mode, the help, the version, the rules of a style, or a text for another program is printed.
 abbrev pub is_help_mode : Mode → Bool
@@ -177,6 +184,7 @@ has_operand takes.After w = is_some w.after
 has_operand takes.Style w = is_some w.style
 has_operand takes.Rule w = w.sets_rules
 has_operand takes.Macros w = is_some w.macros
+has_operand takes.Allowed w = w.allows
 has_operand _ w = false
 
 -- The command has the option. For an option that has an effect in all modes, the result is false.
@@ -217,3 +225,4 @@ modes_hint modes.Listing = codes "use a mode other than --fix and --diff"
 modes_hint modes.Printing = codes "use only one of them"
 modes_hint modes.Rewriting = codes "use --fix, --check or --diff"
 modes_hint modes.BadOrRewriting = codes "use --bad, --fix, --check or --diff"
+modes_hint modes.BadOrInvisible = codes "use --bad or --invisible"

@@ -61,6 +61,7 @@ options =
     option_entry (codes "--style") None (Takes takes.Style) modes.Rewriting ∷
     option_entry (codes "--rule") None (Takes takes.Rule) modes.Rewriting ∷
     option_entry (codes "--macros") None (Takes takes.Macros) modes.BadOrRewriting ∷
+    option_entry (codes "--allow") None (Takes takes.Allowed) modes.BadOrInvisible ∷
     option_entry (codes "--rules") None (Sets Rules) modes.All ∷
     option_entry (codes "--generate") None (Takes takes.Generated) modes.All ∷
     option_entry (codes "--help") (Some (code "h")) (Sets Help) modes.All ∷

@@ -63,6 +63,8 @@ pub record Wishes : Type 0 where
   pub sets_rules : Bool
   pub settings : List (List ℕ)
   pub macros : Option AnyMacros
+  pub allows : Bool
+  pub allowed : List (List ℕ)
   pub extensions : List (List ℕ)
   pub excludes : List (List ℕ)
   pub files_from : List (List ℕ)
@@ -96,6 +98,8 @@ first_wishes has_colors = record {
   sets_rules = false;
   settings = [];
   macros = None;
+  allows = false;
+  allowed = [];
   extensions = [];
   excludes = [];
   files_from = [];
@@ -115,8 +119,8 @@ style_of (Some file) = Some file.now
 
 -- The command, from the values in the program.
 abbrev pub wishes_of : Command → List (List ℕ) → List (List ℕ) → List (List ℕ) → List (List ℕ) → List (List ℕ)
-    → List (List ℕ) → Wishes
-wishes_of command finds extensions excludes lists settings paths = record {
+    → List (List ℕ) → List (List ℕ) → Wishes
+wishes_of command finds extensions excludes lists settings allowed paths = record {
   action = command.action;
   wanted = wanted_of command.shown;
   searches = command.searches;
@@ -142,6 +146,8 @@ wishes_of command finds extensions excludes lists settings paths = record {
   sets_rules = command.sets_rules;
   settings = settings;
   macros = command.macros;
+  allows = command.allows;
+  allowed = allowed;
   extensions = extensions;
   excludes = excludes;
   files_from = lists;
@@ -150,5 +156,5 @@ wishes_of command finds extensions excludes lists settings paths = record {
 
 abbrev pub wishes_in : {A : Type 0} → ParsedArguments A → Wishes
 wishes_in asked = wishes_of asked.command (borrowed_texts asked.finds.items) (borrowed_texts asked.extensions.items)
-    (borrowed_texts asked.excludes.items) (borrowed_texts asked.lists.items) (borrowed_texts asked.settings.items)
+    (borrowed_texts asked.excludes.items) (borrowed_texts asked.lists.items) (borrowed_texts asked.settings.items) (borrowed_texts asked.allowed.items)
     (string_texts asked.paths.items)

@@ -24,11 +24,12 @@ use Rattle.rl_options.specs.declared.flags.Next.{Next}
 use Rattle.rl_options.specs.declared.flags.Next.TheVariants as next
 use Rattle.rl_options.specs.declared.flags.When.{When}
 use Rattle.rl_options.specs.declared.argument_error.ArgumentError.{ArgumentError}
-use Rattle.rl_options.specs.declared.argument_error.ArgumentError.TheVariants.{Memory, UnknownOption, UnknownLetter, NoValue, UnknownKind, NoKinds, TwoChoices, NoText, EmptyText, BadAndFind, TextlessKinds, ObjectsOfPaths, StatsOfPaths, TwoRestylings, NoEffect, InputTwice, TwoStyles, NoStyle, NoRule, NoMacros, UnknownMacros, NoGenerated, UnknownGenerated, NoColor, UnknownColor, NoExtension, NoPattern, EmptyPattern, OtherPattern, UselessPattern, UnknownExtension, NoList, NoEdition, UnknownEdition, NoFormat, UnknownFormat, NoCount, UnknownCount}
+use Rattle.rl_options.specs.declared.argument_error.ArgumentError.TheVariants.{Memory, UnknownOption, UnknownLetter, NoValue, UnknownKind, NoKinds, TwoChoices, NoText, EmptyText, BadAndFind, TextlessKinds, ObjectsOfPaths, StatsOfPaths, TwoRestylings, NoEffect, InputTwice, TwoStyles, NoStyle, NoRule, NoMacros, UnknownMacros, NoAllowed, UnknownAllowed, UnclosedAllowed, NoGenerated, UnknownGenerated, NoColor, UnknownColor, NoExtension, NoPattern, EmptyPattern, OtherPattern, UselessPattern, UnknownExtension, NoList, NoEdition, UnknownEdition, NoFormat, UnknownFormat, NoCount, UnknownCount}
 use Rattle.rl_options.specs.Meant.{option_part}
 use Rattle.rl_options.specs.Flags.{AreKindWords, IsCountWord, IsSide, IsUnknownKind, color_word, colored_form, edition_word, format_word, formatted, generated_word, has_other_mark, is_more_than_extension, matches_nothing, is_path_word, macros_word, recolored}
 use Rattle.rl_options.specs.Wishes.{AllWanted, BadWanted, HiddenWanted, OnlyWanted, Wishes, first_wishes}
 use Rattle.rl_options.specs.Clashes.{GoTogether, IsFirstClash}
+use Rattle.rl_options.specs.Allowed.{IsUnknownAllowed, first_unknown}
 
 -- The option may be added: `--bad`, `--invisible` and `--only` only if the command has none of them.
 abbrev pub IsAllowed : Effect → Wishes → Type 0
@@ -114,6 +115,9 @@ with_list file w = record w { files_from = w.files_from ++ file ∷ [] }
 abbrev pub with_setting : List ℕ → Wishes → Wishes
 with_setting setting w = record w { sets_rules = true; settings = w.settings ++ setting ∷ [] }
 
+abbrev pub with_allowed : List ℕ → Wishes → Wishes
+with_allowed id w = record w { allows = true; allowed = w.allowed ++ id ∷ [] }
+
 -- The file extension without the dot at its start, if there is one.
 abbrev pub IsWithoutDot : List ℕ → List ℕ → Type 0
 IsWithoutDot text extension =
@@ -153,6 +157,7 @@ IsTaken has_colors takes.Style old file new = new ≡ record old { style = Some 
 IsTaken has_colors takes.Rule old setting new = new ≡ with_setting setting old
 IsTaken has_colors takes.Macros old word new =
     (macros : AnyMacros) × (word ≡ macros_word macros) × (new ≡ record old { macros = Some macros })
+IsTaken has_colors takes.Allowed old id new = new ≡ with_allowed id old
 IsTaken has_colors takes.Generated old word new =
     (which : AnyGenerated) × (word ≡ generated_word which) × (new ≡ record old { action = action.Generate which })
 
@@ -198,6 +203,7 @@ abbrev pub Asks : Bool → List (List ℕ) → Wishes → Type 0
 Asks has_colors words wishes =
     (then : Next) × AskSoFar has_colors words then wishes
     × ((operand : Operand) → then ≢ next.Operand operand) × GoTogether wishes
+    × (first_unknown wishes.wanted wishes.allowed ≡ None)
 
 -- The message of an error in the command-line arguments.
 abbrev pub word_message : {A : Type 0} → ArgumentError A → List ℕ
@@ -235,6 +241,13 @@ word_message NoStyle = codes "--style needs a value, such as --style style.txt"
 word_message NoRule = codes "--rule needs a value, such as --rule fewest_hashes: rl_scan --rules lists all rules"
 word_message NoMacros = codes "--macros needs a value: skip or all"
 word_message (UnknownMacros word) = codes "unknown value '" ++ (string_bytes word ++ codes "' of --macros: expected skip or all")
+word_message NoAllowed = codes "--allow needs a value, such as --allow unknown-suffix"
+word_message (UnknownAllowed id None hint) =
+    codes "unknown id '" ++ (string_bytes id ++ (codes "' of --allow: " ++ hint.now))
+word_message (UnknownAllowed id (Some meant) hint) =
+    codes "unknown id '" ++ (string_bytes id ++ (codes "' of --allow: did you mean '" ++ (meant.now ++ codes "'?")))
+word_message (UnclosedAllowed id) =
+    codes "--allow can't leave out " ++ (string_bytes id ++ codes ": the rest of the file isn't read")
 word_message NoGenerated = codes "--generate needs a value: man, bash, zsh, fish, sarif-jq or problem-matcher"
 word_message (UnknownGenerated word) =
     codes "unknown value '" ++ (string_bytes word
@@ -385,15 +398,22 @@ IsMissing takes.After error = error ≡ NoCount
 IsMissing takes.Style error = error ≡ NoStyle
 IsMissing takes.Rule error = error ≡ NoRule
 IsMissing takes.Macros error = error ≡ NoMacros
+IsMissing takes.Allowed error = error ≡ NoAllowed
 IsMissing takes.Generated error = error ≡ NoGenerated
 
--- The error in the command-line arguments: an argument is invalid, an option's value is missing at the end, or options contradict
--- each other.
+-- The error of all arguments together: options contradict each other, or else `--allow` has a value without an effect in the mode of
+-- the command.
+abbrev pub IsClashAtEnd : {A : Type 0} → Wishes → ArgumentError A → Type 0
+IsClashAtEnd wishes error =
+    IsFirstClash wishes error ⊎ (GoTogether wishes × IsUnknownAllowed wishes.wanted wishes.allowed error)
+
+-- The error in the command-line arguments: an argument is invalid, an option's value is missing at the end, or all arguments together
+-- have an error.
 abbrev pub AreRejected : {A : Type 0} → Bool → List (List ℕ) → ArgumentError A → Type 0
 AreRejected has_colors words error =
     ((operand : Operand) × (old : Wishes) × IsMissing operand error
     × AskSoFar has_colors words (next.Operand operand) old)
-    ⊎ ((then : Next) × (wishes : Wishes) × AskSoFar has_colors words then wishes × IsFirstClash wishes error)
+    ⊎ ((then : Next) × (wishes : Wishes) × AskSoFar has_colors words then wishes × IsClashAtEnd wishes error)
     ⊎ ((before after : List (List ℕ)) × (word : List ℕ) × (first : Next) × (old : Wishes)
     × (words ≡ before ++ word ∷ after) × AskSoFar has_colors before first old
     × IsRejectedWord has_colors first old word error)

@@ -49,6 +49,13 @@ pub enum ArgumentError<A: Allocator = Global> {
     NoMacros,
     /// The value of `--macros` is unknown.
     UnknownMacros(String<A>),
+    /// `--allow` is the last argument, without its value.
+    NoAllowed,
+    /// The value of `--allow` is no identifier of these findings, and no number of a character for `--invisible`. The fields are the
+    /// value, the identifier that was likely meant, and advice.
+    UnknownAllowed(String<A>, Option<&'static str>, &'static str),
+    /// The value of `--allow` is the identifier of an error at which reading ends. The field is the value.
+    UnclosedAllowed(String<A>),
     /// `--generate` is the last argument, without its value.
     NoGenerated,
     /// The value of `--generate` is unknown.
@@ -173,6 +180,20 @@ impl<A: Allocator> fmt::Display for ArgumentError<A> {
                     "unknown value '{word}' of --macros: expected skip or all"
                 )
             }
+            ArgumentError::NoAllowed => write!(
+                f,
+                "--allow needs a value, such as --allow unknown-suffix"
+            ),
+            ArgumentError::UnknownAllowed(id, None, hint) => {
+                write!(f, "unknown id '{id}' of --allow: {hint}")
+            }
+            ArgumentError::UnknownAllowed(id, Some(meant), _) => {
+                write!(f, "unknown id '{id}' of --allow: did you mean '{meant}'?")
+            }
+            ArgumentError::UnclosedAllowed(id) => write!(
+                f,
+                "--allow can't leave out {id}: the rest of the file isn't read"
+            ),
             ArgumentError::NoGenerated => write!(
                 f,
                 "--generate needs a value: man, bash, zsh, fish, sarif-jq or problem-matcher"

@@ -9,8 +9,9 @@ ghost use Rattle.rl_options.specs.declared.flags.Operand.TheVariants as takes;
 ghost use Rattle.rl_options.specs.declared.argument_error.ArgumentError.TheVariants.{Memory};
 ghost use Rattle.rl_options.specs.Flags.{IsKindWord, AreKindWords, IsUnknownKind, is_path_word};
 ghost use Rattle.rl_options.specs.Wishes.{first_wishes, wishes_of, wishes_in};
-ghost use Rattle.rl_options.specs.Words.{NamesLetter, NamesUnknown, AreLetters, AreRejectedLetters, GoesWithOptions, with_kinds, with_path, with_text, with_pattern, with_list, with_setting, IsWithoutDot, IsAdded, IsTaken, IsStep, Asks, IsRejectedEffect, IsRejectedText, IsRejectedJoined, IsRejectedWord, IsMissing, AreRejected};
+ghost use Rattle.rl_options.specs.Words.{NamesLetter, NamesUnknown, AreLetters, AreRejectedLetters, GoesWithOptions, with_kinds, with_path, with_text, with_pattern, with_allowed, with_list, with_setting, IsWithoutDot, IsAdded, IsTaken, IsStep, Asks, IsRejectedEffect, IsRejectedText, IsRejectedJoined, IsRejectedWord, IsMissing, AreRejected};
 
+use crate::allowed::allowed_error;
 use crate::argument_error::ArgumentError;
 use crate::command::{Action, Command, Output, PlaceForm};
 use crate::conflicts::clash_of;
@@ -60,6 +61,8 @@ pub struct ParsedArguments<'a, A: Allocator = Global> {
     pub lists: Vec<&'a str, A>,
     /// The values of `--rule`: rules of a style, each with or without its value.
     pub settings: Vec<&'a str, A>,
+    /// The values of `--allow`: identifiers of findings that aren't shown, and numbers of characters such as `U+200B`.
+    pub allowed: Vec<&'a str, A>,
     next: Next,
 }
 
@@ -87,6 +90,7 @@ fn missing<A: Allocator>(operand: Operand) -> ArgumentError<A>
         Operand::Style => ArgumentError::NoStyle,
         Operand::Rule => ArgumentError::NoRule,
         Operand::Macros => ArgumentError::NoMacros,
+        Operand::Allowed => ArgumentError::NoAllowed,
         Operand::Generated => ArgumentError::NoGenerated,
     }
 }
@@ -321,6 +325,19 @@ impl<'a, A: Allocator + Copy> ParsedArguments<'a, A> {
         }
     }
 
+    /// Adds the identifier of findings that aren't shown, or the number of a character, from the value of `--allow`.
+    fn take_allowed(&mut self, id: &'a str) -> Result<(), ArgumentError<A>>
+        ensures wishes { OnOk result (wishes_in self.new ≡ with_allowed id.now (wishes_in self.old)) }
+        ensures next { OnOk result (self.new.next ≡ self.old.next) }
+        ensures rejected { IfErr result (IsRejectedText takes.Allowed id.now) }
+    {
+        self.command.allows = true;
+        match self.allowed.push(id) {
+            Ok(()) => Ok(()),
+            Err(_) => Err(ArgumentError::Memory),
+        }
+    }
+
     /// Sets whether literals in macro code are treated as all others, from the value of `--macros`.
     fn take_macros(&mut self, alloc: A, word: &str) -> Result<(), ArgumentError<A>>
         ensures taken { OnOk result
@@ -429,6 +446,7 @@ impl<'a, A: Allocator + Copy> ParsedArguments<'a, A> {
             Operand::Style => self.take_style(text),
             Operand::Rule => self.take_setting(text),
             Operand::Macros => self.take_macros(alloc, text),
+            Operand::Allowed => self.take_allowed(text),
             Operand::Generated => self.take_generated(alloc, text),
         }
     }
@@ -548,7 +566,7 @@ impl<'a, A: Allocator + Copy> ParsedArguments<'a, A> {
 
 /// Returns the command without any arguments. `has_colors` is true if the output accepts colours.
 fn first_command<'a>(has_colors: bool) -> Command<'a>
-    ensures { wishes_of result [] [] [] [] [] [] ≡ first_wishes has_colors }
+    ensures { wishes_of result [] [] [] [] [] [] [] ≡ first_wishes has_colors }
 {
     Command {
         action: Action::Scan,
@@ -583,6 +601,8 @@ fn first_command<'a>(has_colors: bool) -> Command<'a>
         sets_rules: false,
         rules: default_style(),
         macros: None,
+        allows: false,
+        allowed: &[],
     }
 }
 
@@ -594,7 +614,8 @@ fn first_command<'a>(has_colors: bool) -> Command<'a>
 ///
 /// Returns the error of the first invalid argument. After the last argument, it returns an error if that argument is an option
 /// without its value, as `NoKinds`. Then it returns an error if options contradict each other: `TextlessKinds`, `ObjectsOfPaths`,
-/// `StatsOfPaths`, `NoEffect`, `InputTwice` or `TwoStyles`.
+/// `StatsOfPaths`, `NoEffect`, `InputTwice` or `TwoStyles`. Then it returns an error if a value of `--allow` has no effect in the
+/// command's mode: `UnclosedAllowed` or `UnknownAllowed`.
 pub fn parse_arguments<A: Allocator + Copy>(
     alloc: A,
     has_colors: bool,
@@ -611,6 +632,7 @@ pub fn parse_arguments<A: Allocator + Copy>(
         excludes: Vec::new(alloc),
         lists: Vec::new(alloc),
         settings: Vec::new(alloc),
+        allowed: Vec::new(alloc),
         next: Next::Any,
     };
     for word in words {
@@ -623,6 +645,9 @@ pub fn parse_arguments<A: Allocator + Copy>(
         return Err(missing(operand));
     }
     if let Some(error) = clash_of(&asked) {
+        return Err(error);
+    }
+    if let Some(error) = allowed_error(alloc, asked.command.shown, asked.allowed.as_slice()) {
         return Err(error);
     }
     Ok(asked)

@@ -128,6 +128,10 @@ pub struct Command<'a> {
     pub rules: Style,
     /// Whether literals in macro code are treated as all others, if `--macros` is passed.
     pub macros: Option<Macros>,
+    /// Whether `--allow` is passed.
+    pub allows: bool,
+    /// The values of `--allow`: identifiers of findings that aren't shown, and numbers of characters such as `U+200B`.
+    pub allowed: &'a [&'a str],
 }
 
 /// The properties of standard input and output that a call of `rl_scan` depends on.

@@ -64,10 +64,10 @@ fn prints_no_objects(command: Command<'_>) -> bool
 
 /// Returns the first error of options that contradict the requested output, or `None`.
 fn printing_clash<A: Allocator>(command: Command<'_>) -> Option<ArgumentError<A>>
-    ensures some { IfSome result (λ error. (finds extensions excludes lists settings paths : List (List ℕ))
-        → IsFirstOf (wishes_of command.entry finds extensions excludes lists settings paths) printing_clashes error) }
-    ensures none { IfNone result ((finds extensions excludes lists settings paths : List (List ℕ))
-        → PrintTogether (wishes_of command.entry finds extensions excludes lists settings paths)) }
+    ensures some { IfSome result (λ error. (finds extensions excludes lists settings allowed paths : List (List ℕ))
+        → IsFirstOf (wishes_of command.entry finds extensions excludes lists settings allowed paths) printing_clashes error) }
+    ensures none { IfNone result ((finds extensions excludes lists settings allowed paths : List (List ℕ))
+        → PrintTogether (wishes_of command.entry finds extensions excludes lists settings allowed paths)) }
 {
     if command.searches && !may_hold(command.shown) {
         return Some(ArgumentError::TextlessKinds);
@@ -83,10 +83,10 @@ fn printing_clash<A: Allocator>(command: Command<'_>) -> Option<ArgumentError<A>
 
 /// Returns the error of the first option that has no effect in the command's mode, or `None`.
 fn mode_clash<A: Allocator>(command: Command<'_>) -> Option<ArgumentError<A>>
-    ensures some { IfSome result (λ error. (finds extensions excludes lists settings paths : List (List ℕ))
-        → IsWithoutEffect (wishes_of command.entry finds extensions excludes lists settings paths) error) }
-    ensures none { IfNone result ((finds extensions excludes lists settings paths : List (List ℕ))
-        → option_without_effect (wishes_of command.entry finds extensions excludes lists settings paths) ≡ None) }
+    ensures some { IfSome result (λ error. (finds extensions excludes lists settings allowed paths : List (List ℕ))
+        → IsWithoutEffect (wishes_of command.entry finds extensions excludes lists settings allowed paths) error) }
+    ensures none { IfNone result ((finds extensions excludes lists settings allowed paths : List (List ℕ))
+        → option_without_effect (wishes_of command.entry finds extensions excludes lists settings allowed paths) ≡ None) }
 {
     match without_effect(command) {
         Some((name, modes)) => {
@@ -145,7 +145,7 @@ fn reads_input_twice<A: Allocator>(asked: &ParsedArguments<'_, A>) -> bool
 
 /// Whether the command has both `--rule` and `--style`.
 fn has_two_styles(command: Command<'_>) -> bool
-    ensures { result ≡ two_styles (wishes_of command.entry [] [] [] [] [] []) }
+    ensures { result ≡ two_styles (wishes_of command.entry [] [] [] [] [] [] []) }
 {
     command.sets_rules && command.style.is_some()
 }

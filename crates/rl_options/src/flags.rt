@@ -78,6 +78,8 @@ pub(crate) enum Operand {
     Rule,
     /// A word that determines whether literals in macro code are treated as all others.
     Macros,
+    /// The identifier of findings that aren't shown, or the number of a character.
+    Allowed,
     /// The name of a text for another program.
     Generated,
 }
@@ -136,8 +138,8 @@ pub(crate) fn after_front<'w>(front: &str, word: &'w str) -> Option<&'w str>
 /// Whether an option may be added to the command: `--bad`, `--invisible` and `--only` only if the command has none of them.
 fn chooses_once(command: Command<'_>, effect: Effect) -> bool
     ensures { MatchBool result
-        ((finds extensions excludes lists settings paths : List (List ℕ)) → IsAllowed effect (wishes_of command.entry finds extensions excludes lists settings paths))
-        ((finds extensions excludes lists settings paths : List (List ℕ)) → IsAllowed effect (wishes_of command.entry finds extensions excludes lists settings paths) → ⊥) }
+        ((finds extensions excludes lists settings allowed paths : List (List ℕ)) → IsAllowed effect (wishes_of command.entry finds extensions excludes lists settings allowed paths))
+        ((finds extensions excludes lists settings allowed paths : List (List ℕ)) → IsAllowed effect (wishes_of command.entry finds extensions excludes lists settings allowed paths) → ⊥) }
 {
     match effect {
         Effect::Sets(Flag::Bad | Flag::Hidden) | Effect::Takes(Operand::Kinds) => {
@@ -149,8 +151,8 @@ fn chooses_once(command: Command<'_>, effect: Effect) -> bool
 
 /// Adds the option `flag` to the command.
 fn set_flag(command: &mut Command<'_>, flag: Flag)
-    ensures { (finds extensions excludes lists settings paths : List (List ℕ))
-        → wishes_of command.new finds extensions excludes lists settings paths ≡ flagged flag (wishes_of command.old finds extensions excludes lists settings paths) }
+    ensures { (finds extensions excludes lists settings allowed paths : List (List ℕ))
+        → wishes_of command.new finds extensions excludes lists settings allowed paths ≡ flagged flag (wishes_of command.old finds extensions excludes lists settings allowed paths) }
 {
     match flag {
         Flag::Bad => command.shown = Shown::Bad,
@@ -182,8 +184,8 @@ fn set_flag(command: &mut Command<'_>, flag: Flag)
 
 /// Adds an option to the command. The value of an option is added by another function.
 fn set_effect(command: &mut Command<'_>, effect: Effect)
-    ensures { (finds extensions excludes lists settings paths : List (List ℕ))
-        → wishes_of command.new finds extensions excludes lists settings paths ≡ affected effect (wishes_of command.old finds extensions excludes lists settings paths) }
+    ensures { (finds extensions excludes lists settings allowed paths : List (List ℕ))
+        → wishes_of command.new finds extensions excludes lists settings allowed paths ≡ affected effect (wishes_of command.old finds extensions excludes lists settings allowed paths) }
 {
     match effect {
         Effect::Sets(flag) => set_flag(command, flag),
@@ -194,8 +196,8 @@ fn set_effect(command: &mut Command<'_>, effect: Effect)
 /// Whether an option may be added to the command: `--bad` and `--invisible` can't be combined with `--find`.
 fn goes_with_find(command: Command<'_>, effect: Effect) -> bool
     ensures { MatchBool result
-        ((finds extensions excludes lists settings paths : List (List ℕ)) → GoesWithFind effect (wishes_of command.entry finds extensions excludes lists settings paths))
-        ((finds extensions excludes lists settings paths : List (List ℕ)) → GoesWithFind effect (wishes_of command.entry finds extensions excludes lists settings paths) → ⊥) }
+        ((finds extensions excludes lists settings allowed paths : List (List ℕ)) → GoesWithFind effect (wishes_of command.entry finds extensions excludes lists settings allowed paths))
+        ((finds extensions excludes lists settings allowed paths : List (List ℕ)) → GoesWithFind effect (wishes_of command.entry finds extensions excludes lists settings allowed paths) → ⊥) }
 {
     match (effect, command.shown) {
         (Effect::Sets(Flag::Bad | Flag::Hidden), _) => !command.searches,
@@ -207,8 +209,8 @@ fn goes_with_find(command: Command<'_>, effect: Effect) -> bool
 /// Whether an option may be added to the command: `--fix`, `--check` and `--diff` only if the command has none of them.
 fn restyles_once(command: Command<'_>, effect: Effect) -> bool
     ensures { MatchBool result
-        ((finds extensions excludes lists settings paths : List (List ℕ)) → RestylesOnce effect (wishes_of command.entry finds extensions excludes lists settings paths))
-        ((finds extensions excludes lists settings paths : List (List ℕ)) → RestylesOnce effect (wishes_of command.entry finds extensions excludes lists settings paths) → ⊥) }
+        ((finds extensions excludes lists settings allowed paths : List (List ℕ)) → RestylesOnce effect (wishes_of command.entry finds extensions excludes lists settings allowed paths))
+        ((finds extensions excludes lists settings allowed paths : List (List ℕ)) → RestylesOnce effect (wishes_of command.entry finds extensions excludes lists settings allowed paths) → ⊥) }
 {
     match effect {
         Effect::Sets(Flag::Fix | Flag::Check | Flag::Diff) => command.restyle.is_none(),
@@ -225,12 +227,12 @@ pub(crate) fn add_option<A: Allocator>(
     command: Command<'_>,
     effect: Effect,
 ) -> Result<Command<'_>, ArgumentError<A>>
-    ensures allowed { IfOk result (λ next. (finds extensions excludes lists settings paths : List (List ℕ))
-        → GoesWithOptions effect (wishes_of command.entry finds extensions excludes lists settings paths)) }
-    ensures wishes { IfOk result (λ next. (finds extensions excludes lists settings paths : List (List ℕ))
-        → wishes_of next finds extensions excludes lists settings paths ≡ affected effect (wishes_of command.entry finds extensions excludes lists settings paths)) }
-    ensures rejected { IfErr result (λ error. (finds extensions excludes lists settings paths : List (List ℕ))
-        → IsRejectedEffect effect (wishes_of command.entry finds extensions excludes lists settings paths) error) }
+    ensures allowed { IfOk result (λ next. (finds extensions excludes lists settings allowed paths : List (List ℕ))
+        → GoesWithOptions effect (wishes_of command.entry finds extensions excludes lists settings allowed paths)) }
+    ensures wishes { IfOk result (λ next. (finds extensions excludes lists settings allowed paths : List (List ℕ))
+        → wishes_of next finds extensions excludes lists settings allowed paths ≡ affected effect (wishes_of command.entry finds extensions excludes lists settings allowed paths)) }
+    ensures rejected { IfErr result (λ error. (finds extensions excludes lists settings allowed paths : List (List ℕ))
+        → IsRejectedEffect effect (wishes_of command.entry finds extensions excludes lists settings allowed paths) error) }
 {
     if !chooses_once(command, effect) {
         return Err(ArgumentError::TwoChoices);

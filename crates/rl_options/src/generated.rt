@@ -50,6 +50,9 @@ For \-\-bad and without a mode: a stray character, at which no token begins, is 
 .B \-\-edition YEAR
 For \-\-bad and \-\-fix: the edition whose reserved prefixes are errors: 2015, 2018, 2021 (default) or 2024.
 .TP
+.B \-\-allow ID
+For \-\-bad and \-\-invisible: print no findings with the id ID, which \-\-json prints; for \-\-invisible, ID may also be a character, such as U+200B; may be repeated.
+.TP
 .B \-i, \-\-ignore\-case
 For \-\-find: ignore the case of ASCII letters.
 .TP
@@ -125,7 +128,7 @@ Print no findings; errors, totals and the output of \-\-fix for standard input a
 Print no errors about unreadable or skipped files.
 .TP
 .B \-\-stats
-Print totals at the end: files read, files with findings, findings, and files with an error.
+Print totals at the end: files read, files with findings, findings, and files with an error; for \-\-fix, also how many literals each rule changes.
 .TP
 .B \-\-
 Every argument that follows is a PATH.
@@ -146,7 +149,7 @@ Print the version.
   PATH:LINE:COLUMN: KIND VALUE SUFFIX
   PATH:LINE:COLUMN: error: MESSAGE: PIECE
   PATH:LINE:COLUMN: U+202E RIGHT\-TO\-LEFT OVERRIDE
-  PATH:LINE:COLUMN: OLD \-> NEW
+  PATH:LINE:COLUMN: OLD \-> NEW [RULE, ..]
   LO..HI KIND VALUE SUFFIX
 .fi
 .SH EXIT STATUS
@@ -194,6 +197,7 @@ const BASH_TEXT: &str = r###"_rl_scan() {
     --only) at=; [[ $word == *,* ]] && at=${word%,*},; mapfile -t COMPREPLY < <(compgen -W "Str ByteStr CStr Byte Char Int Float Bool Verbatim" -P "$at" -- "${word##*,}"); return ;;
     -e|--find) mapfile -t COMPREPLY < <(compgen -W "" -- "$word"); return ;;
     --edition) mapfile -t COMPREPLY < <(compgen -W "2015 2018 2021 2024" -- "$word"); return ;;
+    --allow) mapfile -t COMPREPLY < <(compgen -W "" -- "$word"); return ;;
     --style) mapfile -t COMPREPLY < <(compgen -f -- "$word"); return ;;
     --rule) mapfile -t COMPREPLY < <(compgen -W "" -- "$word"); return ;;
     --macros) mapfile -t COMPREPLY < <(compgen -W "skip all" -- "$word"); return ;;
@@ -208,7 +212,7 @@ const BASH_TEXT: &str = r###"_rl_scan() {
     --generate) mapfile -t COMPREPLY < <(compgen -W "man bash zsh fish sarif-jq problem-matcher" -- "$word"); return ;;
     esac
     if [[ $word == -* ]]; then
-        mapfile -t COMPREPLY < <(compgen -W "--bad --invisible --only -e --find --fix --check --diff --any-suffix --no-stray --edition -i --ignore-case -w --word --style --rule --macros --all --extension --exclude --files-from --files --lines --bytes --text --json --format -C --context -B --before-context -A --after-context --color -c --count -l --files-with-matches -Z --null -q --quiet --no-messages --stats -- --rules --generate -h --help -V --version" -- "$word")
+        mapfile -t COMPREPLY < <(compgen -W "--bad --invisible --only -e --find --fix --check --diff --any-suffix --no-stray --edition --allow -i --ignore-case -w --word --style --rule --macros --all --extension --exclude --files-from --files --lines --bytes --text --json --format -C --context -B --before-context -A --after-context --color -c --count -l --files-with-matches -Z --null -q --quiet --no-messages --stats -- --rules --generate -h --help -V --version" -- "$word")
     else
         mapfile -t COMPREPLY < <(compgen -f -- "$word")
     fi
@@ -238,6 +242,7 @@ _arguments -s -S \
     '--any-suffix[for --bad: accept any suffix, and numbers out of range, as macros do]' \
     '--no-stray[for --bad and without a mode: a stray character, at which no token begins, is an error]' \
     '--edition=[for --bad and --fix: the edition whose reserved prefixes are errors: 2015, 2018, 2021 (default) or 2024]:YEAR:(2015 2018 2021 2024)' \
+    '*--allow=[for --bad and --invisible: print no findings with the id ID, which --json prints; for --invisible, ID may also be a character, such as U+200B; may be repeated]:ID: ' \
     '-i[for --find: ignore the case of ASCII letters]' \
     '--ignore-case[for --find: ignore the case of ASCII letters]' \
     '-w[for --find: match only whole words]' \
@@ -271,7 +276,7 @@ _arguments -s -S \
     '-q[print no findings; errors, totals and the output of --fix for standard input are still printed]' \
     '--quiet[print no findings; errors, totals and the output of --fix for standard input are still printed]' \
     '--no-messages[print no errors about unreadable or skipped files]' \
-    '--stats[print totals at the end: files read, files with findings, findings, and files with an error]' \
+    '--stats[print totals at the end: files read, files with findings, findings, and files with an error; for --fix, also how many literals each rule changes]' \
     '--rules[print the rules of a style, with values and examples]' \
     '--generate=[man, bash, zsh, fish, sarif-jq or problem-matcher: print the manual page, the completions for this shell, a jq program that makes SARIF of --json, or a file with problem matchers for GitHub]:WHAT:(man bash zsh fish sarif-jq problem-matcher)' \
     '-h[print this help]' \
@@ -301,6 +306,7 @@ complete -c rl_scan -l diff -d 'print these changes as a unified diff'
 complete -c rl_scan -l any-suffix -d 'for --bad: accept any suffix, and numbers out of range, as macros do'
 complete -c rl_scan -l no-stray -d 'for --bad and without a mode: a stray character, at which no token begins, is an error'
 complete -c rl_scan -l edition -x -a '2015 2018 2021 2024' -d 'for --bad and --fix: the edition whose reserved prefixes are errors: 2015, 2018, 2021 (default) or 2024'
+complete -c rl_scan -l allow -x -d 'for --bad and --invisible: print no findings with the id ID, which --json prints; for --invisible, ID may also be a character, such as U+200B; may be repeated'
 complete -c rl_scan -s i -l ignore-case -d 'for --find: ignore the case of ASCII letters'
 complete -c rl_scan -s w -l word -d 'for --find: match only whole words'
 complete -c rl_scan -l style -r -d 'for --fix: rewrite by the rules in FILE; without it, drop needless escapes of quotes and needless hashes, and write 1e5 for 1E5'
@@ -325,7 +331,7 @@ complete -c rl_scan -s l -l files-with-matches -d 'print the path of each file t
 complete -c rl_scan -s Z -l null -d 'end the paths of -c, -l and --files with NUL'
 complete -c rl_scan -s q -l quiet -d 'print no findings; errors, totals and the output of --fix for standard input are still printed'
 complete -c rl_scan -l no-messages -d 'print no errors about unreadable or skipped files'
-complete -c rl_scan -l stats -d 'print totals at the end: files read, files with findings, findings, and files with an error'
+complete -c rl_scan -l stats -d 'print totals at the end: files read, files with findings, findings, and files with an error; for --fix, also how many literals each rule changes'
 complete -c rl_scan -l rules -d 'print the rules of a style, with values and examples'
 complete -c rl_scan -l generate -x -a 'man bash zsh fish sarif-jq problem-matcher' -d 'man, bash, zsh, fish, sarif-jq or problem-matcher: print the manual page, the completions for this shell, a jq program that makes SARIF of --json, or a file with problem matchers for GitHub'
 complete -c rl_scan -s h -l help -d 'print this help'

@@ -35,6 +35,9 @@ Options of these modes:
                        no token begins, is an error
       --edition YEAR   for --bad and --fix: the edition whose reserved prefixes
                        are errors: 2015, 2018, 2021 (default) or 2024
+      --allow ID       for --bad and --invisible: print no findings with the id
+                       ID, which --json prints; for --invisible, ID may also be
+                       a character, such as U+200B; may be repeated
   -i, --ignore-case    for --find: ignore the case of ASCII letters
   -w, --word           for --find: match only whole words
       --style FILE     for --fix: rewrite by the rules in FILE; without it, drop

@@ -2,6 +2,7 @@
 //! paths or contain the rules of a style.
 #![tactic(auto)]
 
+mod allowed;
 mod argument_error;
 mod arguments;
 mod command;

@@ -44,6 +44,8 @@ pub(crate) enum Modes {
     Rewriting,
     /// `--bad`, or a mode of `Rewriting`.
     BadOrRewriting,
+    /// `--bad` or `--invisible`.
+    BadOrInvisible,
 }
 
 /// Returns the mode of a command that prints findings. `searches` is true if it has a text to search for.
@@ -61,7 +63,7 @@ fn printing_mode(shown: Shown<'_>, searches: bool) -> Mode
 
 /// Returns the mode of a command.
 pub(crate) fn mode_of(command: Command<'_>) -> Mode
-    ensures { result ≡ selected (wishes_of command.entry [] [] [] [] [] []) }
+    ensures { result ≡ selected (wishes_of command.entry [] [] [] [] [] [] []) }
 {
     match (command.action, command.restyle) {
         (Action::Help | Action::Version | Action::Rules | Action::Generate(_), _) => Mode::Help,
@@ -100,6 +102,7 @@ fn is_in(mode: Mode, modes: Modes) -> bool
         Modes::Listing => !matches!(mode, Mode::Fix | Mode::Diff),
         Modes::Rewriting => rewrites(mode),
         Modes::BadOrRewriting => rewrites(mode) || matches!(mode, Mode::Bad),
+        Modes::BadOrInvisible => matches!(mode, Mode::Bad | Mode::Invisible),
     }
 }
 
@@ -112,7 +115,7 @@ pub(crate) fn goes_with(modes: Modes, mode: Mode) -> bool
 
 /// Whether the command has an option without a value, if the option has no effect in some mode.
 fn has_flag(command: Command<'_>, flag: Flag) -> bool
-    ensures { result ≡ flag_is_set flag (wishes_of command.entry [] [] [] [] [] []) }
+    ensures { result ≡ flag_is_set flag (wishes_of command.entry [] [] [] [] [] [] []) }
 {
     match flag {
         Flag::Bad => matches!(command.shown, Shown::Bad),
@@ -134,7 +137,7 @@ fn has_flag(command: Command<'_>, flag: Flag) -> bool
 
 /// Whether the command has an option with a value, if the option has no effect in some mode.
 fn has_operand(command: Command<'_>, operand: Operand) -> bool
-    ensures { result ≡ operand_is_set operand (wishes_of command.entry [] [] [] [] [] []) }
+    ensures { result ≡ operand_is_set operand (wishes_of command.entry [] [] [] [] [] [] []) }
 {
     match operand {
         Operand::Kinds => matches!(command.shown, Shown::Only(_)),
@@ -147,13 +150,14 @@ fn has_operand(command: Command<'_>, operand: Operand) -> bool
         Operand::Style => command.style.is_some(),
         Operand::Rule => command.sets_rules,
         Operand::Macros => command.macros.is_some(),
+        Operand::Allowed => command.allows,
         _ => false,
     }
 }
 
 /// Whether the command has an option, if the option has no effect in some mode. For other options the result is `false`.
 pub(crate) fn has_option(command: Command<'_>, effect: Effect) -> bool
-    ensures { result ≡ option_is_set effect (wishes_of command.entry [] [] [] [] [] []) }
+    ensures { result ≡ option_is_set effect (wishes_of command.entry [] [] [] [] [] [] []) }
 {
     match effect {
         Effect::Sets(flag) => has_flag(command, flag),
@@ -193,5 +197,6 @@ pub(crate) fn modes_hint(modes: Modes) -> &'static str
         Modes::Printing => "use only one of them",
         Modes::Rewriting => "use --fix, --check or --diff",
         Modes::BadOrRewriting => "use --bad, --fix, --check or --diff",
+        Modes::BadOrInvisible => "use --bad or --invisible",
     }
 }

@@ -26,7 +26,7 @@ pub(crate) struct OptionRow {
 }
 
 /// The options of `rl_scan`. If an unknown option is similar to several names, the first one is suggested.
-const OPTIONS: [OptionRow; 40] = [
+const OPTIONS: [OptionRow; 41] = [
     OptionRow {
         name: "--bad",
         letter: None,
@@ -238,6 +238,12 @@ const OPTIONS: [OptionRow; 40] = [
         modes: Modes::BadOrRewriting,
     },
     OptionRow {
+        name: "--allow",
+        letter: None,
+        effect: Effect::Takes(Operand::Allowed),
+        modes: Modes::BadOrInvisible,
+    },
+    OptionRow {
         name: "--rules",
         letter: None,
         effect: Effect::Sets(Flag::Rules),
@@ -355,7 +361,7 @@ pub(crate) fn meant_by(word: &str) -> Option<&'static str>
 
 /// Whether the command has the option of a row, and the option has no effect in the command's mode.
 fn is_without_effect(command: Command<'_>, row: &OptionRow) -> bool
-    ensures { result ≡ has_none row.now.effect row.now.modes (wishes_of command.entry [] [] [] [] [] []) }
+    ensures { result ≡ has_none row.now.effect row.now.modes (wishes_of command.entry [] [] [] [] [] [] []) }
 {
     has_option(command, row.effect) && !goes_with(row.modes, mode_of(command))
 }
@@ -363,7 +369,7 @@ fn is_without_effect(command: Command<'_>, row: &OptionRow) -> bool
 /// Returns the first row whose option the command has, although it has no effect in the command's mode, or `None`.
 fn row_without_effect<'r>(rows: &'r [OptionRow], command: Command<'_>) -> Option<&'r OptionRow>
     ensures { option_copied result
-        ≡ find (λ row. has_none row.effect row.modes (wishes_of command.entry [] [] [] [] [] [])) rows.now }
+        ≡ find (λ row. has_none row.effect row.modes (wishes_of command.entry [] [] [] [] [] [] [])) rows.now }
 {
     rows.iter().find(|row| is_without_effect(command, row))
 }
@@ -371,8 +377,8 @@ fn row_without_effect<'r>(rows: &'r [OptionRow], command: Command<'_>) -> Option
 /// Returns the first option of the command that has no effect in its mode, and the modes in which it has one, or `None`.
 pub(crate) fn without_effect(command: Command<'_>) -> Option<(&'static str, Modes)>
     ensures some { IfSome result (λ found.
-        option_without_effect (wishes_of command.entry [] [] [] [] [] []) ≡ Some (found.0.now, found.1)) }
-    ensures none { IfNone result (option_without_effect (wishes_of command.entry [] [] [] [] [] []) ≡ None) }
+        option_without_effect (wishes_of command.entry [] [] [] [] [] [] []) ≡ Some (found.0.now, found.1)) }
+    ensures none { IfNone result (option_without_effect (wishes_of command.entry [] [] [] [] [] [] []) ≡ None) }
 {
     match row_without_effect(OPTIONS.as_slice(), command) {
         Some(row) => Some((row.name, row.modes)),

@@ -10,3 +10,4 @@ pub mod WidthLemmas
 pub mod LastLines
 mod SpotLines
 pub mod ChoiceLemmas
+pub mod CodePointLemmas

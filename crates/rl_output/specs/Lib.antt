@@ -1,4 +1,5 @@
 pub mod Choices
+pub mod CodePoints
 pub mod Forms
 pub mod Colors
 pub mod Spots

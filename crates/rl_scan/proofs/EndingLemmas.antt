@@ -75,15 +75,16 @@ front_none command (Some w) waypoints o e h =
     inl ([], more.0, nothing, more.1, refl, ((0, Appends-nil o), (0, Appends-nil e), hands_none h))
 
 -- The command with its separately parsed lists is the command of the arguments.
-pub command_for : (command selecting : Command) (style : Style) (finds extensions excludes lists settings paths : List (List ℕ))
-    → IsSelecting command style finds extensions excludes lists selecting
-    → IsCommandFor (wishes_of command finds extensions excludes lists settings paths) style selecting
-command_for command selecting style finds extensions excludes lists settings paths is = record {
-  asked = is.same finds extensions excludes lists settings paths;
+pub command_for : (command selecting : Command) (style : Style) (finds extensions excludes lists settings allowed paths : List (List ℕ))
+    → IsSelecting command style finds extensions excludes lists allowed selecting
+    → IsCommandFor (wishes_of command finds extensions excludes lists settings allowed paths) style selecting
+command_for command selecting style finds extensions excludes lists settings allowed paths is = record {
+  asked = is.same finds extensions excludes lists settings allowed paths;
   finds_are = is.finds_are;
   extensions_are = is.extensions_are;
   excludes_are = is.excludes_are;
   lists_are = is.lists_are;
+  allowed_are = is.allowed_are;
   rules_are = is.rules_are;
 }
 
@@ -105,16 +106,16 @@ ends_listed [] command lacks_input holds paths streams ending some ends = absurd
 ends_listed (file ∷ files) command lacks_input holds paths streams ending some ends = ends
 
 pub scan_ends : {B : Type 0} (command selecting : Command) (style : Style)
-    (finds extensions excludes lists settings paths : List (List ℕ)) (lacks_input is_here : Bool) (holds : Option World)
+    (finds extensions excludes lists settings allowed paths : List (List ℕ)) (lacks_input is_here : Bool) (holds : Option World)
     (streams : Streams) (ending : Ending (CallError B))
-    → IsSelecting command style finds extensions excludes lists selecting
-    → is_here ≡ reads_current_directory lacks_input (wishes_of command finds extensions excludes lists settings paths)
+    → IsSelecting command style finds extensions excludes lists allowed selecting
+    → is_here ≡ reads_current_directory lacks_input (wishes_of command finds extensions excludes lists settings allowed paths)
     → EndsFrom (borrowed_texts selecting.files_from.now) selecting is_here holds paths streams ending
-    → EndsScan (wishes_of command finds extensions excludes lists settings paths) style lacks_input holds streams ending
-scan_ends command selecting style finds extensions excludes lists settings paths lacks_input is_here holds streams ending is here
+    → EndsScan (wishes_of command finds extensions excludes lists settings allowed paths) style lacks_input holds streams ending
+scan_ends command selecting style finds extensions excludes lists settings allowed paths lacks_input is_here holds streams ending is here
     ends = (
       selecting,
-      command_for command selecting style finds extensions excludes lists settings paths is,
+      command_for command selecting style finds extensions excludes lists settings allowed paths is,
       subst (λ (b : Bool). EndsFrom lists selecting b holds paths streams ending) here
           (subst (λ (files : List (List ℕ)). EndsFrom files selecting is_here holds paths streams ending) is.lists_are
           ends),

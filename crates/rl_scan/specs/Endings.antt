@@ -156,26 +156,28 @@ extensions_read [] = codes "rs" ∷ []
 extensions_read (extension ∷ extensions) = extension ∷ extensions
 
 -- `selecting` is `command` with lists that are parsed separately: the texts to search for, the selection of files in directories,
--- the lists of paths, and the rules of the style.
-pub record IsSelecting (command : Command) (rules : Style) (finds extensions excludes lists : List (List ℕ))
+-- the lists of paths, the allowed findings, and the rules of the style.
+pub record IsSelecting (command : Command) (rules : Style) (finds extensions excludes lists permitted : List (List ℕ))
     (selecting : Command) : Type 0 where
-  pub same : (texts endings patterns files settings paths : List (List ℕ))
-      → wishes_of selecting texts endings patterns files settings paths
-      ≡ wishes_of command texts endings patterns files settings paths
+  pub same : (texts endings patterns files settings allowed paths : List (List ℕ))
+      → wishes_of selecting texts endings patterns files settings allowed paths
+      ≡ wishes_of command texts endings patterns files settings allowed paths
   pub finds_are : borrowed_texts selecting.finds.now ≡ finds
   pub extensions_are : borrowed_texts selecting.selection.extensions.now ≡ extensions_read extensions
   pub excludes_are : borrowed_texts selecting.selection.excludes.now ≡ excludes
   pub lists_are : borrowed_texts selecting.files_from.now ≡ lists
+  pub allowed_are : borrowed_texts selecting.allowed.now ≡ permitted
   pub rules_are : selecting.rules ≡ rules
 
 -- The command is that of the parsed arguments. If literals are rewritten, `rules` is their style.
 pub record IsCommandFor (wishes : Wishes) (rules : Style) (command : Command) : Type 0 where
-  pub asked : wishes_of command wishes.finds wishes.extensions wishes.excludes wishes.files_from wishes.settings wishes.paths
+  pub asked : wishes_of command wishes.finds wishes.extensions wishes.excludes wishes.files_from wishes.settings wishes.allowed wishes.paths
       ≡ wishes
   pub finds_are : borrowed_texts command.finds.now ≡ wishes.finds
   pub extensions_are : borrowed_texts command.selection.extensions.now ≡ extensions_read wishes.extensions
   pub excludes_are : borrowed_texts command.selection.excludes.now ≡ wishes.excludes
   pub lists_are : borrowed_texts command.files_from.now ≡ wishes.files_from
+  pub allowed_are : borrowed_texts command.allowed.now ≡ wishes.allowed
   pub rules_are : command.rules ≡ rules
 
 -- The result of a call that scans files, with the style `rules` if literals are rewritten.

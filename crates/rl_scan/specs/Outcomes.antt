@@ -30,6 +30,7 @@ pub record IsJudging (edition : Edition) (by_line : Bool) (path : Option (Bor (L
   pub judges_macros : options.judges_macros ≡ true
   pub edition_is : options.edition ≡ edition
   pub path_is : options.path ≡ path
+  pub allowed : options.allowed.now ≡ []
 
 -- The lines that explain the errors of a source.
 abbrev pub AreRejections : Options → List ℕ → List ℕ → Type 0

@@ -120,6 +120,7 @@ pub record IsOptionsFor (command : Command) (path : List ℕ) (options : Options
   pub edition : options.edition ≡ edition_read command.edition
   pub explains : options.explains ≡ is_bad command.shown
   pub before : IsPathIn (is_json command.form) path options.path
+  pub allowed : options.allowed ≡ command.allowed
 
 -- The output lines for a source, and an error of the source that isn't in these lines.
 abbrev pub IsScannedAs : Options → List ℕ → List ℕ → Option (Place × LexKind) → Type 0

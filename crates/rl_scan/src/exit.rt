@@ -292,7 +292,7 @@ fn extensions_or_default<'a>(extensions: &'a [&'a str]) -> &'a [&'a str]
 }
 
 /// Returns the command with lists that are parsed separately: the texts to search for, the selection of files in directories, the
-/// lists of paths, and the rules of the style.
+/// lists of paths, the allowed findings, and the rules of the style.
 fn selecting<'a>(
     command: Command<'a>,
     rules: Style,
@@ -300,8 +300,9 @@ fn selecting<'a>(
     extensions: &'a [&'a str],
     excludes: &'a [&'a str],
     lists: &'a [&'a str],
+    allowed: &'a [&'a str],
 ) -> Command<'a>
-    ensures { IsSelecting command.entry rules (borrowed_texts finds.now) (borrowed_texts extensions.now) (borrowed_texts excludes.now) (borrowed_texts lists.now) result }
+    ensures { IsSelecting command.entry rules (borrowed_texts finds.now) (borrowed_texts extensions.now) (borrowed_texts excludes.now) (borrowed_texts lists.now) (borrowed_texts allowed.now) result }
 {
     Command {
         action: command.action,
@@ -333,6 +334,8 @@ fn selecting<'a>(
         sets_rules: command.sets_rules,
         rules,
         macros: command.macros,
+        allows: command.allows,
+        allowed,
     }
 }
 
@@ -365,6 +368,7 @@ fn scan_requested<A: Allocator + Copy, T: Tree, W: Write, E: Write, F: Replace>(
         extensions,
         excludes,
         lists,
+        allowed,
         ..
     } = asked;
     let command = selecting(
@@ -374,6 +378,7 @@ fn scan_requested<A: Allocator + Copy, T: Tree, W: Write, E: Write, F: Replace>(
         extensions.as_slice(),
         excludes.as_slice(),
         lists.as_slice(),
+        allowed.as_slice(),
     );
     let named = command.files_from;
     if named.is_empty() {

@@ -169,6 +169,7 @@ pub(crate) fn options_for<'a>(
         edition: edition_for(command),
         explains: is_bad(command.shown),
         path: path_in(is_json(command.form), path, shown),
+        allowed: command.allowed,
     }
 }
 

@@ -29,7 +29,7 @@ use Rattle.rl_sources.specs.Held.{IsCutAt}
 use Rattle.rl_sources.proofs.ReasonLemmas.{flaw_cut, has_place}
 use Rattle.rl_sources.specs.Places.{IsPlaceIn}
 use Rattle.rl_output.specs.Fronts.{line_front}
-use Rattle.rl_sources.specs.Scans.{AreAllFlawLines, AreFlawLines, AreReasonLines, IsFindingLine, IsLimitLine, IsOwnErrorLine, IsOwnFindingLine, IsReservedLine, IsTypeLine, error_end, finding_end}
+use Rattle.rl_sources.specs.Scans.{AreAllFlawLines, AreFlawLines, AreReasonLines, IsShownFinding, IsLimitLine, IsOwnErrorLine, IsOwnFindingLine, IsReservedLine, IsTypeLine, error_end, finding_end}
 
 -- ---- the ranges of flaws are within the text
 
@@ -159,7 +159,7 @@ begins_on options whole text lo start old =
 pub goes_further : (options : Options) (whole text : List ℕ) (lo : ℕ) (start now next : FlawsState) (bad : InvalidPiece)
     (finding : Finding) (old mid new : List ℕ) → GoesOn options whole text lo start now old mid
     → GivesFlaw now (Some bad) next
-    → IsFlawFinding text bad finding → Appends (IsFindingLine options whole text lo finding) mid new
+    → IsFlawFinding text bad finding → Appends (IsShownFinding options whole text lo finding) mid new
     → GoesOn options whole text lo start next old new
 goes_further options whole text lo start now next bad finding old mid new g gives is (line, shows, e) = record {
   piece = g.piece ++ line;
@@ -199,7 +199,7 @@ explains_no_limit text flaw e large = not_large text e.place.stops.front e.piece
 
 pub limit_lines : (options : Options) (whole text : List ℕ) (lo : ℕ) (flaw : Flaw) (finding : Finding) (any : Bool)
     (old new : List ℕ) → options.any_suffix ≡ any → FindsFlaw any text flaw → flaw.kind ≡ TooLarge
-    → IsLimitFinding text flaw finding → Appends (IsFindingLine options whole text lo finding) old new
+    → IsLimitFinding text flaw finding → Appends (IsShownFinding options whole text lo finding) old new
     → Appends (IsLimitLine options whole text lo) old new
 limit_lines options whole text lo flaw finding true old new is_any e large is shown =
     absurd (explains_no_limit (lf_text text) e.read e.explains (sym e.kind ∙ large))
@@ -239,7 +239,7 @@ pub reserved_line : (options : Options) (whole text both : List ℕ) (found : Op
     (finding : Finding) (old new : List ℕ) → IsWrong options (bytes_before whole lo) text found wrong.Reserved
     → both ≡ reserved_prefix (bytes_before whole lo) text ++ chars text
     → start + length (reserved_prefix (bytes_before whole lo) text) ≡ lo
-    → IsWholeFinding both reason.Reserved finding → Appends (IsFindingLine options whole both start finding) old new
+    → IsWholeFinding both reason.Reserved finding → Appends (IsShownFinding options whole both start finding) old new
     → Appends (IsReservedLine options whole text found lo) old new
 reserved_line options whole text both found lo start finding old new bad both_is start_is is (line, shows, f) =
     let prefix = reserved_prefix (bytes_before whole lo) text in (
@@ -252,7 +252,7 @@ reserved_line options whole text both found lo start finding old new bad both_is
         refl,
         start_is,
         subst (λ (z : List ℕ). IsWholeFinding z reason.Reserved finding) both_is is,
-        subst (λ (z : List ℕ). IsFindingLine options whole z start finding line) both_is shows,
+        subst (λ (z : List ℕ). IsShownFinding options whole z start finding line) both_is shows,
       ),
       f,
     )
@@ -260,7 +260,7 @@ reserved_line options whole text both found lo start finding old new bad both_is
 pub type_line : (options : Options) (whole text : List ℕ) (found : Option Found) (lo : ℕ) (error : TypeError)
     (finding : Finding) (old new : List ℕ) → IsWrong options (bytes_before whole lo) text found (wrong.Type error)
     → IsWholeFinding (chars text) (reason.Type error) finding
-    → Appends (IsFindingLine options whole (chars text) lo finding) old new
+    → Appends (IsShownFinding options whole (chars text) lo finding) old new
     → Appends (IsTypeLine options whole text found lo) old new
 type_line options whole text found lo error finding old new bad is (line, shows, f) =
     (line, (error, finding, bad, is, shows), f)

@@ -6,7 +6,7 @@ use Rattle.rl_lexer.proofs.ErrorKinds.{char_len}
 use Rattle.rl_program.specs.Lines.{Appends}
 use Rattle.rl_sources.specs.declared.options.Options.{Options}
 use Rattle.rl_output.specs.declared.place.Place.{Place}
-use Rattle.rl_sources.specs.Hidden.{AreHiddenLines, IsHiddenLine, IsShownCharacter, hidden_end, hides}
+use Rattle.rl_sources.specs.Hidden.{AreHiddenLines, IsHiddenLine, IsShownCharacter, hidden_end, hides, is_reported}
 use Rattle.rl_output.specs.Selectors.{is_variation_selector}
 use Rattle.rl_files.specs.Visible.{is_control_invisible_or_bidi}
 use Rattle.rl_sources.specs.Places.{IsContextIn, IsPlaceIn}
@@ -53,12 +53,12 @@ passes_more options whole all rest after lines longer previous c passes split (l
 }
 
 -- The output for a reported character is its line, and another character has no output.
-pub shown_hidden : (options : Options) (whole after old new : List ℕ) (previous c : ℕ) → hides previous c after ≡ true
+pub shown_hidden : (options : Options) (whole after old new : List ℕ) (previous c : ℕ) → is_reported options previous c after ≡ true
     → Appends (IsHiddenLine options whole c after) old new
     → Appends (IsShownCharacter options whole previous c after) old new
 shown_hidden options whole after old new previous c hider (line, is, e) = (line, inl (hider, is), e)
 
-pub shown_plain : (options : Options) (whole after old : List ℕ) (previous c : ℕ) → hides previous c after ≡ false
+pub shown_plain : (options : Options) (whole after old : List ℕ) (previous c : ℕ) → is_reported options previous c after ≡ false
     → Appends (IsShownCharacter options whole previous c after) old old
 shown_plain options whole after old previous c plain = ([], inr (plain, refl), sym (append-nil old))
 

@@ -11,3 +11,4 @@ pub mod HiddenLemmas
 pub mod WriteLemmas
 pub mod JsonLemmas
 pub mod FirstHeldLemmas
+pub mod AllowedLemmas

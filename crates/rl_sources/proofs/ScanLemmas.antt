@@ -22,7 +22,6 @@ use Rattle.rl_program.proofs.JoinLemmas.{joins_append, joins_one}
 use Rattle.rl_sources.specs.declared.options.Options.{Options}
 use Rattle.rl_sources.specs.declared.step.Step.{Step}
 use Rattle.rl_sources.specs.declared.step.Step.TheVariants.{More, End, Error}
-use Rattle.rl_lexer.specs.declared.lex_error.LexKind.TheVariants.{StrayCharacter}
 use Rattle.rl_style.specs.Calls.{CallState, Outside, advance_calls}
 use Rattle.rl_sources.proofs.CallLemmas.{calls_append, past_token, with_append}
 use Rattle.rl_sources.proofs.StepLemmas.{right_unshown}
@@ -347,7 +346,7 @@ right_nothing options whole l (bad, literal, right) calls =
 -- A stray character that may have output is a finding.
 pub shown_stray : (options : Options) (whole text : List ℕ) (kind : SourceKind) (lo hi : ℕ) (old new : List ℕ)
     → kind ≡ StrayKind → MayShow options kind text
-    → Appends (IsErrorLine options whole lo hi StrayCharacter text) old new
+    → Appends (IsShownStray true options whole text lo hi) old new
     → Appends (IsShownToken options whole kind text lo hi) old new
 shown_stray options whole text kind lo hi old new is may (line, is_line, e) = (
   line,

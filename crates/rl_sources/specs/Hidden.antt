@@ -14,13 +14,14 @@ use Rattle.rl_output.specs.Fronts.{line_front}
 use Rattle.rl_output.specs.Github.{annotation_end}
 use Rattle.rl_output.specs.Members.{string_member}
 use Rattle.rl_output.specs.Selectors.{is_variation_selector, takes}
+use Rattle.rl_sources.specs.Allowed.{allows_character}
 use Rattle.rl_sources.specs.Places.{IsContextIn, IsPlaceIn}
 
 -- `c` is a control character of the layout: a tab, an LF, a form feed, or a CR before an LF. `after` is the text after `c`.
 abbrev pub is_layout : ℕ → List ℕ → Bool
 is_layout c after = (c == 9) || (c == 10) || (c == 12) || ((c == 13) && begins_char 10 after)
 
--- `c` is reported: an invisible or bidirectional character that isn't part of the layout, or a variation selector after a character
+-- `c` is a finding: an invisible or bidirectional character that isn't part of the layout, or a variation selector after a character
 -- that doesn't take it. `previous` is the character before `c`, or NUL at the start. `after` is the text after `c`.
 abbrev pub hides : ℕ → ℕ → List ℕ → Bool
 hides previous c after =
@@ -83,12 +84,16 @@ pub record IsHiddenLine (options : Options) (whole : List ℕ) (c : ℕ) (after 
   pub context_is : IsContextIn options whole lo (lo + length (encode_utf8 c)) context
   pub line_is : line ≡ line_front options.form options.path place ++ (hidden_end options.form c ++ context)
 
+-- `c` is reported, and not allowed. `previous` is the character before `c`, or NUL at the start. `after` is the text after `c`.
+abbrev pub is_reported : Options → ℕ → ℕ → List ℕ → Bool
+is_reported options previous c after = hides previous c after && not (allows_character options (hidden_id c) c)
+
 -- The output for a character `c` of the source `whole`: its line if it is reported, else nothing. `previous` is the character before
 -- `c`, or NUL at the start. `after` is the source after `c`.
 abbrev pub IsShownCharacter : Options → List ℕ → ℕ → ℕ → List ℕ → List ℕ → Type 0
 IsShownCharacter options whole previous c after line =
-    ((hides previous c after ≡ true) × IsHiddenLine options whole c after line)
-    ⊎ ((hides previous c after ≡ false) × (line ≡ []))
+    ((is_reported options previous c after ≡ true) × IsHiddenLine options whole c after line)
+    ⊎ ((is_reported options previous c after ≡ false) × (line ≡ []))
 
 -- The output for the end of the source `whole`, character after character. `previous` is the character before the end.
 abbrev pub AreHiddenLines : Options → List ℕ → ℕ → List ℕ → List ℕ → Type 0

@@ -1,4 +1,5 @@
 pub mod Options
+pub mod Allowed
 pub mod Called
 pub mod Hidden
 pub mod Places

@@ -56,6 +56,7 @@ use Rattle.rl_sources.specs.Json.{IsJsonLiteral, finding_members, error_members}
 use Rattle.rl_output.specs.Choices.{Picks}
 use Rattle.rl_style.specs.Calls.{CallState, Outside}
 use Rattle.rl_sources.specs.Called.{with_calls}
+use Rattle.rl_sources.specs.Allowed.{IsUnlessAllowed, allows_id}
 use Rattle.rl_sources.specs.Options.{ends_at_strays, finds_strays, options_at}
 use Rattle.rl_sources.specs.Places.{IsPlaceIn, WithContext}
 
@@ -138,46 +139,52 @@ abbrev pub IsFindingLine : Options → List ℕ → List ℕ → ℕ → Finding
 IsFindingLine options whole text lo finding shown =
     WithContext (IsOwnFindingLine options whole text lo finding) options whole (lo + finding.lo) (lo + finding.hi) shown
 
--- The line for a flaw of the literal `text`, which begins at the byte offset `lo` of the source `whole`.
+-- The output for an error of a literal: its line, or nothing if errors with its identifier are allowed. The literal `text` begins at
+-- the byte offset `lo` of the source `whole`.
+abbrev pub IsShownFinding : Options → List ℕ → List ℕ → ℕ → Finding → List ℕ → Type 0
+IsShownFinding options whole text lo finding shown =
+    IsUnlessAllowed (allows_id options (reason_id finding.reason)) (IsFindingLine options whole text lo finding) shown
+
+-- The output for a flaw of the literal `text`, which begins at the byte offset `lo` of the source `whole`.
 abbrev pub IsFlawLine : Options → List ℕ → List ℕ → ℕ → InvalidPiece → List ℕ → Type 0
 IsFlawLine options whole text lo read shown =
-    (finding : Finding) × IsFlawFinding text read finding × IsFindingLine options whole text lo finding shown
+    (finding : Finding) × IsFlawFinding text read finding × IsShownFinding options whole text lo finding shown
 
--- The lines for the flaws that the cursor `start` over a literal's flaws still returns, in order.
+-- The output for the flaws that the cursor `start` over a literal's flaws still returns, in order.
 abbrev pub AreFlawLines : Options → List ℕ → List ℕ → ℕ → FlawsState → List ℕ → Type 0
 AreFlawLines options whole text lo start shown =
     (flaws : List InvalidPiece) × AreFlawsLeft start flaws × Joins (IsFlawLine options whole text lo) flaws shown
 
--- The lines for all flaws of the literal `text`, which isn't a token of Rust.
+-- The output for all flaws of the literal `text`, which isn't a token of Rust.
 abbrev pub AreAllFlawLines : Options → List ℕ → List ℕ → ℕ → List ℕ → Type 0
 AreAllFlawLines options whole text lo shown =
     (IsToken (lf_text text) → ⊥) × ((start : FlawsState) × AreFlawsOf File (encode_utf8_all text) start
     × AreFlawLines options whole text lo start shown)
 
--- The line for the integer `text`, which is above 128 bits, if only values within 128 bits are accepted.
+-- The output for the integer `text`, which is above 128 bits, if only values within 128 bits are accepted.
 abbrev pub IsLimitLine : Options → List ℕ → List ℕ → ℕ → List ℕ → Type 0
 IsLimitLine options whole text lo shown =
     IsFalse options.any_suffix × IsToken (lf_text text) × ((flaw : Flaw) × (finding : Finding) × ExplainsLimit text flaw
-    × IsLimitFinding text flaw finding × IsFindingLine options whole text lo finding shown)
+    × IsLimitFinding text flaw finding × IsShownFinding options whole text lo finding shown)
 
--- The line for the literal `text`, in bytes, and its reserved prefix. The range begins at the prefix.
+-- The output for the literal `text`, in bytes, and its reserved prefix. The range begins at the prefix.
 abbrev pub IsReservedLine : Options → List ℕ → List ℕ → Option Found → ℕ → List ℕ → Type 0
 IsReservedLine options whole text found lo shown =
     (prefix : List ℕ) × (start : ℕ) × (finding : Finding)
     × IsWrong options (bytes_before whole lo) text found wrong.Reserved
     × (prefix ≡ reserved_prefix (bytes_before whole lo) text) × (start + length prefix ≡ lo)
     × IsWholeFinding (prefix ++ chars text) reason.Reserved finding
-    × IsFindingLine options whole (prefix ++ chars text) start finding shown
+    × IsShownFinding options whole (prefix ++ chars text) start finding shown
 
--- The line for the literal `text`, in bytes, which Rust has no type for.
+-- The output for the literal `text`, in bytes, which Rust has no type for.
 abbrev pub IsTypeLine : Options → List ℕ → List ℕ → Option Found → ℕ → List ℕ → Type 0
 IsTypeLine options whole text found lo shown =
     (error : TypeError) × (finding : Finding) × IsWrong options (bytes_before whole lo) text found (wrong.Type error)
     × IsWholeFinding (chars text) (reason.Type error) finding
-    × IsFindingLine options whole (chars text) lo finding shown
+    × IsShownFinding options whole (chars text) lo finding shown
 
 -- The lines that explain why the literal `text`, in bytes, is invalid: one for each flaw, or one for an integer above 128 bits, a
--- reserved prefix or a missing type. The literal begins at the byte offset `lo` of the source `whole`.
+-- reserved prefix or a missing type. Allowed errors have no line. The literal begins at the byte offset `lo` of the source `whole`.
 abbrev pub AreReasonLines : Options → List ℕ → List ℕ → Option Found → ℕ → List ℕ → Type 0
 AreReasonLines options whole text found lo shown =
     AreAllFlawLines options whole (chars text) lo shown ⊎ IsLimitLine options whole (chars text) lo shown
@@ -231,9 +238,10 @@ IsShownLiteral options whole text lo hi shown =
     × IsPickedLine (borrowed_texts options.finds.now) options whole text lo hi shown)
     ⊎ ((IsPicked options (bytes_before whole lo) bytes found label → ⊥) × (shown ≡ [])))
 
--- The output for a stray character: its line if stray characters are findings, else nothing.
+-- The output for a stray character: its line if stray characters are findings that aren't allowed, else nothing.
 abbrev pub IsShownStray : Bool → Options → List ℕ → List ℕ → ℕ → ℕ → List ℕ → Type 0
-IsShownStray true options whole text lo hi shown = IsErrorLine options whole lo hi StrayCharacter text shown
+IsShownStray true options whole text lo hi shown =
+    IsUnlessAllowed (allows_id options (error_id StrayCharacter)) (IsErrorLine options whole lo hi StrayCharacter text) shown
 IsShownStray false options whole text lo hi shown = shown ≡ []
 
 -- The output for a token at the range `lo..hi` of the source `whole`. Literals, `true` and `false`, and stray characters have

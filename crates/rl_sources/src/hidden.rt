@@ -8,8 +8,10 @@ ghost use Rattle.rl_lexer.specs.Cursors.{IsCursorState};
 ghost use Rattle.rl_program.specs.Lines.{Appends};
 ghost use Rattle.rl_output.specs.Github.{annotation_end};
 ghost use Rattle.rl_output.specs.Members.{string_member};
-ghost use Rattle.rl_sources.specs.Hidden.{IsHiddenLine, IsShownCharacter, ShowsHidden, character_words, direction_name as name_of, hidden_end, hidden_id, hides as is_hider, is_layout as layout};
+ghost use Rattle.rl_sources.specs.Hidden.{IsHiddenLine, IsShownCharacter, ShowsHidden, character_words, direction_name as name_of, hidden_end, hidden_id, hides as is_hider, is_layout as layout, is_reported as reported};
+ghost use Rattle.rl_sources.specs.Allowed.{allows_character as is_allowed};
 
+use crate::allowed::{allows_id, contains_number};
 use crate::options::Options;
 use crate::place::{displayed_place, push_context_of};
 use rl_files::is_control_invisible_or_bidi;
@@ -29,7 +31,7 @@ fn is_layout(c: char, after: &str) -> bool
     matches!(c, '\t' | '\n' | '\u{c}') || c == '\r' && begins_with_char(after, '\n')
 }
 
-/// Whether `c` is reported: an invisible or bidirectional character that isn't part of the layout, or a variation selector after a
+/// Whether `c` is a finding: an invisible or bidirectional character that isn't part of the layout, or a variation selector after a
 /// character that doesn't take it. `previous` is the character before `c`, or NUL at the start. `after` is the text after `c`.
 #[tactic(auto, using(crate::proofs::HiddenLemmas::plain_hides))]
 #[inline(always)]
@@ -79,6 +81,23 @@ fn id_of_hidden(c: char) -> &'static str
         _ if c.is_control() => "control-character",
         _ => "invisible-character",
     }
+}
+
+/// Whether the character `c` is allowed, by its class or by its number.
+#[inline(never)]
+fn allows_character(options: &Options<'_>, c: char) -> bool
+    ensures { result ≡ is_allowed options.now (hidden_id c) c }
+{
+    allows_id(options, id_of_hidden(c)) || contains_number(options.allowed, c)
+}
+
+/// Whether `c` is reported: it is a finding, and not allowed. `previous` is the character before `c`, or NUL at the start. `after` is
+/// the text after `c`.
+#[inline(always)]
+fn is_reported(options: &Options<'_>, previous: char, c: char, after: &str) -> bool
+    ensures { result ≡ reported options.now previous c (chars after.now) }
+{
+    hides(previous, c, after) && !allows_character(options, c)
 }
 
 /// Returns the message for a character: its number, as in `U+202E`, and its name if it changes the direction of text.
@@ -199,7 +218,7 @@ fn push_character<'t, A: Allocator>(
         (chars (string_bytes out.old)) (chars (string_bytes out.new))) }
     ensures same { places.new ≡ places.old }
 {
-    if !hides(previous, c, after) {
+    if !is_reported(options, previous, c, after) {
         return Ok(());
     }
     push_hidden_line(alloc, out, options, places, rest, c, after)

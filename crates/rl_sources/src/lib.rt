@@ -2,6 +2,7 @@
 //! literals whose value contains a text. Lists the invisible and bidirectional characters of a source instead, on request.
 #![tactic(auto)]
 
+mod allowed;
 mod check;
 mod find_match;
 mod finding;

@@ -43,6 +43,10 @@ pub struct Options<'a> {
     pub edition: Edition,
     /// The path that is printed before each position: as displayed, or for the format `Json` unchanged.
     pub path: Option<&'a str>,
+    /// The identifiers of findings that are allowed: with `explains` an error, and with `Hidden` a character, has no line if its
+    /// identifier is here. A number of a character, such as `U+200B`, allows this character. The error that ends the source always
+    /// has its line.
+    pub allowed: &'a [&'a str],
 }
 
 impl Default for Options<'_> {
@@ -52,7 +56,7 @@ impl Default for Options<'_> {
     ghost use Rattle.rl_output.specs.declared.choice.Shown.TheVariants.{All};
     ghost use Rattle.rl_output.specs.declared.choice.Spelling.TheVariants.{Value};
 
-    ghost is_default = { λ options. (options.finds.now ≡ []) × (options ≡ record {
+    ghost is_default = { λ options. (options.finds.now ≡ []) × (options.allowed.now ≡ []) × (options ≡ record {
       shown = All;
       finds = options.finds;
       matching = record { ignores_case = false; whole_words = false };
@@ -66,6 +70,7 @@ impl Default for Options<'_> {
       judges_macros = true;
       edition = E2021;
       path = None;
+      allowed = options.allowed;
     }) };
 
     /// Returns the options for all literals, each by its value after its position in bytes, without errors. Searches respect case
@@ -88,6 +93,7 @@ impl Default for Options<'_> {
             judges_macros: true,
             edition: Edition::E2021,
             path: None,
+            allowed: &[],
         }
     }
 }

@@ -13,9 +13,10 @@ ghost use Rattle.rl_output.specs.Fronts.{line_front};
 ghost use Rattle.rl_output.specs.Github.{annotation_end, message_text};
 ghost use Rattle.rl_sources.specs.Findings.{IsPieceOf, IsSlice, reason_id, reason_message};
 ghost use Rattle.rl_sources.specs.Held.{IsCutAt};
-ghost use Rattle.rl_sources.specs.Scans.{IsErrorLine, IsFindingLine, error_end, error_reason, error_words, finding_end};
+ghost use Rattle.rl_sources.specs.Scans.{IsErrorLine, IsFindingLine, IsShownFinding, error_end, error_reason, error_words, finding_end};
 ghost use Rattle.rl_sources.specs.Steps.{BeginsRest};
 
+use crate::allowed::allows_id;
 use crate::finding::{Finding, Reason};
 use crate::json::{push_json_error, push_json_finding};
 use crate::literal::Literal;
@@ -110,8 +111,7 @@ fn push_finding_end<A: Allocator>(
 }
 
 /// Appends the line for an error of a literal, with its position in the source, and the lines of context.
-#[inline(never)]
-pub(crate) fn push_finding<'t, A: Allocator>(
+fn push_finding_line<'t, A: Allocator>(
     out: &mut String<A>,
     options: &Options<'_>,
     literal: &Literal<'_, 't>,
@@ -141,6 +141,30 @@ pub(crate) fn push_finding<'t, A: Allocator>(
         finding.lo,
         finding.hi,
     )
+}
+
+/// Appends the line for an error of a literal and the lines of context, or nothing if the error is allowed.
+#[inline(never)]
+pub(crate) fn push_finding<'t, A: Allocator>(
+    out: &mut String<A>,
+    options: &Options<'_>,
+    literal: &Literal<'_, 't>,
+    places: &mut Places<'t>,
+    finding: Finding,
+) -> Result<(), AllocError>
+    requires rest { BeginsRest literal.now.token.now places.old literal.now.rest.now }
+    requires cut { IsCutAt (chars literal.now.token.now.text.now) finding.lo }
+    requires within { finding.hi ≤ byte_len (chars literal.now.token.now.text.now) }
+    ensures shown { OnOk result (Appends
+        (IsShownFinding options.now (chars places.old) (chars literal.now.token.now.text.now)
+        literal.now.token.now.lo finding)
+        (chars (string_bytes out.old)) (chars (string_bytes out.new))) }
+    ensures same { places.new ≡ places.old }
+{
+    if allows_id(options, finding.reason.id()) {
+        return Ok(());
+    }
+    push_finding_line(out, options, literal, places, finding)
 }
 
 /// Appends a GitHub annotation's text after its position, for an error that isn't in a literal, as an unclosed comment.

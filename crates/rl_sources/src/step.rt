@@ -1,6 +1,6 @@
 //! Writes the lines for the tokens of a source, one token after another.
 
-ghost use Rattle.std.specs.Prelude.{◌≡◌, ◌↔◌, ◌+◌, ◌<◌, ◌≤◌, ◌++◌, [], length, codes, IsFalse, IsTrue, IfSome, IfOk, IfErr, OnOk, MatchOption, false, string_bytes};
+ghost use Rattle.std.specs.Prelude.{◌≡◌, ◌↔◌, ◌+◌, ◌<◌, ◌≤◌, ◌++◌, [], length, codes, IsFalse, IsTrue, IfSome, IfOk, IfErr, OnOk, MatchOption, false, true, string_bytes};
 ghost use Rattle.std.specs.Str.{IsCharBoundary, chars};
 ghost use Rattle.rl_syntax.specs.Texts.{byte_len};
 ghost use Rattle.rl_lexer.specs.Cursors.{IsCursorState};
@@ -9,7 +9,7 @@ ghost use Rattle.rl_files.specs.Globs.{borrowed_texts};
 ghost use Rattle.rl_files.specs.Visible.{visible};
 ghost use Rattle.rl_program.specs.Lines.{Appends};
 ghost use Rattle.rl_sources.specs.Held.{IsCutAt};
-ghost use Rattle.rl_sources.specs.Scans.{IsErrorAt, IsHeldLine, IsLineAt, IsLineEnd, IsLineIn, IsPickedLine, IsPlacedLine, IsPrintedAs, IsShownLiteral, IsShownToken};
+ghost use Rattle.rl_sources.specs.Scans.{IsErrorAt, IsHeldLine, IsLineAt, IsLineEnd, IsLineIn, IsPickedLine, IsPlacedLine, IsPrintedAs, IsShownLiteral, IsShownStray, IsShownToken};
 ghost use Rattle.rl_output.specs.declared.form.Form.TheVariants.{Github};
 ghost use Rattle.rl_output.specs.declared.choice.Spelling.TheVariants.{Value};
 ghost use Rattle.rl_output.specs.declared.choice.Shown.TheVariants.{Bad};
@@ -18,6 +18,7 @@ ghost use Rattle.rl_sources.specs.Findings.{IsFoundIn};
 ghost use Rattle.rl_style.specs.Calls.{advance_calls, calls_seen, is_in_call};
 ghost use Rattle.rl_sources.specs.Options.{options_at as options_in};
 
+use crate::allowed::allows_id;
 use crate::check::{find_wrong, is_right, looks_for_flaws, reason_of};
 use crate::find_match::first_match_range;
 use crate::flaw_lines::push_error_lines;
@@ -29,7 +30,8 @@ use crate::reason::push_error_line;
 use rl_files::{make_visible, push_visible};
 use rl_lenient::{Found, parse_literal};
 use rl_output::{
-    Form, Level, Place, Places, Shown, Spelling, first_line, push_annotation_end, push_line_start,
+    Form, Level, Place, Places, Shown, Spelling, first_line, id_of, push_annotation_end,
+    push_line_start,
 };
 use rl_program::{label_of, push_found_line, push_unescaped_line, unescaped_value};
 use rl_style::{Calls, advance_calls, is_in_call};
@@ -324,6 +326,29 @@ fn is_stray(token: &SourceToken<'_>) -> bool
     matches!(token.form, SourceForm::Stray)
 }
 
+/// Appends the line of a stray character, or nothing if stray characters are allowed. `rest` is the end of the source from the
+/// character.
+fn push_stray<'t, A: Allocator>(
+    out: &mut String<A>,
+    options: &Options<'_>,
+    token: SourceToken<'t>,
+    rest: &'t str,
+    places: &mut Places<'t>,
+) -> Result<(), AllocError>
+    requires begins { BeginsRest token places.old rest.now }
+    ensures shown { OnOk result (Appends
+        (IsShownStray true options.now (chars places.old) (chars token.entry.text.now) token.entry.lo token.entry.hi)
+        (chars (string_bytes out.old)) (chars (string_bytes out.new))) }
+    ensures same { places.new ≡ places.old }
+{
+    let kind = LexKind::StrayCharacter;
+    if allows_id(options, id_of(kind)) {
+        return Ok(());
+    }
+    let range = (token.lo, token.hi);
+    push_error_line(out, options, places, rest, range, kind, token.text)
+}
+
 /// Appends the lines for a literal, or the line of a stray character. `rest` is the end of the source from the token.
 #[inline(always)]
 fn push_token<'t, A: Allocator + Copy>(
@@ -343,9 +368,7 @@ fn push_token<'t, A: Allocator + Copy>(
     ensures same { places.new ≡ places.old }
 {
     if is_stray(&token) {
-        let range = (token.lo, token.hi);
-        let kind = LexKind::StrayCharacter;
-        return push_error_line(out, options, places, rest, range, kind, token.text);
+        return push_stray(out, options, token, rest, places);
     }
     push_literal_token(alloc, out, options, token, rest, places)
 }

@@ -50,7 +50,7 @@ fn each_option() {
         assert!(fish.contains(&format!(" -l {name} ")), "{name}");
     }
     // The rows of the table of options, without `--`.
-    assert_eq!(count, 39);
+    assert_eq!(count, 40);
 }
 
 #[test]

@@ -22,6 +22,7 @@ returns-clause-asked g c = (
       (wishes_in c.loop-word.asked) (omega (arith, c.loop-word-test.false)) c.loop-word.invariant,
   c.in_default.ensures.none,
   c.in_default-clash_of.ensures.none,
+  rw c.as_slice.ensures.value at c.in_default-allowed_error.ensures.none,
 )
 
 pub returns-in-Some-clash_of-clause-rejected : goal.returns-in-Some-clash_of-clause-rejected
@@ -30,7 +31,16 @@ returns-in-Some-clash_of-clause-rejected g c = inr (inl (
   wishes_in c.loop-word.asked,
   all_taken c.args.has_colors string_bytes c.args.words.now c.loop-word.word-index c.loop-word.asked.next
       (wishes_in c.loop-word.asked) (omega (arith, c.loop-word-test.false)) c.loop-word.invariant,
-  c.in-Some-clash_of.ensures.some,
+  inl c.in-Some-clash_of.ensures.some,
+))
+
+pub returns-in-Some-allowed_error-clause-rejected : goal.returns-in-Some-allowed_error-clause-rejected
+returns-in-Some-allowed_error-clause-rejected g c = inr (inl (
+  c.loop-word.asked.next,
+  wishes_in c.loop-word.asked,
+  all_taken c.args.has_colors string_bytes c.args.words.now c.loop-word.word-index c.loop-word.asked.next
+      (wishes_in c.loop-word.asked) (omega (arith, c.loop-word-test.false)) c.loop-word.invariant,
+  inr (c.in_default-clash_of.ensures.none, rw c.as_slice.ensures.value at c.in-Some-allowed_error.ensures.some),
 ))
 
 pub returns-in-Some-clause-rejected : goal.returns-in-Some-clause-rejected

@@ -9,12 +9,12 @@ pub returns-then-is_empty : goal.returns-then-is_empty
 returns-then-is_empty g c = scan_ends c.args.asked.command c.selecting-command.result c.args.rules
     (borrowed_texts c.args.asked.finds.items)
     (borrowed_texts c.args.asked.extensions.items) (borrowed_texts c.args.asked.excludes.items)
-    (borrowed_texts c.args.asked.lists.items) (borrowed_texts c.args.asked.settings.items) (string_texts c.args.asked.paths.items) c.args.lacks_input
+    (borrowed_texts c.args.asked.lists.items) (borrowed_texts c.args.asked.settings.items) (borrowed_texts c.args.asked.allowed.items) (string_texts c.args.asked.paths.items) c.args.lacks_input
     c.reads_current_directory-is_here.result (g.T.Tree.holds c.args.tree.now)
     (written_on (g.W.Write.contents c.args.out.now) (g.W.Write.contents c.scan_named.new.out)
     (g.E.Write.contents c.args.err.now) (g.E.Write.contents c.scan_named.new.err) (g.F.Replace.handed c.args.files.now)
     (g.F.Replace.handed c.scan_named.new.files)) c.scan_named.result
-    (rw (c.as_slice.ensures.value, c.as_slice-2.ensures.value, c.as_slice-3.ensures.value, c.as_slice-4.ensures.value)
+    (rw (c.as_slice.ensures.value, c.as_slice-2.ensures.value, c.as_slice-3.ensures.value, c.as_slice-4.ensures.value, c.as_slice-5.ensures.value)
     at
     c.selecting-command.ensures)
     c.reads_current_directory-is_here.ensures
@@ -29,12 +29,12 @@ pub returns : goal.returns
 returns g c = scan_ends c.args.asked.command c.selecting-command.result c.args.rules
     (borrowed_texts c.args.asked.finds.items)
     (borrowed_texts c.args.asked.extensions.items) (borrowed_texts c.args.asked.excludes.items)
-    (borrowed_texts c.args.asked.lists.items) (borrowed_texts c.args.asked.settings.items) (string_texts c.args.asked.paths.items) c.args.lacks_input
+    (borrowed_texts c.args.asked.lists.items) (borrowed_texts c.args.asked.settings.items) (borrowed_texts c.args.asked.allowed.items) (string_texts c.args.asked.paths.items) c.args.lacks_input
     c.reads_current_directory-is_here.result (g.T.Tree.holds c.args.tree.now)
     (written_on (g.W.Write.contents c.args.out.now) (g.W.Write.contents c.scan_listed.new.out)
     (g.E.Write.contents c.args.err.now) (g.E.Write.contents c.scan_listed.new.err) (g.F.Replace.handed c.args.files.now)
     (g.F.Replace.handed c.scan_listed.new.files)) c.scan_listed.result
-    (rw (c.as_slice.ensures.value, c.as_slice-2.ensures.value, c.as_slice-3.ensures.value, c.as_slice-4.ensures.value)
+    (rw (c.as_slice.ensures.value, c.as_slice-2.ensures.value, c.as_slice-3.ensures.value, c.as_slice-4.ensures.value, c.as_slice-5.ensures.value)
     at
     c.selecting-command.ensures)
     c.reads_current_directory-is_here.ensures

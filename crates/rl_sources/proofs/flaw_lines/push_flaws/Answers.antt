@@ -1,6 +1,6 @@
 use Rattle.rl_syntax.proofs.Common.{List, ℕ, IsUtf8, chars, refl, rules, string_bytes, subst, ◌∙◌}
 use Rattle.rl_program.specs.Lines.{Appends}
-use Rattle.rl_sources.specs.Scans.{IsFindingLine}
+use Rattle.rl_sources.specs.Scans.{IsShownFinding}
 use Rattle.rl_sources.proofs.FlawLineLemmas.{begins_on, ends_on, finding_cut, finding_within, flaw_lines, goes_further, over_first, over_next}
 use Rattle.rl_sources.proofs.flaw_lines.push_flaws.Goals as goal
 
@@ -28,7 +28,7 @@ pub loop-bad-preserved : goal.loop-bad-preserved
 loop-bad-preserved g c =
     let before = c.loop-bad.invariant in
     let text : List ℕ = chars c.args.literal.now.token.now.text.now in
-    let line = subst (λ (w : List ℕ). Appends (IsFindingLine c.args.options.now (chars w) text
+    let line = subst (λ (w : List ℕ). Appends (IsShownFinding c.args.options.now (chars w) text
     c.args.literal.now.token.now.lo c.finding_of-finding.result) (chars (string_bytes c.loop-bad.out))
     (chars (string_bytes c.push_finding.new.out))) before.same c.in_ok-push_finding.ensures.shown in
     record {

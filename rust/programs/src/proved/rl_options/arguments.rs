@@ -2,6 +2,7 @@
 //! Parses the command-line arguments of the program `rl_scan`.
 
 use crate::rattle_std::prelude::{String, Vec};
+use crate::rl_options::allowed::allowed_error;
 use crate::rl_options::argument_error::ArgumentError;
 use crate::rl_options::command::{Action, Command, Output, PlaceForm};
 use crate::rl_options::conflicts::clash_of;
@@ -46,6 +47,8 @@ pub struct ParsedArguments<'a, A: Allocator = Global> {
     pub lists: Vec<&'a str, A>,
     /// The values of `--rule`: rules of a style, each with or without its value.
     pub settings: Vec<&'a str, A>,
+    /// The values of `--allow`: identifiers of findings that aren't shown, and numbers of characters such as `U+200B`.
+    pub allowed: Vec<&'a str, A>,
     next: Next,
 }
 
@@ -69,6 +72,7 @@ fn missing<A: Allocator>(operand: Operand) -> ArgumentError<A> {
         Operand::Style => ArgumentError::NoStyle,
         Operand::Rule => ArgumentError::NoRule,
         Operand::Macros => ArgumentError::NoMacros,
+        Operand::Allowed => ArgumentError::NoAllowed,
         Operand::Generated => ArgumentError::NoGenerated,
     }
 }
@@ -237,6 +241,15 @@ impl<'a, A: Allocator + Copy> ParsedArguments<'a, A> {
         }
     }
 
+    /// Adds the identifier of findings that aren't shown, or the number of a character, from the value of `--allow`.
+    fn take_allowed(&mut self, id: &'a str) -> Result<(), ArgumentError<A>> {
+        self.command.allows = true;
+        match self.allowed.push(id) {
+            Ok(()) => Ok(()),
+            Err(_) => Err(ArgumentError::Memory),
+        }
+    }
+
     /// Sets whether literals in macro code are treated as all others, from the value of `--macros`.
     fn take_macros(&mut self, alloc: A, word: &str) -> Result<(), ArgumentError<A>> {
         let Some(macros) = macros_of(word) else {
@@ -316,6 +329,7 @@ impl<'a, A: Allocator + Copy> ParsedArguments<'a, A> {
             Operand::Style => self.take_style(text),
             Operand::Rule => self.take_setting(text),
             Operand::Macros => self.take_macros(alloc, text),
+            Operand::Allowed => self.take_allowed(text),
             Operand::Generated => self.take_generated(alloc, text),
         }
     }
@@ -442,6 +456,8 @@ fn first_command<'a>(has_colors: bool) -> Command<'a> {
         sets_rules: false,
         rules: default_style(),
         macros: None,
+        allows: false,
+        allowed: &[],
     }
 }
 
@@ -453,7 +469,8 @@ fn first_command<'a>(has_colors: bool) -> Command<'a> {
 ///
 /// Returns the error of the first invalid argument. After the last argument, it returns an error if that argument is an option
 /// without its value, as `NoKinds`. Then it returns an error if options contradict each other: `TextlessKinds`, `ObjectsOfPaths`,
-/// `StatsOfPaths`, `NoEffect`, `InputTwice` or `TwoStyles`.
+/// `StatsOfPaths`, `NoEffect`, `InputTwice` or `TwoStyles`. Then it returns an error if a value of `--allow` has no effect in the
+/// command's mode: `UnclosedAllowed` or `UnknownAllowed`.
 pub fn parse_arguments<A: Allocator + Copy>(
     alloc: A,
     has_colors: bool,
@@ -467,6 +484,7 @@ pub fn parse_arguments<A: Allocator + Copy>(
         excludes: Vec::new(alloc),
         lists: Vec::new(alloc),
         settings: Vec::new(alloc),
+        allowed: Vec::new(alloc),
         next: Next::Any,
     };
     for word in words {
@@ -479,6 +497,9 @@ pub fn parse_arguments<A: Allocator + Copy>(
         return Err(missing(operand));
     }
     if let Some(error) = clash_of(&asked) {
+        return Err(error);
+    }
+    if let Some(error) = allowed_error(alloc, asked.command.shown, asked.allowed.as_slice()) {
         return Err(error);
     }
     Ok(asked)

@@ -67,6 +67,8 @@ pub(crate) enum Operand {
     Rule,
     /// A word that determines whether literals in macro code are treated as all others.
     Macros,
+    /// The identifier of findings that aren't shown, or the number of a character.
+    Allowed,
     /// The name of a text for another program.
     Generated,
 }

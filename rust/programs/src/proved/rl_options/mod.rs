@@ -2,6 +2,7 @@
 //! The command line of `rl_scan`, which prints the literals of Rust sources. Parses its arguments, and reads the files that list
 //! paths or contain the rules of a style.
 
+mod allowed;
 mod argument_error;
 mod arguments;
 mod command;

@@ -41,6 +41,8 @@ pub(crate) enum Modes {
     Rewriting,
     /// `--bad`, or a mode of `Rewriting`.
     BadOrRewriting,
+    /// `--bad` or `--invisible`.
+    BadOrInvisible,
 }
 
 /// Returns the mode of a command that prints findings. `searches` is true if it has a text to search for.
@@ -87,6 +89,7 @@ fn is_in(mode: Mode, modes: Modes) -> bool {
         Modes::Listing => !matches!(mode, Mode::Fix | Mode::Diff),
         Modes::Rewriting => rewrites(mode),
         Modes::BadOrRewriting => rewrites(mode) || matches!(mode, Mode::Bad),
+        Modes::BadOrInvisible => matches!(mode, Mode::Bad | Mode::Invisible),
     }
 }
 
@@ -128,6 +131,7 @@ fn has_operand(command: Command<'_>, operand: Operand) -> bool {
         Operand::Style => command.style.is_some(),
         Operand::Rule => command.sets_rules,
         Operand::Macros => command.macros.is_some(),
+        Operand::Allowed => command.allows,
         _ => false,
     }
 }
@@ -168,5 +172,6 @@ pub(crate) fn modes_hint(modes: Modes) -> &'static str {
         Modes::Printing => "use only one of them",
         Modes::Rewriting => "use --fix, --check or --diff",
         Modes::BadOrRewriting => "use --bad, --fix, --check or --diff",
+        Modes::BadOrInvisible => "use --bad or --invisible",
     }
 }

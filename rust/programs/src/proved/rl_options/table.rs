@@ -20,7 +20,7 @@ pub(crate) struct OptionRow {
 }
 
 /// The options of `rl_scan`. If an unknown option is similar to several names, the first one is suggested.
-const OPTIONS: [OptionRow; 40] = [
+const OPTIONS: [OptionRow; 41] = [
     OptionRow {
         name: "--bad",
         letter: None,
@@ -230,6 +230,12 @@ const OPTIONS: [OptionRow; 40] = [
         letter: None,
         effect: Effect::Takes(Operand::Macros),
         modes: Modes::BadOrRewriting,
+    },
+    OptionRow {
+        name: "--allow",
+        letter: None,
+        effect: Effect::Takes(Operand::Allowed),
+        modes: Modes::BadOrInvisible,
     },
     OptionRow {
         name: "--rules",

@@ -18,3 +18,13 @@ pub fn id_of(kind: LexKind) -> &'static str {
         LexKind::Memory => "out-of-memory",
     }
 }
+
+/// Whether two identifiers are equal.
+fn is_same_id(id: &str, other: &str) -> bool {
+    id == other
+}
+
+/// Returns `true` if `id` is one of the identifiers. Case counts.
+pub fn contains_id(ids: &[&str], id: &str) -> bool {
+    ids.iter().any(|other| is_same_id(other, id))
+}

@@ -3,6 +3,7 @@
 //! with carets below a range. Also selects the literals that have an output line.
 
 mod choice;
+mod code_points;
 mod color;
 mod context;
 mod error_id;
@@ -21,9 +22,10 @@ mod width;
 mod width_rows;
 
 pub use crate::rl_output::choice::{Matching, Shown, Spelling, list_contains};
+pub use crate::rl_output::code_points::code_point;
 pub use crate::rl_output::color::{Paint, push_error_word, push_painted};
 pub use crate::rl_output::context::{Context, first_line, push_context};
-pub use crate::rl_output::error_id::id_of;
+pub use crate::rl_output::error_id::{contains_id, id_of};
 pub use crate::rl_output::form::{Form, has_extents, is_github, is_json};
 pub use crate::rl_output::github::{Level, push_annotation_end, push_annotation_text};
 pub use crate::rl_output::json_string::{a_json_string_represents_its_text, push_json_string};

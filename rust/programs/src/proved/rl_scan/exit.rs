@@ -221,7 +221,7 @@ fn extensions_or_default<'a>(extensions: &'a [&'a str]) -> &'a [&'a str] {
 }
 
 /// Returns the command with lists that are parsed separately: the texts to search for, the selection of files in directories, the
-/// lists of paths, and the rules of the style.
+/// lists of paths, the allowed findings, and the rules of the style.
 fn selecting<'a>(
     command: Command<'a>,
     rules: Style,
@@ -229,6 +229,7 @@ fn selecting<'a>(
     extensions: &'a [&'a str],
     excludes: &'a [&'a str],
     lists: &'a [&'a str],
+    allowed: &'a [&'a str],
 ) -> Command<'a> {
     Command {
         action: command.action,
@@ -260,6 +261,8 @@ fn selecting<'a>(
         sets_rules: command.sets_rules,
         rules,
         macros: command.macros,
+        allows: command.allows,
+        allowed,
     }
 }
 
@@ -283,6 +286,7 @@ fn scan_requested<A: Allocator + Copy, T: Tree, W: Write, E: Write, F: Replace>(
         extensions,
         excludes,
         lists,
+        allowed,
         ..
     } = asked;
     let command = selecting(
@@ -292,6 +296,7 @@ fn scan_requested<A: Allocator + Copy, T: Tree, W: Write, E: Write, F: Replace>(
         extensions.as_slice(),
         excludes.as_slice(),
         lists.as_slice(),
+        allowed.as_slice(),
     );
     let named = command.files_from;
     if named.is_empty() {

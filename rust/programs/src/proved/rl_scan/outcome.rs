@@ -40,6 +40,7 @@ pub fn source_check_options(edition: Edition, by_line: bool, path: Option<&str>)
         judges_macros: true,
         edition,
         path,
+        allowed: &[],
     }
 }
 

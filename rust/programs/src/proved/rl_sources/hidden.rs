@@ -2,6 +2,7 @@
 //! Invisible and bidirectional characters of a source, wherever they are.
 
 use crate::rattle_std::prelude::{String, format};
+use crate::rl_sources::allowed::{allows_id, contains_number};
 use crate::rl_sources::options::Options;
 use crate::rl_sources::place::{displayed_place, push_context_of};
 use crate::rl_files::is_control_invisible_or_bidi;
@@ -19,7 +20,7 @@ fn is_layout(c: char, after: &str) -> bool {
     matches!(c, '\t' | '\n' | '\u{c}') || c == '\r' && begins_with_char(after, '\n')
 }
 
-/// Whether `c` is reported: an invisible or bidirectional character that isn't part of the layout, or a variation selector after a
+/// Whether `c` is a finding: an invisible or bidirectional character that isn't part of the layout, or a variation selector after a
 /// character that doesn't take it. `previous` is the character before `c`, or NUL at the start. `after` is the text after `c`.
 #[inline(always)]
 fn hides(previous: char, c: char, after: &str) -> bool {
@@ -61,6 +62,19 @@ fn id_of_hidden(c: char) -> &'static str {
         _ if c.is_control() => "control-character",
         _ => "invisible-character",
     }
+}
+
+/// Whether the character `c` is allowed, by its class or by its number.
+#[inline(never)]
+fn allows_character(options: &Options<'_>, c: char) -> bool {
+    allows_id(options, id_of_hidden(c)) || contains_number(options.allowed, c)
+}
+
+/// Whether `c` is reported: it is a finding, and not allowed. `previous` is the character before `c`, or NUL at the start. `after` is
+/// the text after `c`.
+#[inline(always)]
+fn is_reported(options: &Options<'_>, previous: char, c: char, after: &str) -> bool {
+    hides(previous, c, after) && !allows_character(options, c)
 }
 
 /// Returns the message for a character: its number, as in `U+202E`, and its name if it changes the direction of text.
@@ -150,7 +164,7 @@ fn push_character<'t, A: Allocator>(
     c: char,
     after: &'t str,
 ) -> Result<(), AllocError> {
-    if !hides(previous, c, after) {
+    if !is_reported(options, previous, c, after) {
         return Ok(());
     }
     push_hidden_line(alloc, out, options, places, rest, c, after)

@@ -2,6 +2,7 @@
 //! Lists the literals of whole Rust sources, one a line, each with its position: all literals, only invalid literals, or only
 //! literals whose value contains a text. Lists the invisible and bidirectional characters of a source instead, on request.
 
+mod allowed;
 mod check;
 mod find_match;
 mod finding;

@@ -40,6 +40,10 @@ pub struct Options<'a> {
     pub edition: Edition,
     /// The path that is printed before each position: as displayed, or for the format `Json` unchanged.
     pub path: Option<&'a str>,
+    /// The identifiers of findings that are allowed: with `explains` an error, and with `Hidden` a character, has no line if its
+    /// identifier is here. A number of a character, such as `U+200B`, allows this character. The error that ends the source always
+    /// has its line.
+    pub allowed: &'a [&'a str],
 }
 
 impl Default for Options<'_> {
@@ -63,6 +67,7 @@ impl Default for Options<'_> {
             judges_macros: true,
             edition: Edition::E2021,
             path: None,
+            allowed: &[],
         }
     }
 }

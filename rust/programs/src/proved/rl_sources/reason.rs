@@ -2,6 +2,7 @@
 //! Writes the lines that report an error of a source or of one of its literals.
 
 use crate::rattle_std::prelude::{String};
+use crate::rl_sources::allowed::allows_id;
 use crate::rl_sources::finding::{Finding, Reason};
 use crate::rl_sources::json::{push_json_error, push_json_finding};
 use crate::rl_sources::literal::Literal;
@@ -78,8 +79,7 @@ fn push_finding_end<A: Allocator>(
 }
 
 /// Appends the line for an error of a literal, with its position in the source, and the lines of context.
-#[inline(never)]
-pub(crate) fn push_finding<'t, A: Allocator>(
+fn push_finding_line<'t, A: Allocator>(
     out: &mut String<A>,
     options: &Options<'_>,
     literal: &Literal<'_, 't>,
@@ -100,6 +100,21 @@ pub(crate) fn push_finding<'t, A: Allocator>(
         finding.lo,
         finding.hi,
     )
+}
+
+/// Appends the line for an error of a literal and the lines of context, or nothing if the error is allowed.
+#[inline(never)]
+pub(crate) fn push_finding<'t, A: Allocator>(
+    out: &mut String<A>,
+    options: &Options<'_>,
+    literal: &Literal<'_, 't>,
+    places: &mut Places<'t>,
+    finding: Finding,
+) -> Result<(), AllocError> {
+    if allows_id(options, finding.reason.id()) {
+        return Ok(());
+    }
+    push_finding_line(out, options, literal, places, finding)
 }
 
 /// Appends a GitHub annotation's text after its position, for an error that isn't in a literal, as an unclosed comment.

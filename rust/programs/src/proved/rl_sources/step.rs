@@ -2,6 +2,7 @@
 //! Writes the lines for the tokens of a source, one token after another.
 
 use crate::rattle_std::prelude::{String};
+use crate::rl_sources::allowed::allows_id;
 use crate::rl_sources::check::{find_wrong, is_right, looks_for_flaws, reason_of};
 use crate::rl_sources::find_match::first_match_range;
 use crate::rl_sources::flaw_lines::push_error_lines;
@@ -13,7 +14,8 @@ use crate::rl_sources::reason::push_error_line;
 use crate::rl_files::{make_visible, push_visible};
 use crate::rl_lenient::{Found, parse_literal};
 use crate::rl_output::{
-    Form, Level, Place, Places, Shown, Spelling, first_line, push_annotation_end, push_line_start,
+    Form, Level, Place, Places, Shown, Spelling, first_line, id_of, push_annotation_end,
+    push_line_start,
 };
 use crate::rl_program::{label_of, push_found_line, push_unescaped_line, unescaped_value};
 use crate::rl_style::{Calls, advance_calls, is_in_call};
@@ -234,6 +236,23 @@ fn is_stray(token: &SourceToken<'_>) -> bool {
     matches!(token.form, SourceForm::Stray)
 }
 
+/// Appends the line of a stray character, or nothing if stray characters are allowed. `rest` is the end of the source from the
+/// character.
+fn push_stray<'t, A: Allocator>(
+    out: &mut String<A>,
+    options: &Options<'_>,
+    token: SourceToken<'t>,
+    rest: &'t str,
+    places: &mut Places<'t>,
+) -> Result<(), AllocError> {
+    let kind = LexKind::StrayCharacter;
+    if allows_id(options, id_of(kind)) {
+        return Ok(());
+    }
+    let range = (token.lo, token.hi);
+    push_error_line(out, options, places, rest, range, kind, token.text)
+}
+
 /// Appends the lines for a literal, or the line of a stray character. `rest` is the end of the source from the token.
 #[inline(always)]
 fn push_token<'t, A: Allocator + Copy>(
@@ -245,9 +264,7 @@ fn push_token<'t, A: Allocator + Copy>(
     places: &mut Places<'t>,
 ) -> Result<(), AllocError> {
     if is_stray(&token) {
-        let range = (token.lo, token.hi);
-        let kind = LexKind::StrayCharacter;
-        return push_error_line(out, options, places, rest, range, kind, token.text);
+        return push_stray(out, options, token, rest, places);
     }
     push_literal_token(alloc, out, options, token, rest, places)
 }

@@ -6,5 +6,5 @@ use Rattle.rl_options.proofs.arguments.ParsedArguments.take_joined.Goals as goal
 pub returns-in-Err-clause-rejected : goal.returns-in-Err-clause-rejected
 returns-in-Err-clause-rejected g c = inl (c.in-Err.ensures.rejected (borrowed_texts c.args.self.now.finds.items)
     (borrowed_texts c.args.self.now.extensions.items)
-    (borrowed_texts c.args.self.now.excludes.items) (borrowed_texts c.args.self.now.lists.items) (borrowed_texts c.args.self.now.settings.items)
+    (borrowed_texts c.args.self.now.excludes.items) (borrowed_texts c.args.self.now.lists.items) (borrowed_texts c.args.self.now.settings.items) (borrowed_texts c.args.self.now.allowed.items)
     (string_texts c.args.self.now.paths.items))
