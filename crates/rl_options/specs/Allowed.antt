@@ -1,6 +1,5 @@
 -- The identifiers of findings that `--allow` may leave out. Identifiers are lists of bytes.
-use Rattle.std.specs.Prelude.{◌≡◌, ℕ, Bool, true, false, not, ◌||◌, List, [], ◌∷◌, ◌++◌, codes, find, is_some, string_bytes, ⊤, Option, Some, None}
-use denote.Ref.{Bor}
+use Rattle.std.specs.Prelude.{◌≡◌, ℕ, Bool, true, false, not, ◌||◌, List, [], ◌∷◌, codes, find, is_some, string_bytes, ⊤, Option, Some}
 use Rattle.std.specs.List.{list_any}
 use Rattle.std.specs.Option.{option_map}
 use Rattle.std.specs.Str.{bytes_eq, chars}

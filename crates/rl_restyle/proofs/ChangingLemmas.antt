@@ -1,6 +1,6 @@
 -- Lemmas about the rules that change a literal.
 use Rattle.rl_syntax.proofs.Common.{◌≡◌, ℕ, List, [], ◌∷◌, ◌++◌, ◌∙◌, Option, Some, None, ap, append-nil, append_assoc, arith, chars, false, inl, inr, length, refl, string_bytes, subst, sym, true}
-use Rattle.std.specs.Prelude.{◌⊎◌, Bool, String, is_some, option_map}
+use Rattle.std.specs.Prelude.{Bool, String, is_some, option_map}
 use Rattle.std.proofs.lemmas.Bool.{false≢true}
 use Rattle.rl_style.proofs.Theorems.{no_rule_changes_nothing}
 use Rattle.rl_style.specs.Rewriting.{HasNoRule}

@@ -3,7 +3,6 @@ use Rattle.rl_syntax.proofs.Common.{Bool, List, None, Option, Some, [], ap, appe
 use Rattle.std.proofs.Common.{rules}
 use Rattle.std.proofs.Math.Seq.{take-append-add}
 use Rattle.std.specs.Prelude.{IfSome}
-use Rattle.std.specs.Io.Iter.{u64_saturate}
 use Rattle.std.specs.Io.KnownBytes.{Appends, Keeps}
 use Rattle.std.proofs.KnownBytes.{Appends-nil, Appends-trans, Appends-kept}
 use Rattle.rl_program.specs.Streams.{AppendsBeginning}
