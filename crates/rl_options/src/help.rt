@@ -10,9 +10,9 @@ Prints the literals of Rust source files, or the errors in them.
 A PATH is a file or a directory. In a directory, rl_scan reads the *.rs files,
 sorted by their paths. It skips hidden files and directories, and `target`
 beside a Cargo.toml, and doesn't follow symbolic links. `-` is standard input.
-Without a PATH, rl_scan reads standard input if that is a file, a pipe or a
-socket. Otherwise, or with --all, --extension or --exclude, it reads the current
-directory.
+Without a PATH and --files-from, rl_scan reads standard input if that is a file,
+a pipe or a socket. Otherwise, or with --all, --extension or --exclude, it reads
+the current directory.
 
 Modes: one at most, except --find with --only
       --bad            print the literals that Rust rejects, and unclosed quotes
@@ -23,16 +23,17 @@ Modes: one at most, except --find with --only
                        Char Int Float Bool Verbatim, in any case
   -e, --find TEXT      print the string, character and byte literals whose value
                        contains TEXT; may be repeated
-      --fix            rewrite files in a style, and print how many literals
-                       changed; print standard input rewritten
+      --fix            rewrite files in a style, and print how many literals of
+                       each file changed; for standard input, print the
+                       rewritten source
       --check          print the changes that --fix would make
       --diff           print these changes as a unified diff
 
-Options of these modes:
+Options of these modes: --check and --diff take those of --fix
       --any-suffix     for --bad: accept any suffix, and numbers out of range,
                        as macros do
-      --no-stray       for --bad and without a mode: a stray character, at which
-                       no token begins, is an error
+      --no-stray       for --bad, --only, --find and without a mode: a stray
+                       character, at which no token begins, is an error
       --edition YEAR   for --bad and --fix: the edition whose reserved prefixes
                        are errors: 2015, 2018, 2021 (default) or 2024
       --allow ID       for --bad and --invisible: print no findings with the id
@@ -45,9 +46,9 @@ Options of these modes:
                        1e5 for 1E5
       --rule RULE      for --fix: rewrite by this rule of --rules; RULE is
                        NAME=VALUE, or NAME for NAME=true; may be repeated
-      --macros WHICH   skip or all: whether --fix rewrites, and --bad checks the
-                       suffixes and ranges of, literals in macro calls,
-                       macro_rules! and attributes; skip by default
+      --macros WHICH   skip or all: with skip, the default, --fix doesn't change
+                       literals in macro calls, macro_rules! and attributes, and
+                       --bad doesn't check their suffixes and ranges
 
 Files:
       --all            also read hidden files and directories, and `target`
@@ -73,14 +74,15 @@ Output:
   -A, --after-context NUM
                        show the source line, and NUM lines after it
       --color WHEN     auto, always or never; auto means on a terminal, unless
-                       NO_COLOR isn't empty or TERM is dumb
+                       NO_COLOR is set and not empty, or TERM is dumb
   -c, --count          print the number of findings of each file that has some
   -l, --files-with-matches
                        print the path of each file that has findings
   -Z, --null           end the paths of -c, -l and --files with NUL
   -q, --quiet          print no findings; errors, totals and the output of --fix
                        for standard input are still printed
-      --no-messages    print no errors about unreadable or skipped files
+      --no-messages    print no errors and no warnings of files; the exit status
+                       stays the same
       --stats          print totals at the end: files read, files with findings,
                        findings, and files with an error; for --fix, also how
                        many literals each rule changes
@@ -104,9 +106,10 @@ Status:
   0  success
   1  --bad or --invisible found something; --find found nothing; --check or
      --diff found a change
-  2  an error: invalid arguments, no file to read, or a file that can't be read
-     or that --fix rejects; standard error has a line for it, and the other
-     files are still read
+  2  an error: invalid arguments, no file to read, or an error of a file: it
+     can't be read, it has an unclosed quote or comment (except with --bad and
+     --invisible), or --fix, --check or --diff rejects it; the other files are
+     still read
 
 Examples:
   rl_scan --bad src
@@ -200,7 +203,8 @@ fewest_hashes = true or false
     fewest_hashes = true: r##"b"## -> r"b"
 
 drop_raw = true or false
-    Write raw strings without a backslash and a quote as other strings.
+    Drop the r and the hashes of raw strings that contain no backslash and no
+    quote.
     drop_raw = true: r"a" -> "a"
 
 escape_invisible = true or false

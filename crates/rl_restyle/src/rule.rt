@@ -48,7 +48,7 @@ pub enum Rule {
     DropQuoteEscapes,
     /// Writes raw strings with the fewest hashes.
     FewestHashes,
-    /// Writes raw strings without a backslash and a quote as other strings.
+    /// Drops the `r` and the hashes of raw strings that contain no backslash and no quote.
     DropRaw,
     /// Writes escapes in place of invisible and bidirectional characters.
     EscapeInvisible,

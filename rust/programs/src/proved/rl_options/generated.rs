@@ -12,7 +12,7 @@ rl_scan [OPTIONS] [PATH..]
 .SH DESCRIPTION
 Prints the literals of Rust source files, or the errors in them.
 .PP
-A PATH is a file or a directory. In a directory, rl_scan reads the *.rs files, sorted by their paths. It skips hidden files and directories, and `target` beside a Cargo.toml, and doesn't follow symbolic links. `\-` is standard input. Without a PATH, rl_scan reads standard input if that is a file, a pipe or a socket. Otherwise, or with \-\-all, \-\-extension or \-\-exclude, it reads the current directory.
+A PATH is a file or a directory. In a directory, rl_scan reads the *.rs files, sorted by their paths. It skips hidden files and directories, and `target` beside a Cargo.toml, and doesn't follow symbolic links. `\-` is standard input. Without a PATH and \-\-files\-from, rl_scan reads standard input if that is a file, a pipe or a socket. Otherwise, or with \-\-all, \-\-extension or \-\-exclude, it reads the current directory.
 .SH OPTIONS
 .SS Modes
 One at most, except \-\-find with \-\-only.
@@ -30,7 +30,7 @@ Print the literals of these kinds: Str ByteStr CStr Byte Char Int Float Bool Ver
 Print the string, character and byte literals whose value contains TEXT; may be repeated.
 .TP
 .B \-\-fix
-Rewrite files in a style, and print how many literals changed; print standard input rewritten.
+Rewrite files in a style, and print how many literals of each file changed; for standard input, print the rewritten source.
 .TP
 .B \-\-check
 Print the changes that \-\-fix would make.
@@ -38,12 +38,13 @@ Print the changes that \-\-fix would make.
 .B \-\-diff
 Print these changes as a unified diff.
 .SS Options of these modes
+\-\-check and \-\-diff take those of \-\-fix.
 .TP
 .B \-\-any\-suffix
 For \-\-bad: accept any suffix, and numbers out of range, as macros do.
 .TP
 .B \-\-no\-stray
-For \-\-bad and without a mode: a stray character, at which no token begins, is an error.
+For \-\-bad, \-\-only, \-\-find and without a mode: a stray character, at which no token begins, is an error.
 .TP
 .B \-\-edition YEAR
 For \-\-bad and \-\-fix: the edition whose reserved prefixes are errors: 2015, 2018, 2021 (default) or 2024.
@@ -64,7 +65,7 @@ For \-\-fix: rewrite by the rules in FILE; without it, drop needless escapes of 
 For \-\-fix: rewrite by this rule of \-\-rules; RULE is NAME=VALUE, or NAME for NAME=true; may be repeated.
 .TP
 .B \-\-macros WHICH
-skip or all: whether \-\-fix rewrites, and \-\-bad checks the suffixes and ranges of, literals in macro calls, macro_rules! and attributes; skip by default.
+skip or all: with skip, the default, \-\-fix doesn't change literals in macro calls, macro_rules! and attributes, and \-\-bad doesn't check their suffixes and ranges.
 .SS Files
 .TP
 .B \-\-all
@@ -108,7 +109,7 @@ Show the source line, and NUM lines before it.
 Show the source line, and NUM lines after it.
 .TP
 .B \-\-color WHEN
-auto, always or never; auto means on a terminal, unless NO_COLOR isn't empty or TERM is dumb.
+auto, always or never; auto means on a terminal, unless NO_COLOR is set and not empty, or TERM is dumb.
 .TP
 .B \-c, \-\-count
 Print the number of findings of each file that has some.
@@ -123,7 +124,7 @@ End the paths of \-c, \-l and \-\-files with NUL.
 Print no findings; errors, totals and the output of \-\-fix for standard input are still printed.
 .TP
 .B \-\-no\-messages
-Print no errors about unreadable or skipped files.
+Print no errors and no warnings of files; the exit status stays the same.
 .TP
 .B \-\-stats
 Print totals at the end: files read, files with findings, findings, and files with an error; for \-\-fix, also how many literals each rule changes.
@@ -155,9 +156,10 @@ Print the version.
   0  success
   1  \-\-bad or \-\-invisible found something; \-\-find found nothing; \-\-check or
      \-\-diff found a change
-  2  an error: invalid arguments, no file to read, or a file that can't be read
-     or that \-\-fix rejects; standard error has a line for it, and the other
-     files are still read
+  2  an error: invalid arguments, no file to read, or an error of a file: it
+     can't be read, it has an unclosed quote or comment (except with \-\-bad and
+     \-\-invisible), or \-\-fix, \-\-check or \-\-diff rejects it; the other files are
+     still read
 .fi
 .SH EXAMPLES
 .nf
@@ -228,11 +230,11 @@ _arguments -s -S \
     '--only=[print the literals of these kinds: Str ByteStr CStr Byte Char Int Float Bool Verbatim, in any case]:KIND,..:(Str ByteStr CStr Byte Char Int Float Bool Verbatim)' \
     '*-e+[print the string, character and byte literals whose value contains TEXT; may be repeated]:TEXT: ' \
     '*--find=[print the string, character and byte literals whose value contains TEXT; may be repeated]:TEXT: ' \
-    '--fix[rewrite files in a style, and print how many literals changed; print standard input rewritten]' \
+    '--fix[rewrite files in a style, and print how many literals of each file changed; for standard input, print the rewritten source]' \
     '--check[print the changes that --fix would make]' \
     '--diff[print these changes as a unified diff]' \
     '--any-suffix[for --bad: accept any suffix, and numbers out of range, as macros do]' \
-    '--no-stray[for --bad and without a mode: a stray character, at which no token begins, is an error]' \
+    '--no-stray[for --bad, --only, --find and without a mode: a stray character, at which no token begins, is an error]' \
     '--edition=[for --bad and --fix: the edition whose reserved prefixes are errors: 2015, 2018, 2021 (default) or 2024]:YEAR:(2015 2018 2021 2024)' \
     '*--allow=[for --bad and --invisible: print no findings with the id ID, which --json prints; for --invisible, ID may also be a character, such as U+200B; may be repeated]:ID: ' \
     '-i[for --find: ignore the case of ASCII letters]' \
@@ -241,7 +243,7 @@ _arguments -s -S \
     '--word[for --find: match only whole words]' \
     '--style=[for --fix: rewrite by the rules in FILE; without it, drop needless escapes of quotes and needless hashes, and write 1e5 for 1E5]:FILE:_files' \
     '*--rule=[for --fix: rewrite by this rule of --rules; RULE is NAME=VALUE, or NAME for NAME=true; may be repeated]:RULE: ' \
-    '--macros=[skip or all: whether --fix rewrites, and --bad checks the suffixes and ranges of, literals in macro calls, macro_rules! and attributes; skip by default]:WHICH:(skip all)' \
+    '--macros=[skip or all: with skip, the default, --fix doesn'\''t change literals in macro calls, macro_rules! and attributes, and --bad doesn'\''t check their suffixes and ranges]:WHICH:(skip all)' \
     '--all[also read hidden files and directories, and `target`]' \
     '*--extension=[in directories, read *.EXT instead of *.rs; may be repeated]:EXT: ' \
     '*--exclude=[in directories, skip what GLOB matches, as in .gitignore, with *, ?, ** and / only; may be repeated]:GLOB: ' \
@@ -258,7 +260,7 @@ _arguments -s -S \
     '--before-context=[show the source line, and NUM lines before it]:NUM: ' \
     '-A+[show the source line, and NUM lines after it]:NUM: ' \
     '--after-context=[show the source line, and NUM lines after it]:NUM: ' \
-    '--color=[auto, always or never; auto means on a terminal, unless NO_COLOR isn'\''t empty or TERM is dumb]:WHEN:(auto always never)' \
+    '--color=[auto, always or never; auto means on a terminal, unless NO_COLOR is set and not empty, or TERM is dumb]:WHEN:(auto always never)' \
     '-c[print the number of findings of each file that has some]' \
     '--count[print the number of findings of each file that has some]' \
     '-l[print the path of each file that has findings]' \
@@ -267,7 +269,7 @@ _arguments -s -S \
     '--null[end the paths of -c, -l and --files with NUL]' \
     '-q[print no findings; errors, totals and the output of --fix for standard input are still printed]' \
     '--quiet[print no findings; errors, totals and the output of --fix for standard input are still printed]' \
-    '--no-messages[print no errors about unreadable or skipped files]' \
+    '--no-messages[print no errors and no warnings of files; the exit status stays the same]' \
     '--stats[print totals at the end: files read, files with findings, findings, and files with an error; for --fix, also how many literals each rule changes]' \
     '--rules[print the rules of a style, with values and examples]' \
     '--generate=[man, bash, zsh, fish, sarif-jq or problem-matcher: print the manual page, the completions for this shell, a jq program that makes SARIF of --json, or a file with problem matchers for GitHub]:WHAT:(man bash zsh fish sarif-jq problem-matcher)' \
@@ -289,18 +291,18 @@ const FISH_TEXT: &str =
 complete -c rl_scan -l invisible -d 'print invisible and bidirectional characters, anywhere in a file'
 complete -c rl_scan -l only -x -a 'Str ByteStr CStr Byte Char Int Float Bool Verbatim' -d 'print the literals of these kinds: Str ByteStr CStr Byte Char Int Float Bool Verbatim, in any case'
 complete -c rl_scan -s e -l find -x -d 'print the string, character and byte literals whose value contains TEXT; may be repeated'
-complete -c rl_scan -l fix -d 'rewrite files in a style, and print how many literals changed; print standard input rewritten'
+complete -c rl_scan -l fix -d 'rewrite files in a style, and print how many literals of each file changed; for standard input, print the rewritten source'
 complete -c rl_scan -l check -d 'print the changes that --fix would make'
 complete -c rl_scan -l diff -d 'print these changes as a unified diff'
 complete -c rl_scan -l any-suffix -d 'for --bad: accept any suffix, and numbers out of range, as macros do'
-complete -c rl_scan -l no-stray -d 'for --bad and without a mode: a stray character, at which no token begins, is an error'
+complete -c rl_scan -l no-stray -d 'for --bad, --only, --find and without a mode: a stray character, at which no token begins, is an error'
 complete -c rl_scan -l edition -x -a '2015 2018 2021 2024' -d 'for --bad and --fix: the edition whose reserved prefixes are errors: 2015, 2018, 2021 (default) or 2024'
 complete -c rl_scan -l allow -x -d 'for --bad and --invisible: print no findings with the id ID, which --json prints; for --invisible, ID may also be a character, such as U+200B; may be repeated'
 complete -c rl_scan -s i -l ignore-case -d 'for --find: ignore the case of ASCII letters'
 complete -c rl_scan -s w -l word -d 'for --find: match only whole words'
 complete -c rl_scan -l style -r -d 'for --fix: rewrite by the rules in FILE; without it, drop needless escapes of quotes and needless hashes, and write 1e5 for 1E5'
 complete -c rl_scan -l rule -x -d 'for --fix: rewrite by this rule of --rules; RULE is NAME=VALUE, or NAME for NAME=true; may be repeated'
-complete -c rl_scan -l macros -x -a 'skip all' -d 'skip or all: whether --fix rewrites, and --bad checks the suffixes and ranges of, literals in macro calls, macro_rules! and attributes; skip by default'
+complete -c rl_scan -l macros -x -a 'skip all' -d 'skip or all: with skip, the default, --fix doesn\'t change literals in macro calls, macro_rules! and attributes, and --bad doesn\'t check their suffixes and ranges'
 complete -c rl_scan -l all -d 'also read hidden files and directories, and `target`'
 complete -c rl_scan -l extension -x -d 'in directories, read *.EXT instead of *.rs; may be repeated'
 complete -c rl_scan -l exclude -x -d 'in directories, skip what GLOB matches, as in .gitignore, with *, ?, ** and / only; may be repeated'
@@ -314,12 +316,12 @@ complete -c rl_scan -l format -x -a 'text json github' -d 'text; json, as --json
 complete -c rl_scan -s C -l context -x -d 'show the source line, and NUM lines before and after it'
 complete -c rl_scan -s B -l before-context -x -d 'show the source line, and NUM lines before it'
 complete -c rl_scan -s A -l after-context -x -d 'show the source line, and NUM lines after it'
-complete -c rl_scan -l color -x -a 'auto always never' -d 'auto, always or never; auto means on a terminal, unless NO_COLOR isn\'t empty or TERM is dumb'
+complete -c rl_scan -l color -x -a 'auto always never' -d 'auto, always or never; auto means on a terminal, unless NO_COLOR is set and not empty, or TERM is dumb'
 complete -c rl_scan -s c -l count -d 'print the number of findings of each file that has some'
 complete -c rl_scan -s l -l files-with-matches -d 'print the path of each file that has findings'
 complete -c rl_scan -s Z -l null -d 'end the paths of -c, -l and --files with NUL'
 complete -c rl_scan -s q -l quiet -d 'print no findings; errors, totals and the output of --fix for standard input are still printed'
-complete -c rl_scan -l no-messages -d 'print no errors about unreadable or skipped files'
+complete -c rl_scan -l no-messages -d 'print no errors and no warnings of files; the exit status stays the same'
 complete -c rl_scan -l stats -d 'print totals at the end: files read, files with findings, findings, and files with an error; for --fix, also how many literals each rule changes'
 complete -c rl_scan -l rules -d 'print the rules of a style, with values and examples'
 complete -c rl_scan -l generate -x -a 'man bash zsh fish sarif-jq problem-matcher' -d 'man, bash, zsh, fish, sarif-jq or problem-matcher: print the manual page, the completions for this shell, a jq program that makes SARIF of --json, or a file with problem matchers for GitHub'
