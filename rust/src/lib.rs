@@ -1,5 +1,6 @@
-//! Reads, checks, writes and rewrites Rust literals. The crate returns a literal's kind, value and suffix, the range of the
-//! literal's text that each byte of the value comes from, and the errors of a text that isn't a literal.
+//! Reads, checks, writes and rewrites Rust literals. The crate returns a literal's kind, value and suffix, and the errors of a text
+//! that isn't a literal. For a string, a character or a byte, it also returns the range of the literal's text that each byte of the
+//! value comes from.
 //!
 //! ```
 //! use navyspindle::{Kind, Lit, LitInt, LitStr};

@@ -124,8 +124,8 @@ pub fn skip_trivia(text: &str) -> &str {
 /// Returns the text after its first token, or `None` if the text doesn't begin with a token.
 ///
 /// A token is a literal, an identifier, a lifetime, a doc comment, or one punctuation character, delimiter or other character. The
-/// result is `None` at the end of the text, at white space or a comment ([`skip_trivia`] skips these two), and at a quote or a
-/// block comment that isn't closed.
+/// result is `None` at the end of the text, at white space or a comment that isn't a doc comment ([`skip_trivia`] skips these two),
+/// and at a quote or a block comment that isn't closed.
 ///
 /// The tokens are those of [`source`](fn@crate::source). This loop over a text skips the tokens that aren't literals one by one. It
 /// ends at the first quote or block comment that isn't closed, and its time is proportional to the length of the text:
@@ -150,7 +150,7 @@ pub fn skip_trivia(text: &str) -> &str {
 ///
 /// A loop that continues after the unclosed token, such as on the next line, may take time that grows with the square of the length:
 /// each raw string or block comment that isn't closed costs a search of the whole rest. [`Source::recover`](crate::Source::recover)
-/// doesn't repeat these searches, but returns only literals and errors.
+/// makes at most one of these searches for each number of hashes, but returns only literals and errors.
 #[must_use]
 pub fn skip_token(text: &str) -> Option<&str> {
     if skip_trivia(text).len() < text.len() {
