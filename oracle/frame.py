@@ -4,8 +4,8 @@ differences.
 A comparison is a file beside this one. It generates texts from a seed, runs a program of this repository and another program or the
 model on them, and reports each difference. Every comparison takes `--seed S`, `--show N` (differences printed) and `--row` (prints
 the end of a line for oracle/compared.tsv). Most take `--count N` (generated texts). The programs of this repository are rl_rows,
-rl_tool and rl_scan as Cargo builds them. With `--proved` they are crates/NAME/out/NAME. `--rl-scan PROGRAM` and similar options
-name others. The status is 0 if every difference is explained.
+rl_answers, rl_tool and rl_scan as Cargo builds them. With `--proved` they are crates/NAME/out/NAME, except rl_answers.
+`--rl-scan PROGRAM` and similar options name others. The status is 0 if every difference is explained.
 """
 import collections
 import json
@@ -23,7 +23,7 @@ import programs  # noqa: E402
 
 # The number of texts that a program receives at a time.
 BATCH = 200_000
-# The commands of rl_rows and of reader (oracle/rustc) whose result is several lines, ended by a line with a full stop.
+# The commands of rl_rows, rl_answers and reader (oracle/rustc) whose result is several lines, ended by a line with a full stop.
 POINTED = ('read', 'spans', 'attr', 'source')
 
 

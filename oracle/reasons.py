@@ -3,9 +3,10 @@
 
     oracle/reasons.py [--families worked,cuts,..] [--rustc] [--alone N] ..      a minute for 1,000 random texts, with --rustc ten
 
-The texts are those of rust/programs/tests/stored/texts.rs and of the rows of rl_rows, and generated ones. With --rustc, rustc lexes many texts in
-one source if they leave no quote, comment or group open, and N of the others each alone; --alone sets N. A table then shows the
-relation of rustc's errors to ours. Other options: frame.py.
+The texts are generated ones, and those with stored results: of rust/programs/tests/stored/texts.rs, of the rows of rl_rows, and of
+the tables flaws.rows and sources.rows in rust/programs/rows/tests/calls. With --rustc, rustc lexes many texts in one source if they
+leave no quote, comment or group open, and N of the others each alone; --alone sets N. A table then shows the relation of rustc's
+errors to ours. Other options: frame.py.
 """
 import collections
 import itertools
@@ -157,7 +158,7 @@ def compare_model(asked, report, answers, data):
     texts = [text.decode() for text in data]
     for command, line_of in COMMANDS.items():
         models = [line_of(text) for text in texts]
-        lines = frame.of_rows(asked.rl_rows, command, data)
+        lines = frame.of_rows(asked.rl_answers, command, data)
         for text, it, model, line in zip(texts, data, models, lines):
             report.judge(command, it, model, line, listed.NEWER if model != line and listed.newer(text) else None)
         if command == 'explain':
@@ -165,8 +166,9 @@ def compare_model(asked, report, answers, data):
 
 
 def stored_texts():
-    """Returns the texts with stored results, and those that the rows of rl_rows contain as hexadecimal digits."""
+    """Returns the texts with stored results. The rows of rl_rows contain their texts as hexadecimal digits."""
     yield from (text for pairs in families.STORED.values() for text, _ in pairs)
+    yield from families.of_tables('flaws', 'sources')
     with open(os.path.join(frame.TOP, 'crates/rl_rows/stdin'), 'rb') as file:
         words = re.findall(rb'(?<![0-9a-f])(?:[0-9a-f]{2})+(?![0-9a-f])', file.read())
     yield from (text for word in words if (text := frame.text_of(bytes.fromhex(word.decode()))) is not None)
@@ -183,4 +185,4 @@ def compare(asked, report):
 
 
 if __name__ == '__main__':
-    frame.run(compare, __doc__, ours=['rl_rows'], count=500_000, families='worked,cuts,edits,random', alone=2_000, rustc=False)
+    frame.run(compare, __doc__, ours=['rl_answers'], count=500_000, families='worked,cuts,edits,random', alone=2_000, rustc=False)

@@ -97,7 +97,7 @@ def moved(lines, by):
 
 
 def scanned(program, words, data):
-    """Returns the lines of rl_scan, with the line of its error in the form of rl_rows. A line is added if its exit status doesn't
+    """Returns the lines of rl_scan, with the line of its error in the form of rl_answers. A line is added if its exit status doesn't
     fit these lines."""
     ended = subprocess.run([program, *words], input=data, capture_output=True, check=False)
     lines, error = ended.stdout.split(b'\n'), ended.stderr
@@ -209,10 +209,10 @@ class Sides:
             return list(pool.map(functools.partial(scanned, self.asked.rl_scan, words), datas))
 
     def ours(self, datas, each):
-        """Returns the results of rl_scan, or of rl_rows."""
+        """Returns the results of rl_scan, or of rl_answers."""
         if each:
             return self.scanned(datas)
-        return [answer.split(b'\n') if answer else [] for answer in frame.of_rows(self.asked.rl_rows, 'source', datas)]
+        return [answer.split(b'\n') if answer else [] for answer in frame.of_rows(self.asked.rl_answers, 'source', datas)]
 
     def compare(self, datas, names, each=False, rustc=True):
         """Compares the results for these sources, with a process of rl_scan for each, or in bulk."""
@@ -283,5 +283,5 @@ def compare(asked, report):
 
 
 if __name__ == '__main__':
-    frame.run(compare, __doc__, 'path', 'folders*', what='sources', ours=['rl_rows', 'rl_scan'], count=500_000, size=1_000_000,
+    frame.run(compare, __doc__, 'path', 'folders*', what='sources', ours=['rl_rows', 'rl_answers', 'rl_scan'], count=500_000, size=1_000_000,
               jobs=2)

@@ -3,6 +3,7 @@ import ast
 import itertools
 import os
 import random
+import re
 
 import frame
 from model.sources import cut_source
@@ -229,6 +230,17 @@ def rows():
             yield from (row.translate(PICTURES)[:end] for end in range(len(row) + 1))
         elif kind == 'long':
             yield ''.join(piece * int(count) for count, _, piece in (part.partition(' ') for part in row.split('\t')))
+
+
+def of_tables(*names):
+    """Returns the given texts of tables of rust/programs/rows/tests/calls. A number in `⟨..⟩` represents a character."""
+    for name in names:
+        with open(os.path.join(frame.TOP, f'rust/programs/rows/tests/calls/{name}.rows'), encoding='utf-8', newline='') as file:
+            blocks = file.read().split('\n\n')
+        for block in blocks:
+            given = [line[2:] for line in block.split('\n') if line.startswith('<')]
+            if given:
+                yield re.sub('⟨(.*?)⟩', lambda it: chr(int(it[1], 16)), '\n'.join(given))
 
 
 def families(seed, count):

@@ -67,7 +67,8 @@ def proved(name):
 
 
 def chosen(name, given=None, is_proved=False):
-    """Returns the path of the program: the given one, the proved one, or the one that Cargo builds."""
+    """Returns the path of the program: the given one, the proved one, or the one that Cargo builds. Only a program with a crate can
+    be proved."""
     if given:
         return runnable(given)
-    return proved(name) if is_proved else cargos(name)
+    return proved(name) if is_proved and os.path.isdir(os.path.join(TOP, 'crates', name)) else cargos(name)

@@ -1,16 +1,13 @@
 //! Prints the result of a test on a text.
 
 use crate::Page;
-use crate::flaws::put_flaw;
 use crate::lists::{put_lines, put_spans};
 use crate::literals::{call, call_literal};
 use crate::pairs::pairs;
-use crate::sources::put_source;
 use crate::turns::turns;
 use crate::values::equal;
 use rl_commands::Command;
 use rl_grammar::strict::is_token;
-use rl_grammar::{LineEnds, explain, explain_missing_value};
 use rl_tokens::{Error, ErrorKind, Span, whitespace};
 use rust_literals::{Lit, LitFloat, LitInt};
 
@@ -20,31 +17,46 @@ use rust_literals::{Lit, LitFloat, LitInt};
 /// - `int` and `float` print the output line of the number, or `None` for another text, or `TooLarge`.
 /// - `skip` prints the number of bytes after white space and comments.
 /// - `strict` prints whether the text is a token of Rust.
-/// - `explain` prints the reason why the text isn't a token of Rust, and its range, or `None`. `explain-value` prints the reason
-///   why it has no value.
-/// - `read`, `spans`, `attr` and `source` print lines, and then a line with a full stop. `read` and `attr` are the commands of
-///   `rl_tool`.
-///
+/// - `read`, `spans` and `attr` print lines, and then a line with a full stop. `read` and `attr` are the commands of `rl_tool`.
 /// - `equal`, `pairs` and `turns` are tests of two literals, described with their functions.
 ///
 /// Any other name prints an error.
 pub(crate) fn told(name: &str, text: &str, out: &mut Page) {
     match name {
         "text" | "value" => call_literal(name, text, out),
-        "int" => put_number(LitInt::new(out.alloc, text, Span::call_site()), out),
-        "float" => put_number(LitFloat::new(out.alloc, text, Span::call_site()), out),
-        "skip" => out.put_display(&whitespace::skip(text).len(), "\n"),
-        "strict" => out.put_display(&is_token(text), "\n"),
+        "int" | "float" => number(name, text, out),
+        "skip" => out.put_number(whitespace::skip(text).len(), "\n"),
+        "strict" => out.put_bool(is_token(text), "\n"),
+        _ => told_of_list(name, text, out),
+    }
+}
+
+/// Prints the result of a test on a list of literals or attributes, or of two literals.
+fn told_of_list(name: &str, text: &str, out: &mut Page) {
+    match name {
         "read" => put_lines(Command::Read, text, out),
-        "spans" => put_spans(text, out),
         "attr" => put_lines(Command::Attr, text, out),
-        "source" => put_source(text, out),
-        "explain" => put_flaw(explain(text), out),
-        "explain-value" => put_flaw(explain_missing_value(text, LineEnds::Text, true), out),
+        "spans" => put_spans(text, out),
+        _ => told_of_literals(name, text, out),
+    }
+}
+
+/// Prints the result of a test of two literals.
+fn told_of_literals(name: &str, text: &str, out: &mut Page) {
+    match name {
         "equal" => equal(text, out),
         "pairs" => pairs(text, out),
         "turns" => turns(text, out),
         _ => out.put("error: no call\n"),
+    }
+}
+
+/// Parses a text as an integer or as a float, and prints the result.
+fn number(name: &str, text: &str, out: &mut Page) {
+    if name == "int" {
+        put_number(LitInt::new(out.alloc, text, Span::call_site()), out)
+    } else {
+        put_number(LitFloat::new(out.alloc, text, Span::call_site()), out)
     }
 }
 

@@ -16,9 +16,14 @@ const MOST: usize = 4;
 /// Prints a line for a text: its length, and the results of `skip`, `lex`, `is_token`, `read_all` and `Lit::new`.
 fn put_text(text: &str, out: &mut Page) {
     out.put("  ");
-    out.put_display(&text.len(), ": skip ");
-    out.put_display(&whitespace::skip(text).len(), "; lex ");
+    out.put_number(text.len(), ": skip ");
+    out.put_number(whitespace::skip(text).len(), "; lex ");
     put_lexed(text, out);
+    put_literals(text, out)
+}
+
+/// Prints the results of `is_token`, `read_all` and `Lit::new`.
+fn put_literals(text: &str, out: &mut Page) {
     if strict::is_token(text) {
         out.put("; token");
     }
@@ -32,10 +37,13 @@ fn put_text(text: &str, out: &mut Page) {
 /// Prints the result of `lex`: the number of token trees, or an error and its position.
 fn put_lexed(text: &str, out: &mut Page) {
     match lex(out.alloc, text, 0) {
-        Ok(stream) => out.put_display(&stream.trees().len(), ""),
+        Ok(stream) => {
+            out.put_number(stream.trees().len(), "");
+            drop(stream)
+        }
         Err(error) => {
             out.put_display(&error.kind, " ");
-            out.put_display(&error.at, "")
+            out.put_number(error.at, "")
         }
     }
 }
@@ -43,7 +51,10 @@ fn put_lexed(text: &str, out: &mut Page) {
 /// Prints the result of `read_all`: the number of literals and the first of them with their ranges, or an error and its range.
 fn put_read(text: &str, out: &mut Page) {
     match read_all(out.alloc, text, 0) {
-        Ok(literals) => put_first(literals.as_slice(), out),
+        Ok(literals) => {
+            put_first(literals.as_slice(), out);
+            drop(literals)
+        }
         Err(error) => {
             out.put_display(&error, "");
             put_places(" ", error.span, out);
@@ -54,7 +65,7 @@ fn put_read(text: &str, out: &mut Page) {
 
 /// Prints the number of literals, and the first of them with their ranges.
 fn put_first(literals: &[Lit], out: &mut Page) {
-    out.put_display(&literals.len(), "");
+    out.put_number(literals.len(), "");
     for literal in literals.get(..MOST).unwrap_or(literals) {
         out.put(", ");
         put_brief(literal, out);
@@ -116,14 +127,17 @@ pub(crate) fn names(row: &str, out: &mut Page) {
 /// Appends an attribute with the value 1. Its name is `front` and the number.
 fn put_setting(front: &str, number: usize, text: &mut Page) {
     text.put(front);
-    text.put_display(&number, "=1,")
+    text.put_number(number, "=1,")
 }
 
 /// Parses attributes, and prints a line with their number, or with the error.
 fn put_attributes(text: &str, out: &mut Page) {
     out.put("  ");
     match read(out.alloc, text, 0) {
-        Ok(attrs) => out.put_display(&attrs.entries().len(), "\n"),
+        Ok(attrs) => {
+            out.put_number(attrs.entries().len(), "\n");
+            drop(attrs)
+        }
         Err(error) => {
             out.put_display(&Rejection(&error), "\n");
             drop(error)

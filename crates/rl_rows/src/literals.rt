@@ -42,7 +42,7 @@ pub(crate) fn put_brief(literal: &Lit, out: &mut Page) {
         } else {
             let (kind, _) = parts_of(line, ' ');
             out.put_with_ending(kind, " in a line of ");
-            out.put_display(&line.len(), "")
+            out.put_number(line.len(), "")
         }
     }
 }

@@ -5,7 +5,6 @@
 mod answer;
 mod borrowed;
 mod failing;
-mod flaws;
 mod hostile;
 mod lists;
 mod literals;
@@ -15,7 +14,6 @@ mod page;
 mod pairs;
 mod plain;
 mod row;
-mod sources;
 mod streams;
 mod turns;
 mod values;
@@ -36,14 +34,14 @@ fn main(rt: HostRuntime) -> io::Result<()> {
 /// Runs the tests in the lines of an input, and writes their results.
 fn answer_all<R: BufRead + Drop, W: Write>(alloc: Global, input: R, out: &mut W) -> io::Result<()> {
     for line in input.split(alloc, b'\n') {
-        answer_to(alloc, line?, out)?;
+        answer_to(alloc, line, out)?;
     }
     Ok(())
 }
 
 /// Runs the test in a line of input, and writes its result.
-fn answer_to<W: Write>(alloc: Global, line: Vec<u8>, out: &mut W) -> io::Result<()> {
-    write_answer(row::told(alloc, line.as_slice())?, out)
+fn answer_to<W: Write>(alloc: Global, line: io::Result<Vec<u8>>, out: &mut W) -> io::Result<()> {
+    write_answer(row::told(alloc, line?)?, out)
 }
 
 /// Writes the result of a test.

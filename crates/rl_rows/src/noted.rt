@@ -36,6 +36,6 @@ pub(crate) fn literal_of(text: &str, span: Span, out: &mut Page) -> Option<Lit> 
 /// Prints the text `front`, and the byte range of a span.
 pub(crate) fn put_places(front: &str, span: Span, out: &mut Page) {
     out.put(front);
-    out.put_display(&span.lo, "..");
-    out.put_display(&span.hi, "")
+    out.put_number(span.lo, "..");
+    out.put_number(span.hi, "")
 }

@@ -1,6 +1,6 @@
 //! A text for output that is built from parts.
 
-use std::alloc::Global;
+use std::alloc::{AllocError, Global};
 use std::fmt::{Debug, Display};
 
 /// A text for output that records failed allocations, so that its callers don't have to check each part.
@@ -24,6 +24,15 @@ impl Page {
         }
     }
 
+    /// Returns the text, or an error if it is invalid.
+    pub(crate) fn finish(self) -> Result<String, AllocError> {
+        if self.is_short {
+            Err(AllocError)
+        } else {
+            Ok(self.text)
+        }
+    }
+
     /// Appends a text.
     pub fn put(&mut self, text: &str) {
         if self.text.push_str(text).is_err() {
@@ -35,6 +44,16 @@ impl Page {
     pub fn put_with_ending(&mut self, text: &str, ending: &str) {
         self.put(text);
         self.put(ending);
+    }
+
+    /// Appends a number in base ten, and a text.
+    pub fn put_number(&mut self, number: usize, ending: &str) {
+        self.put_display(&number, ending)
+    }
+
+    /// Appends `true` or `false`, and a text.
+    pub fn put_bool(&mut self, value: bool, ending: &str) {
+        self.put_display(&value, ending)
     }
 
     /// Appends the `Debug` output of a value, and a text.

@@ -15,7 +15,7 @@ pub(crate) fn pairs(row: &str, out: &mut Page) {
     for first in fronts.split('\u{1f}') {
         agreed = agreeing(first, gap, backs, agreed, out);
     }
-    out.put_display(&agreed, " agree\n")
+    out.put_number(agreed, " agree\n")
 }
 
 /// Compares `first` with each second text, as `agrees`, and prints the pairs that differ. Returns `number` plus the number of
@@ -53,5 +53,6 @@ fn put_read(text: &str, out: &mut Page) {
         for literal in literals.as_slice() {
             out.put_debug(literal, "\n")
         }
+        drop(literals)
     }
 }

@@ -31,6 +31,13 @@ fn append(row: &str, out: &mut Page) {
         "cut" => cuts(rest, out),
         "long" => long(rest, out),
         "names" => names(rest, out),
+        _ => append_failing(of, rest, row, out),
+    }
+}
+
+/// Prints the result of a row's test of a call whose allocations fail.
+fn append_failing(of: &str, rest: &str, row: &str, out: &mut Page) {
+    match of {
         "lent" => lent(rest, out),
         "ample" => put_ample(rest, out),
         "run" | "attributes" => put_results(row, out),
@@ -41,13 +48,17 @@ fn append(row: &str, out: &mut Page) {
 /// Appends a text in which characters like `␊` are replaced by the control characters that they represent.
 fn put_unpictured(text: &str, out: &mut Page) {
     for c in text.chars() {
-        let c = match c {
-            '␊' => '\n',
-            '␍' => '\r',
-            '␉' => '\t',
-            '␀' => '\0',
-            c => c,
-        };
-        out.put_display(&c, "")
+        out.put_display(&unpictured(c), "")
+    }
+}
+
+/// Returns the control character that a character like `␊` represents, and any other character unchanged.
+fn unpictured(c: char) -> char {
+    match c {
+        '␊' => '\n',
+        '␍' => '\r',
+        '␉' => '\t',
+        '␀' => '\0',
+        c => c,
     }
 }

@@ -7,25 +7,35 @@ use rl_program::decode_hex;
 use std::alloc::{AllocError, Global};
 
 /// Returns the result of the test in a line of input. The line has all bytes up to an LF, also a CR.
-pub(crate) fn told(alloc: Global, line: &[u8]) -> Result<String, AllocError> {
+pub(crate) fn told(alloc: Global, line: Vec<u8>) -> Result<String, AllocError> {
     let mut out = Page::new(alloc);
-    match std::str::from_utf8(line) {
-        Ok(row) => append_row(row, &mut out),
-        Err(_) => out.put("error: line is not UTF-8\n"),
-    }
-    if out.is_short {
-        return Err(AllocError);
-    }
-    Ok(out.text)
+    append_line(line.as_slice(), &mut out);
+    drop(line);
+    out.finish()
 }
 
-/// Runs the test of a row, and prints its result. If a row has no pairs of hexadecimal digits, it prints an error.
+/// Runs the test in a line of input, and prints its result.
+fn append_line(line: &[u8], out: &mut Page) {
+    match std::str::from_utf8(line) {
+        Ok(row) => append_row(row, out),
+        Err(_) => out.put("error: line is not UTF-8\n"),
+    }
+}
+
+/// Runs the test of a row, and prints its result.
 fn append_row(row: &str, out: &mut Page) {
     let (name, rest) = parts_of(row, ' ');
     if name == "plain" {
-        return plain::told(rest, out);
+        plain::told(rest, out)
+    } else {
+        append_digits(name, rest, out)
     }
-    match decode_hex(out.alloc, rest.as_bytes()) {
+}
+
+/// Runs the test `name` on the bytes that pairs of hexadecimal digits encode, and prints its result. Without such pairs, it prints an
+/// error.
+fn append_digits(name: &str, digits: &str, out: &mut Page) {
+    match decode_hex(out.alloc, digits.as_bytes()) {
         Ok(Some(bytes)) => append_bytes(name, bytes.as_slice(), out),
         Ok(None) => out.put("error: input is not hexadecimal\n"),
         Err(_) => out.is_short = true,

@@ -15,7 +15,8 @@ pub(crate) fn turns(text: &str, out: &mut Page) {
                 put_turn(&mut input, out)
             }
         }
-        out.put_display(&input.is_empty(), "\n")
+        out.put_bool(input.is_empty(), "\n");
+        drop(stream)
     }
 }
 

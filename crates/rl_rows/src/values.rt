@@ -15,8 +15,8 @@ pub(crate) fn equal(text: &str, out: &mut Page) {
 
 /// Prints whether two values are equal, and whether their hashes are equal.
 fn put_equal<T: Eq + Hash + Drop>(first: T, second: T, out: &mut Page) {
-    out.put_display(&(first == second), " ");
-    out.put_display(&(hash_of(&first) == hash_of(&second)), "\n")
+    out.put_bool(first == second, " ");
+    out.put_bool(hash_of(&first) == hash_of(&second), "\n")
 }
 
 /// Returns the hash of a value.

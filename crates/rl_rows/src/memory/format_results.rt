@@ -5,10 +5,9 @@ use crate::noted::put_places;
 use rl_attributes::Attrs;
 use rl_program::ProgramError;
 use rl_quoted::{Quoted, QuotedKind};
-use rl_sources::ScanError;
 use rl_tokens::{CString, Error, Ident, Kept, LexError, Literal, Span, TokenStream, TokenTree};
 use rust_literals::{Lit, LitBool, Number, NumberKind};
-use std::alloc::{AllocError, Allocator};
+use std::alloc::Allocator;
 
 /// A result that can be printed, with its spans.
 pub(crate) trait FormatResult {
@@ -44,12 +43,6 @@ fn format_token(text: &str, span: Span, page: &mut Page) {
 impl FormatResult for () {
     fn append_result(&self, page: &mut Page) {
         page.put("done")
-    }
-}
-
-impl FormatResult for bool {
-    fn append_result(&self, page: &mut Page) {
-        page.put_display(self, "")
     }
 }
 
@@ -126,20 +119,6 @@ impl<A: Allocator> FormatResult for Vec<Lit<A>, A> {
     }
 }
 
-impl<A: Allocator> FormatResult for Vec<Span, A> {
-    fn append_result(&self, page: &mut Page) {
-        for span in self.as_slice() {
-            put_places(" ", *span, page)
-        }
-    }
-}
-
-impl FormatResult for AllocError {
-    fn append_result(&self, page: &mut Page) {
-        page.put("out of memory")
-    }
-}
-
 impl<A: Allocator> FormatResult for Error<A> {
     fn append_result(&self, page: &mut Page) {
         page.put_display(self, "");
@@ -150,22 +129,13 @@ impl<A: Allocator> FormatResult for Error<A> {
 impl FormatResult for LexError {
     fn append_result(&self, page: &mut Page) {
         page.put_display(&self.kind, " ");
-        page.put_display(&self.at, "")
+        page.put_number(self.at, "")
     }
 }
 
 impl<A: Allocator> FormatResult for ProgramError<A> {
     fn append_result(&self, page: &mut Page) {
         page.put_display(self, "")
-    }
-}
-
-impl<A: Allocator> FormatResult for ScanError<A> {
-    fn append_result(&self, page: &mut Page) {
-        match self {
-            ScanError::Program(ProgramError::Memory) => page.put("out of memory"),
-            _ => page.put("another error"),
-        }
     }
 }
 
@@ -215,15 +185,9 @@ impl<A: Allocator> FormatResult for TokenTree<A> {
     }
 }
 
-impl FormatResult for Page {
-    fn append_result(&self, page: &mut Page) {
-        page.put(self.text.as_str())
-    }
-}
-
 impl<A: Allocator> FormatResult for Attrs<A> {
     fn append_result(&self, page: &mut Page) {
-        page.put_display(&self.entries().len(), "")
+        page.put_number(self.entries().len(), "")
     }
 }
 

@@ -3,9 +3,8 @@
 use crate::Page;
 use crate::memory::format_results::format_result;
 use crate::memory::trial::{Scarce, Trial};
-use rl_grammar::{Kind, Segments, bytes_of, digits_of, shape, str_of, value_byte_spans};
-use rl_sources::{Options, scan};
-use rl_tokens::{Span, lex};
+use rl_grammar::{Kind, bytes_of, digits_of, shape, str_of};
+use rl_tokens::lex;
 use rust_literals::read_all;
 
 /// Calls the function with the name, and appends its result. The text has the file number 7 in spans.
@@ -14,8 +13,6 @@ pub(crate) fn call<A: Scarce>(name: &str, trial: &Trial<A>, text: &str, page: &m
     match name {
         "lex" => format_result(lex(scant, text, 7), page),
         "read_all" => format_result(read_all(scant, text, 7), page),
-        "scan" => scanned(scant, text, page),
-        "spans" => spans(scant, text, page),
         _ => contents_of(scant, text, page),
     }
 }
@@ -31,20 +28,4 @@ fn contents_of<A: Scarce>(scant: A, text: &str, page: &mut Page) {
         },
         None => page.is_short = true,
     }
-}
-
-/// Appends the span that encodes each byte of the literal's value. The text has the file number 7 in spans.
-fn spans<A: Scarce>(scant: A, text: &str, page: &mut Page) {
-    if let Some(segments) = Segments::of(text) {
-        let base = Span::new(7, 0, text.len());
-        format_result(value_byte_spans(scant, segments, base), page)
-    }
-}
-
-/// Scans a source with `scan`, and appends the result and the number of written bytes.
-fn scanned<A: Scarce>(scant: A, text: &str, page: &mut Page) {
-    let mut written = Vec::new(page.alloc);
-    format_result(scan(scant, Options::default(), text, &mut written), page);
-    page.put("; wrote ");
-    page.put_display(&written.len(), "")
 }

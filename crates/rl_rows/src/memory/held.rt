@@ -3,46 +3,55 @@
 use crate::Page;
 use crate::memory::format_results::{FormatResult, format_result};
 use crate::memory::inside;
+use crate::memory::rows::Row;
 use crate::memory::trial::{Scarce, Trial, format_borrowed, formatted};
 use crate::noted::{HERE, noted};
 use rl_quoted::{Quoted, QuotedKind};
-use rl_tokens::{Parse, ParseBuffer, ToTokens, Token};
+use rl_tokens::{Parse, ParseBuffer, ToTokens, Token, TokenStream};
 use rust_literals::{Lit, LitBool, Number, NumberKind};
 
 /// A literal that the called functions borrow.
 pub(crate) trait Held<A: Scarce>: Parse<A> + Token + FormatResult {
-    /// Parses the text as a value of the type that implements the trait. Returns `None` if an allocation fails or the text is
-    /// invalid.
+    /// Parses the text as a value of the type that implements the trait. Returns `None`, which `page` records, if an allocation
+    /// fails or the text is invalid.
     fn of_text(trial: &Trial<A>, text: &str, page: &mut Page) -> Option<Self>;
 
     /// Calls the function with the name, and appends its result.
     fn call(&self, name: &str, trial: &Trial<A>, page: &mut Page);
 }
 
-/// Parses the text, calls the function with the name on the value, and appends its result. Then appends whether the value is
+/// Parses the text of a row, calls the row's function on the value, and appends its result. Then appends whether the value is
 /// unchanged.
 pub(crate) fn run_held<T: Held<A> + Drop, A: Scarce>(
-    name: &str,
+    row: &Row<'_>,
     trial: &Trial<A>,
-    text: &str,
     page: &mut Page,
 ) {
-    match T::of_text(trial, text, page) {
-        Some(value) => {
-            let before = formatted(&value, page);
-            value.call(name, trial, page);
-            format_borrowed(&value, &before, page)
-        }
-        None => page.is_short = true,
+    if let Some(value) = T::of_text(trial, row.text, page) {
+        let before = formatted(&value, page);
+        value.call(row.call, trial, page);
+        format_borrowed(&value, &before, page)
     }
+}
+
+/// Parses token trees as a value, with `HERE` as the span of each.
+fn first_of<T: Parse<A> + Drop, A: Scarce>(
+    trees: TokenStream<A>,
+    scant: A,
+    page: &mut Page,
+) -> Option<T> {
+    let mut stream = trees;
+    stream.respan(HERE);
+    let mut input = ParseBuffer::new(stream.trees(), HERE);
+    let parsed = noted(input.parse::<T>(scant), page);
+    drop(stream);
+    parsed
 }
 
 impl<K: QuotedKind, A: Scarce> Held<A> for Quoted<K, A> {
     fn of_text(trial: &Trial<A>, text: &str, page: &mut Page) -> Option<Quoted<K, A>> {
-        let mut stream = trial.trees(text, page)?;
-        stream.respan(HERE);
-        let mut input = ParseBuffer::new(stream.trees(), HERE);
-        noted(input.parse::<Quoted<K, A>>(trial.scant), page)
+        let stream = trial.trees(text, page)?;
+        first_of(stream, trial.scant, page)
     }
 
     fn call(&self, name: &str, trial: &Trial<A>, page: &mut Page) {
@@ -110,6 +119,7 @@ fn appended<T: ToTokens, A: Scarce>(literal: &T, name: &str, trial: &Trial<A>, p
     if let Some(mut stream) = trial.trees(trees, page) {
         let before = formatted(&stream, page);
         format_result(literal.to_tokens(trial.begins(), &mut stream), page);
-        format_borrowed(&stream, &before, page)
+        format_borrowed(&stream, &before, page);
+        drop(stream)
     }
 }

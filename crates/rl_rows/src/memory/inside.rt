@@ -37,17 +37,17 @@ struct GroupTold {
 impl<A: Allocator> Parser<A> for GroupTold {
     ghost use Rattle.std.specs.Prelude.{⊤};
 
-    type Output = Page;
+    type Output = String;
 
     ghost runs = { λ parser trees scope answer rest. ⊤ };
 
-    fn parse(self, _scant: A, input: &mut ParseBuffer<'_, A>) -> Result<Page, Error<A>> {
+    fn parse(self, _scant: A, input: &mut ParseBuffer<'_, A>) -> Result<String, Error<A>> {
         let trees = input.rest();
         let mut page = self.page;
         match input.group() {
             Some(_) => {
                 format_trees(trees, &mut page);
-                Ok(page)
+                Ok(page.text)
             }
             None => Err(input.error("group")),
         }
@@ -68,16 +68,26 @@ pub(crate) fn call<A: Scarce>(literal: &Lit<A>, name: &str, scant: A, page: &mut
 fn in_string<A: Scarce>(string: &LitStr<A>, name: &str, scant: A, page: &mut Page) {
     match name {
         "value" => format_result(string.value(scant), page),
-        "parse" => format_result(string.parse::<Lit<A>, _>(scant), page),
+        "parse_group" => group_of(string, scant, page),
+        "parse_with" => format_result(string.parse_with(scant, CopyOfToken), page),
+        "parse_in_file" => format_result(string.parse_in_file(scant, CopyOfToken), page),
+        _ => parse_as(string, name, scant, page),
+    }
+}
+
+/// Calls `parse` on a string, with the type that the name selects, and appends its result.
+fn parse_as<A: Scarce>(string: &LitStr<A>, name: &str, scant: A, page: &mut Page) {
+    match name {
         "parse_int" => format_result(string.parse::<LitInt<A>, _>(scant), page),
         "parse_attrs" => format_result(string.parse::<Attrs<A>, _>(scant), page),
-        "parse_group" => {
-            let parser = GroupTold {
-                page: Page::new(page.alloc),
-            };
-            format_result(string.parse_with(scant, parser), page)
-        }
-        "parse_with" => format_result(string.parse_with(scant, CopyOfToken), page),
-        _ => format_result(string.parse_in_file(scant, CopyOfToken), page),
+        _ => format_result(string.parse::<Lit<A>, _>(scant), page),
     }
+}
+
+/// Calls `parse_with` on a string, with a parser of one group, and appends its result.
+fn group_of<A: Scarce>(string: &LitStr<A>, scant: A, page: &mut Page) {
+    let parser = GroupTold {
+        page: Page::new(page.alloc),
+    };
+    format_result(string.parse_with(scant, parser), page)
 }

@@ -10,16 +10,29 @@ use rust_literals::{Lit, LitByte, LitByteStr, LitCStr, LitChar, LitFloat, LitInt
 /// Calls `new` of the type `of`, and appends the result. Its argument is the text, its bytes, its first byte or character, or the
 /// text as a token.
 pub(crate) fn new<A: Scarce>(of: &str, trial: &Trial<A>, text: &str, page: &mut Page) {
-    let scant = trial.begins();
+    match of {
+        "LitInt" => format_result(LitInt::new(trial.begins(), text, HERE), page),
+        "LitFloat" => format_result(LitFloat::new(trial.begins(), text, HERE), page),
+        "Lit" => from_token(of, trial, text, page),
+        _ => quoted(of, trial.begins(), text, page),
+    }
+}
+
+/// Calls `new` of a string, a byte string or a C string, and appends the result.
+fn quoted<A: Scarce>(of: &str, scant: A, text: &str, page: &mut Page) {
     match of {
         "LitStr" => format_result(LitStr::new(scant, text, HERE), page),
         "LitByteStr" => format_result(LitByteStr::new(scant, text.as_bytes(), HERE), page),
         "LitCStr" => c_string(scant, text, page),
+        _ => single(of, scant, text, page),
+    }
+}
+
+/// Calls `new` of a byte literal or a character literal, and appends the result.
+fn single<A: Scarce>(of: &str, scant: A, text: &str, page: &mut Page) {
+    match of {
         "LitByte" => format_result(LitByte::new(scant, first_byte(text), HERE), page),
-        "LitChar" => format_result(LitChar::new(scant, first_character(text), HERE), page),
-        "LitInt" => format_result(LitInt::new(scant, text, HERE), page),
-        "LitFloat" => format_result(LitFloat::new(scant, text, HERE), page),
-        _ => from_token(of, trial, text, page),
+        _ => format_result(LitChar::new(scant, first_character(text), HERE), page),
     }
 }
 

@@ -19,9 +19,9 @@ pub(crate) struct Row<'t> {
     /// The type of the function.
     of: &'t str,
     /// The name of the function.
-    call: &'t str,
+    pub(crate) call: &'t str,
     /// The text that the function is called with.
-    text: &'t str,
+    pub(crate) text: &'t str,
 }
 
 impl<'t> Row<'t> {
@@ -44,6 +44,13 @@ fn run<A: Scarce>(row: &Row<'_>, trial: &Trial<A>, page: &mut Page) {
         "free" => free::call(row.call, trial, row.text, page),
         "run" => runs::command(row.call, trial, row.text, page),
         "attributes" => runs::attributes(trial, row.text, page),
+        _ => run_method(row, trial, page),
+    }
+}
+
+/// Calls a function of a type once, and appends its result.
+fn run_method<A: Scarce>(row: &Row<'_>, trial: &Trial<A>, page: &mut Page) {
+    match row.of {
         "Literal" => tokens::literal_call(row.call, trial, row.text, page),
         "Ident" => tokens::word(trial, row.text, page),
         "TokenStream" => tokens::stream_call(row.call, trial, row.text, page),
@@ -56,39 +63,40 @@ fn run_named<A: Scarce>(row: &Row<'_>, trial: &Trial<A>, page: &mut Page) {
     match row.call {
         "new" => made::new(row.of, trial, row.text, page),
         "from_token" => made::from_token(row.of, trial, row.text, page),
-        "value" => run_held::<Lit<A>, A>(row.call, trial, row.text, page),
-        call if call.starts_with("parse") => run_held::<Lit<A>, A>(call, trial, row.text, page),
+        call if call == "value" || call.starts_with("parse") => run_held::<Lit<A>, A>(
+            row, trial, page,
+        ),
         _ => run_literal(row, trial, page),
     }
 }
 
 /// Calls a function of a literal once, by the literal's type, and appends its result.
 fn run_literal<A: Scarce>(row: &Row<'_>, trial: &Trial<A>, page: &mut Page) {
-    let (call, text) = (row.call, row.text);
     match row.of {
-        "LitInt" => run_type::<LitInt<A>, A>(call, trial, text, page),
-        "LitFloat" => run_type::<LitFloat<A>, A>(call, trial, text, page),
-        "LitBool" => run_type::<LitBool, A>(call, trial, text, page),
-        "LitStr" => run_type::<LitStr<A>, A>(call, trial, text, page),
-        "LitByteStr" => run_type::<LitByteStr<A>, A>(call, trial, text, page),
-        "LitCStr" => run_type::<LitCStr<A>, A>(call, trial, text, page),
-        "LitByte" => run_type::<LitByte<A>, A>(call, trial, text, page),
-        "LitChar" => run_type::<LitChar<A>, A>(call, trial, text, page),
-        _ => run_type::<Lit<A>, A>(call, trial, text, page),
+        "LitInt" => run_type::<LitInt<A>, A>(row, trial, page),
+        "LitFloat" => run_type::<LitFloat<A>, A>(row, trial, page),
+        "LitBool" => run_type::<LitBool, A>(row, trial, page),
+        "Lit" => run_type::<Lit<A>, A>(row, trial, page),
+        _ => run_quoted(row, trial, page),
+    }
+}
+
+/// Calls a function of a quoted literal once, by the literal's type, and appends its result.
+fn run_quoted<A: Scarce>(row: &Row<'_>, trial: &Trial<A>, page: &mut Page) {
+    match row.of {
+        "LitStr" => run_type::<LitStr<A>, A>(row, trial, page),
+        "LitByteStr" => run_type::<LitByteStr<A>, A>(row, trial, page),
+        "LitCStr" => run_type::<LitCStr<A>, A>(row, trial, page),
+        "LitByte" => run_type::<LitByte<A>, A>(row, trial, page),
+        _ => run_type::<LitChar<A>, A>(row, trial, page),
     }
 }
 
 /// Calls a function of one type of literal, and appends its result. The text is parsed as that type.
-fn run_type<T: Held<A> + Drop, A: Scarce>(
-    call: &str,
-    trial: &Trial<A>,
-    text: &str,
-    page: &mut Page,
-) {
-    if call == "Parse::parse" || call == "peek" {
-        parsed::<T, A>(call, trial, text, page)
-    } else {
-        run_held::<T, A>(call, trial, text, page)
+fn run_type<T: Held<A> + Drop, A: Scarce>(row: &Row<'_>, trial: &Trial<A>, page: &mut Page) {
+    match row.call {
+        "Parse::parse" | "peek" => parsed::<T, A>(row.call, trial, row.text, page),
+        _ => run_held::<T, A>(row, trial, page),
     }
 }
 
@@ -191,6 +199,6 @@ pub(crate) fn lent(text: &str, page: &mut Page) {
     };
     let ample = tried(&row, 1, 0, &Cell::new(0), page);
     page.put("  ");
-    page.put_display(&ample.text.as_str().len(), " bytes\n");
+    page.put_number(ample.text.as_str().len(), " bytes\n");
     put_failure(&row, 2, u64::MAX, ample.text.as_str(), page)
 }

@@ -19,7 +19,7 @@ pub(crate) fn command<A: Scarce>(name: &str, trial: &Trial<A>, text: &str, page:
         format_result(answer, page)
     }
     page.put(", ");
-    page.put_display(&written.len(), " written")
+    page.put_number(written.len(), " written")
 }
 
 /// Parses the text as attributes, and appends the result and the number of token trees that aren't consumed.
@@ -27,9 +27,16 @@ pub(crate) fn attributes<A: Scarce>(trial: &Trial<A>, text: &str, page: &mut Pag
     if let Some(stream) = trial.trees(text, page) {
         let mut input = ParseBuffer::new(stream.trees(), HERE);
         match Attrs::parse(trial.begins(), &mut input) {
-            Ok(attrs) => page.put_display(&attrs.entries().len(), " taken, "),
-            Err(error) => page.put_display(&Rejection(&error), ", "),
+            Ok(attrs) => {
+                page.put_number(attrs.entries().len(), " taken, ");
+                drop(attrs)
+            }
+            Err(error) => {
+                page.put_display(&Rejection(&error), ", ");
+                drop(error)
+            }
         }
-        page.put_display(&input.rest().len(), " left")
+        page.put_number(input.rest().len(), " left");
+        drop(stream)
     }
 }

@@ -5,32 +5,41 @@ use crate::memory::format_results::{format_result, format_trees};
 use crate::memory::held::Held;
 use crate::memory::trial::{Scarce, Trial, format_borrowed, formatted};
 use crate::noted::{HERE, noted};
-use rl_tokens::{CString, Ident, Literal, ParseBuffer, Span, TokenStream, TokenTree, ident, lex};
+use rl_tokens::{
+    CString, Error, Ident, Literal, ParseBuffer, Span, TokenStream, TokenTree, ident, lex,
+};
 use rust_literals::Lit;
 
 /// Calls a function of `Literal`, and appends its result.
 pub(crate) fn literal_call<A: Scarce>(name: &str, trial: &Trial<A>, text: &str, page: &mut Page) {
-    let scant = trial.begins();
     match name {
-        "from_text" => format_result(Literal::from_text(scant, text, HERE), page),
-        "negative" => format_result(Literal::negative(scant, text, HERE), page),
-        "string" => format_result(Literal::string(scant, text), page),
-        "byte_string" => format_result(Literal::byte_string(scant, text.as_bytes()), page),
-        "c_string" => c_string(scant, text, page),
-        "byte_character" => format_result(Literal::byte_character(scant, first_byte(text)), page),
-        "character" => format_result(Literal::character(scant, first_character(text)), page),
-        _ => of_token(name, trial, text, page),
+        "clone" | "behind_minus" => of_token(name, trial, text, page),
+        "c_string" => c_string(trial.begins(), text, page),
+        _ => format_result(written(name, trial.begins(), text), page),
     }
 }
 
-/// Calls `clone` or `after_minus` on the text as a token, and appends its result. Then appends whether the token is unchanged.
+/// Calls a function of `Literal` that creates a token from the text, its bytes, or its first byte or character.
+fn written<A: Scarce>(name: &str, scant: A, text: &str) -> Result<Literal<A>, Error<A>> {
+    match name {
+        "from_text" => Literal::from_text(scant, text, HERE),
+        "negative" => Literal::negative(scant, text, HERE),
+        "string" => Literal::string(scant, text),
+        "byte_string" => Literal::byte_string(scant, text.as_bytes()),
+        "byte_character" => Literal::byte_character(scant, first_byte(text)),
+        _ => Literal::character(scant, first_character(text)),
+    }
+}
+
+/// Calls `clone` or `with_minus` on the text as a token, and appends its result. Then appends whether the token is unchanged.
 fn of_token<A: Scarce>(name: &str, trial: &Trial<A>, text: &str, page: &mut Page) {
     if let Some(token) = trial.token(text, page) {
         let before = formatted(&token, page);
-        match name {
-            "clone" => format_result(token.clone(trial.begins()), page),
-            _ => format_result(token.with_minus(trial.begins(), HERE), page),
-        }
+        let answer = match name {
+            "clone" => token.clone(trial.begins()),
+            _ => token.with_minus(trial.begins(), HERE),
+        };
+        format_result(answer, page);
         format_borrowed(&token, &before, page)
     }
 }
@@ -78,7 +87,8 @@ pub(crate) fn stream_call<A: Scarce>(name: &str, trial: &Trial<A>, text: &str, p
 fn respanned<A: Scarce>(trial: &Trial<A>, text: &str, page: &mut Page) {
     if let Some(mut stream) = trial.trees(text, page) {
         stream.respan(HERE);
-        format_trees(stream.trees(), page)
+        format_trees(stream.trees(), page);
+        drop(stream)
     }
 }
 
@@ -86,7 +96,8 @@ fn respanned<A: Scarce>(trial: &Trial<A>, text: &str, page: &mut Page) {
 fn two_files<A: Scarce>(trial: &Trial<A>, number: &str, page: &mut Page) {
     if let Some(mut stream) = noted(lex(trial.begins(), "   -", 0), page) {
         append_number(trial.scant, number, &mut stream, page);
-        parsed_of::<Lit<A>, A>("", trial, stream.trees(), page)
+        parsed_of::<Lit<A>, A>("", trial, stream.trees(), page);
+        drop(stream)
     }
 }
 
@@ -117,7 +128,8 @@ pub(crate) fn parsed<T: Held<A> + Drop, A: Scarce>(
     page: &mut Page,
 ) {
     if let Some(stream) = trial.trees(text, page) {
-        parsed_of::<T, A>(call, trial, stream.trees(), page)
+        parsed_of::<T, A>(call, trial, stream.trees(), page);
+        drop(stream)
     }
 }
 
@@ -131,7 +143,7 @@ fn parsed_of<T: Held<A> + Drop, A: Scarce>(
     let before = formatted(&trees, page);
     let mut input = ParseBuffer::new(trees, HERE);
     if call == "peek" {
-        page.put_display(&input.peek::<T>(), "")
+        page.put_bool(input.peek::<T>(), "")
     } else {
         format_result(input.parse::<T>(trial.begins()), page)
     }

@@ -1,6 +1,7 @@
 //! The library of the development program `rl_rows`, translated from Rattle by build.rs, and the generators of test texts.
 #![forbid(unsafe_code)]
 
+pub mod answers;
 pub mod failing;
 pub mod settings;
 pub mod texts;

@@ -331,7 +331,7 @@ pub fn alone(c: char) -> [String; 6] {
     ]
 }
 
-/// Returns texts of lists and sources, with the character `c` at each position where the class of a character matters.
+/// Returns texts of lists, with the character `c` at each position where the class of a character matters.
 pub fn among(c: char) -> [String; 6] {
     [
         format!("{c}"),

@@ -3,25 +3,14 @@
 //!
 //! - `rl_texts texts COUNT SEED`: each command, on COUNT texts of all kinds.
 //! - `rl_texts settings COUNT SEED`: the command `attr`, on COUNT texts of settings.
-//! - `rl_texts characters`: each character, in twelve positions of literals, lists and sources.
+//! - `rl_texts characters`: each character, in twelve positions of literals and lists.
 
 use navyspindle_rows::{settings, texts};
 use std::env;
 use std::io::{self, BufWriter, Write};
 
-const COMMANDS: [&str; 12] = [
-    "text",
-    "value",
-    "int",
-    "float",
-    "skip",
-    "strict",
-    "explain",
-    "explain-value",
-    "read",
-    "spans",
-    "attr",
-    "source",
+const COMMANDS: [&str; 9] = [
+    "text", "value", "int", "float", "skip", "strict", "read", "spans", "attr",
 ];
 
 /// Writes a row: a command, and the bytes of a text as hexadecimal digits.
@@ -61,7 +50,7 @@ fn put_characters(out: &mut impl Write) -> io::Result<()> {
             put_row(out, "strict", &text)?;
         }
         for text in texts::among(c) {
-            put_row(out, "source", &text)?;
+            put_row(out, "spans", &text)?;
         }
     }
     Ok(())

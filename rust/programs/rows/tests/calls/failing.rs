@@ -1,9 +1,10 @@
 //! Tests calls whose allocations fail.
 
 use crate::rows::{check, check_headings};
-use crate::shown::{at, HERE};
+use crate::shown::{at, range, HERE};
 use navyspindle_programs::rattle_std::alloc::Global;
-use navyspindle_programs::rl_tokens::Literal;
+use navyspindle_programs::rl_grammar::{value_byte_spans, Segments};
+use navyspindle_programs::rl_tokens::{Literal, Span};
 use navyspindle_programs::rust_literals::Lit;
 use navyspindle_rows::failing::Failing;
 
@@ -61,5 +62,52 @@ fn all_but_the_first() {
             Ok(value) => format!("{borrows} {}", value.len()),
             Err(it) => format!("{borrows} {it}"),
         }
+    });
+}
+
+/// Returns the result of a call while the allocations from `first` to `last` fail, and the number of requested allocations. All
+/// memory must be freed.
+fn tried(call: impl Fn(&Failing<Global>) -> String, first: u64, last: u64) -> (String, u64) {
+    let failing = Failing::new(Global);
+    failing.fail_from_to(first, last);
+    let answer = call(&failing);
+    let asked = failing.stop_failing();
+    assert_eq!(failing.blocks_in_use(), 0, "{answer}");
+    (answer, asked)
+}
+
+/// Shows the result of a call without failures, and then while each allocation fails: this one only, and this one with all later
+/// ones. Equal results are shown once.
+pub fn results(call: impl Fn(&Failing<Global>) -> String) -> String {
+    let (ample, asked) = tried(&call, 1, 0);
+    let mut out = format!("  ample: {ample}\n");
+    for first in 1..=asked.max(1) {
+        for last in [first, u64::MAX] {
+            let (answer, _) = tried(&call, first, last);
+            let line = match answer.as_str() {
+                it if it == ample => "  failed: the same answer\n".to_owned(),
+                it if it.starts_with("out of memory") => format!("  failed: {it}\n"),
+                it => format!("  OTHER: {it}\n"),
+            };
+            if !out.contains(&line) {
+                out += &line;
+            }
+        }
+    }
+    out
+}
+
+/// Computes the span that encodes each byte of a literal's value, while the allocations fail.
+#[test]
+fn spans_of_bytes() {
+    check(TABLE, "spans", |text| {
+        let base = Span::new(7, 0, text.len());
+        results(|failing| {
+            let segments = Segments::of(text).expect("a quoted literal");
+            match value_byte_spans(failing, segments, base) {
+                Ok(spans) => spans.iter().map(|it| format!(" {}", range(*it))).collect(),
+                Err(_) => "out of memory".to_owned(),
+            }
+        })
     });
 }

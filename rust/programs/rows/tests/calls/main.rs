@@ -4,6 +4,7 @@
 mod attributes;
 mod calls;
 mod failing;
+mod flaws;
 mod grammar;
 mod lists;
 mod literals;
@@ -12,5 +13,6 @@ mod numbers;
 mod parsers;
 mod rows;
 mod shown;
+mod sources;
 mod tokens;
 mod uses;
