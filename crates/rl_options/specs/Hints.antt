@@ -1,5 +1,5 @@
 -- The hint after the error of a path that doesn't exist. Paths are lists of bytes.
-use Rattle.std.specs.Prelude.{ℕ, ◌==◌, Bool, cond, not, ◌&&◌, List, codes, length, is_some}
+use Rattle.std.specs.Prelude.{ℕ, ◌==◌, Bool, cond, not, ◌&&◌, List, [], ◌++◌, codes, length, is_some}
 use Prim.Native.Char.{code}
 use Rattle.std.specs.List.{list_any}
 use Rattle.rl_options.specs.Options.{effect_named}

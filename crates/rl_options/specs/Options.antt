@@ -1,10 +1,12 @@
 -- The table of the options of `rl_scan`. Arguments are lists of bytes.
-use Rattle.std.specs.Prelude.{◌≡◌, ℕ, ◌==◌, Bool, true, false, not, ◌&&◌, List, [], ◌++◌, codes, find, Option, Some, None}
+use Rattle.std.specs.Prelude.{◌≡◌, ℕ, ◌==◌, Bool, true, false, not, ◌&&◌, List, [], ◌∷◌, ◌++◌, codes, find, Option, Some, None}
+use Prim.Native.Char.{code}
 use denote.Ref.{Bor}
 use Rattle.std.specs.Option.{option_map}
 use Rattle.std.specs.Str.{bytes_eq}
 use Rattle.rl_options.specs.declared.flags.Effect.{Effect}
 use Rattle.rl_options.specs.declared.flags.Effect.TheVariants.{Sets, Takes, EndsOptions}
+use Rattle.rl_options.specs.declared.flags.Flag.TheVariants.{Bad, Hidden, IgnoreCase, WholeWords, Text, Json, Bytes, Lines, NoStray, AnySuffix, AllDirectories, NoMessages, Count, FilesWithMatches, Nul, Quiet, Files, Stats, Fix, Check, Diff, Help, Version, Rules}
 use Rattle.rl_options.specs.declared.flags.Operand.{Operand}
 use Rattle.rl_options.specs.declared.flags.Operand.TheVariants as takes
 use Rattle.rl_options.specs.declared.modes.Modes.{Modes}

@@ -67,7 +67,7 @@ For \-\-fix: rewrite by the rules in FILE; without it, drop needless escapes of 
 For \-\-fix: rewrite by this rule of \-\-rules; RULE is NAME=VALUE, or NAME for NAME=true; may be repeated.
 .TP
 .B \-\-macros WHICH
-skip or all: with skip, the default, \-\-fix doesn't change literals in macro calls, macro_rules! and attributes, and \-\-bad doesn't check their suffixes and ranges.
+skip or all: with skip, the default, \-\-fix leaves literals in macro calls, macro_rules! and attributes unchanged, and \-\-bad doesn't check their suffixes and ranges.
 .SS Files
 .TP
 .B \-\-all
@@ -251,7 +251,7 @@ _arguments -s -S \
     '--word[for --find: match only whole words]' \
     '--style=[for --fix: rewrite by the rules in FILE; without it, drop needless escapes of quotes and needless hashes, and write 1e5 for 1E5]:FILE:_files' \
     '*--rule=[for --fix: rewrite by this rule of --rules; RULE is NAME=VALUE, or NAME for NAME=true; may be repeated]:RULE: ' \
-    '--macros=[skip or all: with skip, the default, --fix doesn'\''t change literals in macro calls, macro_rules! and attributes, and --bad doesn'\''t check their suffixes and ranges]:WHICH:(skip all)' \
+    '--macros=[skip or all: with skip, the default, --fix leaves literals in macro calls, macro_rules! and attributes unchanged, and --bad doesn'\''t check their suffixes and ranges]:WHICH:(skip all)' \
     '--all[also read hidden files and directories, and `target`]' \
     '*--extension=[in directories, read *.EXT instead of *.rs; may be repeated]:EXT: ' \
     '*--exclude=[in directories, skip what GLOB matches, as in .gitignore, with *, ?, ** and / only; may be repeated]:GLOB: ' \
@@ -313,7 +313,7 @@ complete -c rl_scan -s i -l ignore-case -d 'for --find: ignore the case of ASCII
 complete -c rl_scan -s w -l word -d 'for --find: match only whole words'
 complete -c rl_scan -l style -r -d 'for --fix: rewrite by the rules in FILE; without it, drop needless escapes of quotes and needless hashes, and write 1e5 for 1E5'
 complete -c rl_scan -l rule -x -d 'for --fix: rewrite by this rule of --rules; RULE is NAME=VALUE, or NAME for NAME=true; may be repeated'
-complete -c rl_scan -l macros -x -a 'skip all' -d 'skip or all: with skip, the default, --fix doesn\'t change literals in macro calls, macro_rules! and attributes, and --bad doesn\'t check their suffixes and ranges'
+complete -c rl_scan -l macros -x -a 'skip all' -d 'skip or all: with skip, the default, --fix leaves literals in macro calls, macro_rules! and attributes unchanged, and --bad doesn\'t check their suffixes and ranges'
 complete -c rl_scan -l all -d 'also read hidden files and directories, and `target`'
 complete -c rl_scan -l extension -x -d 'in directories, read *.EXT instead of *.rs; may be repeated'
 complete -c rl_scan -l exclude -x -d 'in directories, skip what GLOB matches, as in .gitignore, with *, ?, ** and / only; may be repeated'

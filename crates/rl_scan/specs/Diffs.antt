@@ -5,6 +5,7 @@ use Rattle.std.specs.List.{flat_map, list_any}
 use Rattle.std.specs.Str.{bytes_eq}
 use Rattle.rl_files.specs.Visible.{visible}
 use Rattle.rl_output.specs.Contexts.{has_end}
+use Rattle.rl_output.specs.Paths.{strip_dot_slash}
 
 -- The lines with the character `c` added at the start of the first line.
 abbrev pub with_first : ℕ → List (List ℕ) → List (List ℕ)

@@ -44,9 +44,10 @@ Options of these modes: --check and --diff take those of --fix
                        1e5 for 1E5
       --rule RULE      for --fix: rewrite by this rule of --rules; RULE is
                        NAME=VALUE, or NAME for NAME=true; may be repeated
-      --macros WHICH   skip or all: with skip, the default, --fix doesn't change
-                       literals in macro calls, macro_rules! and attributes, and
-                       --bad doesn't check their suffixes and ranges
+      --macros WHICH   skip or all: with skip, the default, --fix leaves
+                       literals in macro calls, macro_rules! and attributes
+                       unchanged, and --bad doesn't check their suffixes and
+                       ranges
 
 Files:
       --all            also read hidden files and directories, and `target`
