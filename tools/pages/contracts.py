@@ -122,7 +122,8 @@ def section(crate):
         lines.append(f'// {path.removeprefix("crates/")}')
         lines += [line for _, item in items for line in quoted(path, item, needed)]
     uses = [f'ghost use {module}{".{" + ", ".join(sorted(names)) + "}" if names else ""};' for module, names in sorted(needed.items())]
-    return '\n'.join([HEAD + INTRODUCTION, '```text', *lines, '```', '', 'Their words:', '', '```text', *uses, '```', ''])
+    names = 'These lines import the names of the contracts:'
+    return '\n'.join([HEAD + INTRODUCTION, '```text', *lines, '```', '', names, '', '```text', *uses, '```', ''])
 
 
 def with_contracts(crate, page):

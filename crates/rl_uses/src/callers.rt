@@ -1,5 +1,5 @@
 //! The examples of the pages `CALLING.md`, one for each library. Each file is a whole module that can be pasted into a
-//! crate. The contracts use only definitions of the libraries and of std, and no proof file is needed.
+//! crate. The contracts use only definitions of the libraries and of std. Only the example of `rl_style` needs a proof file.
 
 pub mod attributes;
 pub mod grammar;
