@@ -42,8 +42,8 @@ returns-in-Script-clause-reports g c =
     )) (unhanded (IsScriptReport c.args.restyling c.args.path.now c.args.text.now) c.report_script.result _ _ refl
     c.report_script.ensures)
 
-pub requested_change_count-count-requires : goal.requested_change_count-count-requires
-requested_change_count-count-requires g c = rw c.as_slice.ensures.value (stand_in c.args.command.rules
+pub requested_change_count-requires : goal.requested_change_count-requires
+requested_change_count-requires g c = rw c.as_slice.ensures.value (stand_in c.args.command.rules
     (macros_read c.args.command.macros) (chars c.args.text.now) (chars (string_bytes c.in-Restyled.restyled.text))
     (map edit_in c.in-Restyled.restyled.edits.items)
     ((rw (c.macros_for.ensures, c.in-Restyled.is) at c.in_ok-lines.ensures).2))
@@ -58,7 +58,7 @@ returns-clause-reports g c =
     let outcome = rw (c.macros_for.ensures, c.in-Restyled.is) at c.in_ok-lines.ensures in reports_as
     (IsChanged c.args.restyling c.args.command c.options_for-options.result c.args.path.now c.path_in-named.result
     c.args.text.now (string_bytes c.in-Restyled.restyled.text) (map edit_in c.in-Restyled.restyled.edits.items)
-    (c.in_ok-count.count.literals, c.in_ok-count.count.rules.items))
+    (c.in_ok-count-in-Restyled.count.literals, c.in_ok-count-in-Restyled.count.rules.items))
     (IsRestyledReport c.args.restyling c.args.command c.args.path.now c.args.text.now) c.report_change.result _ _
     (λ f is. (
       c.source_check_options-checking.result,
@@ -76,10 +76,10 @@ returns-clause-reports g c =
           c.options_for-options.result,
           string_bytes c.in-Restyled.restyled.text,
           map edit_in c.in-Restyled.restyled.edits.items,
-          (c.in_ok-count.count.literals, c.in_ok-count.count.rules.items),
+          (c.in_ok-count-in-Restyled.count.literals, c.in_ok-count-in-Restyled.count.rules.items),
           IsUtf8-string_bytes c.in-Restyled.restyled.text,
           outcome.2,
-          rw c.as_slice.ensures.value at c.in_ok-count.ensures,
+          rw c.as_slice.ensures.value at c.in_ok-count-in-Restyled.ensures,
           c.options_for-options.ensures,
           is,
         ),
