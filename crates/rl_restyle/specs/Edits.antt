@@ -128,8 +128,8 @@ IsTextOf style macros source l e =
 
 -- ---- theorems
 
--- A theorem: a rewritten source is lexed as before, except for the edits, if the source contains neither invalid quotes
--- nor stray characters.
+-- A theorem: a rewritten source is lexed as before, except for the edits, if the source contains neither bad quotes nor
+-- stray characters.
 abbrev pub KeepsTheWholeSource : Type 0
 KeepsTheWholeSource =
     (style : Style) (macros : Macros) (t new : List ℕ) (edits : List (ℕ × ℕ × List ℕ))

@@ -3,7 +3,7 @@
 ghost use Rattle.rl_restyle.specs.Edits.{HasOneText, KeepsTheWholeSource};
 
 /// A rewritten source is lexed into the old number of tokens, of the old kinds. Each token is the old one, or its new text.
-/// Excepted are invalid quotes and stray characters, which no valid Rust source contains.
+/// The source must contain no bad quotes (for example `'ab'`) and no stray characters (for example `€`).
 pub fn only_rewritten_tokens_change()
     ensures { KeepsTheWholeSource }
 {}

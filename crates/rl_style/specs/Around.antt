@@ -34,7 +34,7 @@ pub record SameFront (old new : List ℕ) : Type 0 where
   pub new_is : new ≡ front ++ (new_head ∷ new_rest)
 
 -- If the old and the new text begin alike up to a literal's first character, each token directly before the old text is also
--- a token directly before the new text. Invalid quotes and stray characters are excepted.
+-- a token directly before the new text. Bad quotes and stray characters are excepted.
 abbrev pub StaysAround : Type 0
 StaysAround = (w : SourceLexeme) (old new : List ℕ) → SameFront old new → IsProper w old → IsProper w new
 

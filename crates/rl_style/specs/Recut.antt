@@ -12,7 +12,7 @@ abbrev pub moved : ℕ → ℕ → List CutSource → List CutSource
 moved from to [] = []
 moved from to (w ∷ ws) = record { token = w.token; at = w.at + to - from } ∷ moved from to ws
 
--- The token is neither an invalid quote nor a stray character. Sources that rustc accepts contain neither.
+-- The token is neither a bad quote (for example `'ab'`) nor a stray character (for example `€`).
 abbrev pub IsSoundToken : SourceLexeme → Type 0
 IsSoundToken (BadQuoteToken q) = ⊥
 IsSoundToken (StrayToken c) = ⊥
@@ -58,7 +58,7 @@ pub record IsRecutSource (t : List ℕ) (before after : List CutSource) (old new
 abbrev pub begins_with_code : List ℕ → Bool
 begins_with_code t = not (begins (codes "#!") (without_byte_order_mark t)) || begins (codes "#![") (without_byte_order_mark t)
 
--- If one literal of a source is replaced, all other tokens are lexed as before. The tokens before it must contain no invalid
+-- If one literal of a source is replaced, all other tokens are lexed as before. The tokens before it must contain no bad
 -- quotes and no stray characters. The source must not begin with `#!`, unless it begins with `#![`.
 abbrev pub KeepsTheSource : Type 0
 KeepsTheSource =
@@ -67,7 +67,7 @@ KeepsTheSource =
     → AllByRecursion IsSound before → SameEnds old new → IsRecutSource t before after old new place r
 
 -- A string with escapes replaces a raw string without the prefix `b` or `c`. If the text before the raw string ends with
--- neither a hash nor a dot, all other tokens are lexed as before. The tokens before it must contain no invalid quotes and no
+-- neither a hash nor a dot, all other tokens are lexed as before. The tokens before it must contain no bad quotes and no
 -- stray characters.
 abbrev pub KeepsTheTokensUnraw : Type 0
 KeepsTheTokensUnraw =

@@ -25,7 +25,7 @@ pub record FollowsFront (at : ℕ) (t : List ℕ) (literal : Lexeme) (place : �
   pub place_is : place ≡ at + byte_len front
 
 -- If a literal of a text is rewritten in a style, all other tokens are lexed as before. The tokens before it must contain no
--- invalid quotes and no stray characters.
+-- bad quotes and no stray characters.
 abbrev pub KeepsTheTokensAroundARestyledLiteral : Type 0
 KeepsTheTokensAroundARestyledLiteral =
     (style : Style) (at : ℕ) (t : List ℕ) (before after : List CutSource) (old : Lexeme) (front written : List ℕ)
@@ -43,7 +43,7 @@ pub record IsRestyledSource (t : List ℕ) (before after : List CutSource) (old 
   pub recut : IsRecutSource t before after old new place r
 
 -- If a literal of a source is rewritten in a style, all other tokens are lexed as before. The tokens before it must contain
--- no invalid quotes and no stray characters. The source must not begin with `#!`, unless it begins with `#![`.
+-- no bad quotes and no stray characters. The source must not begin with `#!`, unless it begins with `#![`.
 abbrev pub KeepsTheSourceAroundARestyledLiteral : Type 0
 KeepsTheSourceAroundARestyledLiteral =
     (style : Style) (t : List ℕ) (before after : List CutSource) (old : Lexeme) (front written : List ℕ) (place : ℕ)
@@ -101,7 +101,7 @@ pub record IsCutEdited (at : ℕ) (new : List ℕ) (cuts : List CutSource) (edit
   pub are_cuts : SourcesUpTo at new tokens r
 
 -- If any literals of a text are rewritten in a style, all other tokens are lexed as before. The old text must contain no
--- invalid quotes and no stray characters.
+-- bad quotes and no stray characters.
 abbrev pub KeepsTheTokensOfEdits : Type 0
 KeepsTheTokensOfEdits =
     (style : Style) (at : ℕ) (old : List ℕ) (cuts : List CutSource) (edits : List (Option (List ℕ))) (new r : List ℕ)
@@ -117,7 +117,7 @@ pub record IsEditedSource (new : List ℕ) (cuts : List CutSource) (edits : List
   pub are_cuts : IsCutUpTo new tokens r
 
 -- If any literals of a source are rewritten in a style, all other tokens are lexed as before. The old source must contain no
--- invalid quotes and no stray characters. It must not begin with `#!`, unless it begins with `#![`.
+-- bad quotes and no stray characters. It must not begin with `#!`, unless it begins with `#![`.
 abbrev pub KeepsTheEditedSource : Type 0
 KeepsTheEditedSource =
     (style : Style) (old : List ℕ) (cuts : List CutSource) (edits : List (Option (List ℕ))) (new r : List ℕ)

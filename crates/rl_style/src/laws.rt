@@ -39,27 +39,28 @@ pub fn no_rule_changes_nothing()
     ensures { NoRuleChangesNothing }
 {}
 
-/// If a new literal begins as the old literal does and replaces it, the token before the literal is lexed as before. Invalid
-/// quotes and stray characters, which no valid Rust source contains, are excepted.
+/// If a new literal begins as the old literal does and replaces it, the token before the literal is lexed as before. This token
+/// must be neither a bad quote (for example `'ab'`) nor a stray character (for example `€`).
 pub fn tokens_before_a_rewritten_literal_stay()
     ensures { StaysAround }
 {}
 
-/// Let a well-formed literal replace a literal with an equal kind, prefix and suffix. Then the new literal is one token
-/// before each text that may follow the old literal, and it begins as the old literal does. Both are raw strings, or neither
-/// is. The only exception is a raw string with the prefix `b` or `c`, which may become a string with escapes.
+/// Let a well-formed literal replace a literal with an equal kind, prefix and suffix. Let both literals be raw strings, or
+/// neither. The only exception is a raw string with the prefix `b` or `c`, which may also become a string with escapes. If the
+/// old literal is a token where a certain text follows it, the new literal is a token where the same text follows it. The new
+/// literal begins as the old literal does.
 pub fn new_literals_are_tokens()
     ensures { KeepsItsEnds }
 {}
 
 /// If one literal of a text is rewritten, all other tokens of the text are lexed as before. The tokens before the literal
-/// must contain no invalid quotes and no stray characters.
+/// must contain no bad quotes and no stray characters.
 pub fn the_tokens_are_kept()
     ensures { KeepsTheTokens }
 {}
 
 /// If one literal of a source is rewritten, all other tokens of the source are lexed as before. The tokens before the literal
-/// must contain no invalid quotes and no stray characters. The source must not begin with `#!`, unless it begins with an
+/// must contain no bad quotes and no stray characters. The source must not begin with `#!`, unless it begins with an
 /// attribute's `#![` ([`is_safe_to_restyle`](crate::is_safe_to_restyle)). With another `#!`, a comment may begin on the first
 /// line, and end at a `*/` inside of a literal of a later line. Then a change of this literal may change whether the first
 /// line is an interpreter's line.
@@ -68,28 +69,27 @@ pub fn the_tokens_of_a_source_are_kept()
 {}
 
 /// If a literal of a text is rewritten in a style, all other tokens of the text are lexed as before. The tokens before the
-/// literal must contain no invalid quotes and no stray characters. [`rewrite_into`](crate::rewrite_into) writes one token,
+/// literal must contain no bad quotes and no stray characters. [`rewrite_into`](crate::rewrite_into) writes one token,
 /// with the form of the old literal.
 pub fn the_tokens_around_a_restyled_literal_are_kept()
     ensures { KeepsTheTokensAroundARestyledLiteral }
 {}
 
 /// If a literal of a source is rewritten in a style, all other tokens of the source are lexed as before. The tokens before
-/// the literal must contain no invalid quotes and no stray characters. The source must not begin with `#!`, unless it begins
+/// the literal must contain no bad quotes and no stray characters. The source must not begin with `#!`, unless it begins
 /// with an attribute's `#![`.
 pub fn the_source_tokens_around_a_restyled_literal_are_kept()
     ensures { KeepsTheSourceAroundARestyledLiteral }
 {}
 
 /// If any literals of a text are rewritten in a style, the new text has as many tokens as the old text, and their kinds are
-/// equal. Each token is the old one, or a rewritten literal. The old text must contain no invalid quotes and no stray
-/// characters.
+/// equal. Each token is the old one, or a rewritten literal. The old text must contain no bad quotes and no stray characters.
 pub fn the_tokens_of_edits_are_kept()
     ensures { KeepsTheTokensOfEdits }
 {}
 
 /// If any literals of a source are rewritten in a style, the new source has as many tokens as the old source, and their kinds
-/// are equal. The old source must contain no invalid quotes and no stray characters. It must not begin with `#!`, unless it
+/// are equal. The old source must contain no bad quotes and no stray characters. It must not begin with `#!`, unless it
 /// begins with an attribute's `#![`.
 pub fn the_tokens_of_an_edited_source_are_kept()
     ensures { KeepsTheEditedSource }
@@ -102,7 +102,7 @@ pub fn tokens_before_a_replaced_raw_string_stay()
 {}
 
 /// If a string with escapes replaces a raw string of a text, all other tokens of the text are lexed as before. The tokens
-/// before the string must contain no invalid quotes and no stray characters. The text before the string must end with neither
+/// before the string must contain no bad quotes and no stray characters. The text before the string must end with neither
 /// a hash nor a dot.
 pub fn the_tokens_around_a_replaced_raw_string_are_kept()
     ensures { KeepsTheTokensUnraw }
