@@ -1,5 +1,5 @@
 -- Lemmas about the byte offsets of the edits of a source.
-use Rattle.rl_syntax.proofs.Common.{◌≡◌, ℕ, ◌+◌, List, [], ◌∷◌, ◌++◌, None, Option, Some, append_assoc, ap, arith, refl, sym, ◌∙◌}
+use Rattle.rl_syntax.proofs.Common.{◌≡◌, ℕ, List, [], ◌∷◌, ◌++◌, None, Option, Some, append_assoc, ap, arith, refl, sym, ◌∙◌}
 use Rattle.rl_syntax.specs.Texts.{byte_len}
 use Rattle.rl_lexer.proofs.CutLemmas.{byte_len-append}
 use Rattle.rl_lexer.specs.Sources.{CutSource, source_end, source_text}
