@@ -1,5 +1,5 @@
 -- The text after a literal token decides where the lexer ends the token.
-use Rattle.rl_syntax.proofs.Common.{◌≡◌, ℕ, ◌<◌, ◌≤◌, suc, ◌⊎◌, inl, inr, Bool, true, false, not, ◌&&◌, ◌||◌, ◌==◌, cond, List, [], ◌∷◌, ◌++◌, length, Option, Some, None, drop, replicate, refl, sym, ◌∙◌, ap, subst, arith, append_assoc, lit<, and_parts, and_from, or_cases, eqb-true, nat_lt, digit_value, list_all, list_any, is_ascii_digit, is_xid_continue, option_map}
+use Rattle.rl_syntax.proofs.Common.{◌≡◌, ℕ, ◌≤◌, suc, ◌⊎◌, inl, inr, Bool, true, false, not, ◌&&◌, ◌||◌, ◌==◌, cond, List, [], ◌∷◌, ◌++◌, length, Option, Some, None, drop, replicate, refl, sym, ◌∙◌, ap, subst, arith, append_assoc, lit<, and_parts, and_from, or_cases, eqb-true, nat_lt, digit_value, list_all, list_any, is_ascii_digit, is_xid_continue, option_map}
 use Rattle.rl_syntax.specs.Texts.{is_underscore, is_white, first_passes, is_run_part, is_start, is_continue, begins_char}
 use Rattle.rl_syntax.specs.Classes.{after_run}
 use Rattle.rl_syntax.proofs.Basics.{all_weaker, false_unless, word_continues}

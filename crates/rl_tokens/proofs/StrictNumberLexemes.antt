@@ -1,5 +1,5 @@
 -- A number by Rust's grammar is one lexeme before each text that may follow a literal.
-use Rattle.rl_syntax.proofs.Common.{◌≡◌, ℕ, ◌<◌, ◌≤◌, ◌⊎◌, inl, inr, suc, Bool, true, false, not, ◌&&◌, ◌||◌, ◌==◌, List, [], ◌∷◌, ◌++◌, replicate, refl, sym, ◌∙◌, ap, subst, arith, append_assoc, append-nil, lit<, nat_lt, list_all, list_any, digit_value, is_ascii_digit, and_parts, and_from, or_from, or_cases, eqb-true, list_all-append}
+use Rattle.rl_syntax.proofs.Common.{◌≡◌, ℕ, ◌≤◌, ◌⊎◌, inl, inr, suc, Bool, true, false, not, ◌&&◌, ◌||◌, ◌==◌, List, [], ◌∷◌, ◌++◌, replicate, refl, sym, ◌∙◌, ap, subst, arith, append_assoc, append-nil, lit<, nat_lt, list_all, list_any, digit_value, is_ascii_digit, and_parts, and_from, or_from, or_cases, eqb-true, list_all-append}
 use Rattle.rl_syntax.specs.Texts.{first_passes, begins, is_run_part, is_start, is_continue}
 use Rattle.rl_syntax.specs.Numbers.{Decimal, is_digit}
 use Rattle.rl_lexer.specs.Lexemes.{is_base_letter, begins_dot, LexedFraction, NoLexedFraction, LexedDot, lexed_fraction_text, LexedSign, NoLexedSign, LexedPlus, LexedMinus, lexed_sign_text, LexedExponent, NoLexedExponent, LexedPower, lexed_exponent_text, IsLexedFraction, IsLexedExponent, BasedLexeme, DecimalLexeme}
