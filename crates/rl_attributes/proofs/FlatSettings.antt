@@ -1,5 +1,5 @@
 -- Lemmas about the token trees of a setting that is lexed token by token.
-use Rattle.rl_syntax.proofs.Common.{◌≡◌, ℕ, ◌+◌, ◌≤◌, inl, inr, true, List, [], ◌∷◌, ◌++◌, length, length-append, Option, Some, None, refl, sym, ◌∙◌, ap, subst, arith, nat_tests, append_assoc, chars, codes, encode_ascii, length-encode, len_utf8_bounds, replicate, if◌then◌else◌, ◌==◌}
+use Rattle.rl_syntax.proofs.Common.{◌≡◌, ℕ, ◌≤◌, inl, inr, true, List, [], ◌∷◌, ◌++◌, length, length-append, Option, Some, None, refl, sym, ◌∙◌, ap, subst, arith, nat_tests, append_assoc, chars, codes, encode_ascii, length-encode, len_utf8_bounds, replicate, if◌then◌else◌, ◌==◌}
 use Rattle.std.specs.Prelude.{min, max, IsSomeAnd}
 use Rattle.rl_syntax.specs.declared.span.Span.{Span}
 use Rattle.rl_syntax.specs.Texts.{SpannedText, byte_len}
