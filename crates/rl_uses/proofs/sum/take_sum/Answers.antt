@@ -1,4 +1,4 @@
-use Rattle.std.proofs.Common.{◌≡◌, ℤ, ◌+ℤ◌, w64, to_z, of_z, arith, rules, ◌∙◌}
+use Rattle.std.proofs.Common.{◌≡◌, ◌+ℤ◌, w64, to_z, of_z, arith, rules, ◌∙◌}
 use Rattle.std.proofs.lemmas.Int.{ints}
 use Rattle.rl_uses.specs.Sums.{Plus, eval}
 use Rattle.rl_uses.proofs.TreeLemmas.{sum_of_one}
