@@ -35,7 +35,7 @@
 //! | Write a value as a literal | [`write_str`], [`write_integer`], ..; [`LitStr::new`], [`LitInt::suffixed`], .. | `writers` |
 //! | Rewrite literals in a style | [`rewrite`], [`Style`]; with `sources` [`rewrite_source`](fn@rewrite_source) | `style` |
 //! | Read an attribute in a procedural macro | [`Attrs`], [`Meta`]; [`MacroError`], [`AtSpan`] | `proc-macro` |
-//! | Read literals in a procedural macro | [`next_literal_of`], [`only_literal_of`], [`next_literal`], [`next_value`]; with `settings` [`MacroInput`] | `proc-macro` |
+//! | Read literals in a procedural macro | [`next_literal_of`], [`only_literal_of`], [`next_literal`](fn@next_literal), [`next_value`]; with `settings` [`MacroInput`] | `proc-macro` |
 //!
 //! Ranges and places are byte offsets. All features except `proc-macro` are on by default.
 //!

@@ -20,7 +20,8 @@ use proc_macro::{Delimiter, Group, Span, TokenStream, TokenTree};
 /// `(..)`, `[..]` or `{..}`.
 ///
 /// A value is all tokens up to the next comma. These commas don't end a value: a comma in brackets; a comma in `<..>` at the
-/// value's start, after `::` or in a closure's return type; a comma among a closure's parameters.
+/// value's start or after `::`. If a closure begins the value, a comma among its parameters doesn't end the value either, and neither
+/// does a comma in `<..>` in its return type.
 ///
 /// The methods `string`, `number`, `flag` and `literal_of` read a value that is one literal. The literal may follow a minus, or be
 /// in a group of `macro_rules!`.
@@ -562,8 +563,8 @@ fn next_name(trees: &mut Trees) -> Result<(String, Span, Span), MacroError> {
 
 /// Consumes and returns the tokens before the next comma, such as an expression. The comma stays.
 ///
-/// The tokens aren't parsed. A comma doesn't end the value in brackets of any kind, in `<..>` at the start of the value, after `::` or
-/// in the return type of a closure, or among the parameters of a closure.
+/// The tokens aren't parsed. A comma doesn't end the value in brackets of any kind, and in `<..>` at the start of the value or after
+/// `::`. If a closure begins the value, a comma doesn't end the value among the closure's parameters, and in `<..>` in its return type.
 ///
 /// # Errors
 ///
