@@ -71,7 +71,7 @@ fn check(t: &str, count: &mut Count) {
         ("read", of_new(read(t, Text, false)) == of_old(in_text::read(t))),
         ("read_signed", of_new(read(t, Text, true)) == of_old(in_text::read_signed(t))),
         ("explain", explain(t).map(new_flaw) == in_text::explain(t).map(old_flaw)),
-        ("explain_missing_value", explain_missing_value(t, Text, true).map(new_flaw) == in_text::explain_missing_value(t).map(old_flaw)),
+        ("explain_missing_value", explain_missing_value(t, Text, true).map(new_flaw) == in_text::explain_value(t).map(old_flaw)),
         ("explain_in_file", read(t, File, false).err().map(new_flaw) == in_file::explain_in_file(t).map(old_flaw)),
         ("explain_value_in_file", explain_missing_value(t, File, false).map(new_flaw) == in_file::explain_value_in_file(t).map(old_flaw)),
         ("signed", explain_missing_value(t, File, true).map(new_flaw) == in_file::explain_signed_value_in_file(t).map(old_flaw)),
