@@ -12,9 +12,10 @@ use proc_macro::{Span, TokenStream};
 
 /// The entries of an attribute, read by name.
 ///
-/// If a name isn't set, `string`, `number` and the other methods that take a name return `None`. The caller then uses a default, or
-/// returns [`missing_error`](Attrs::missing_error). Reading a name that is set twice is an error. [`Attrs::all`] returns each entry
-/// of a name that may be repeated.
+/// If a name isn't set, `get`, `string`, `number`, `literal_of`, `value` and `list` return `None`. The caller then uses a default,
+/// or returns [`missing_error`](Attrs::missing_error). `flag` returns `false`, and `all` an empty iterator.
+///
+/// Reading a name that is set twice is an error. [`Attrs::all`] returns each entry of a name that may be repeated.
 ///
 /// ```no_run
 /// extern crate proc_macro;
@@ -52,7 +53,7 @@ impl Attrs {
     /// Parses entries separated by commas, such as the input of an attribute macro.
     ///
     /// An error about the attribute as a whole, such as a missing name, is at the macro's call. For the entries of `#[opt(..)]`
-    /// call [`Meta::list`], with which such an error is at the name `opt`.
+    /// call [`Meta::list`]. An error about the attribute is then at the name `opt`.
     ///
     /// # Errors
     ///
@@ -266,7 +267,8 @@ impl Attrs {
         self.read(name, Meta::list)
     }
 
-    /// Creates the error for a required name that isn't set. The error is at the attribute's name, or at the macro's call.
+    /// Creates the error for a required name that isn't set. For entries of [`Meta::list`] or [`Attrs::list`], the error is at the
+    /// list's name. For entries of [`Attrs::parse`], the error is at the macro's call.
     ///
     /// ```no_run
     /// extern crate proc_macro;
@@ -280,7 +282,8 @@ impl Attrs {
         self.error(format_args!("missing `{name}`"))
     }
 
-    /// Creates an error at the attribute's name. For entries of [`Attrs::parse`] the error is at the macro's call.
+    /// Creates an error about all entries. For entries of [`Meta::list`] or [`Attrs::list`], the error is at the list's name. For
+    /// entries of [`Attrs::parse`], the error is at the macro's call.
     ///
     /// ```no_run
     /// extern crate proc_macro;

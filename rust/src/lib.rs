@@ -25,7 +25,7 @@
 //! | Get a number of a type | [`LitInt::value`], [`LitFloat::value`]; [`Number`], [`ValueError`] | – |
 //! | Map a byte of a value to the text | [`LitStr::text_offset`], [`LitStr::text_range`], [`LitStr::segments`]; [`OffsetMap`] | – |
 //! | Find the literals of a source file | [`source`](fn@source), [`Source::recover`] | `sources` |
-//! | Check that Rust accepts a literal | [`Lit::check`] | `sources` or `settings` |
+//! | Check a literal by Rust's grammar, which allows any suffix | [`Lit::check`] | `sources` or `settings` |
 //! | Check that a literal has a type | [`Lit::type_error`] | `flaws` |
 //! | Report every error of a literal | [`flaws`](fn@flaws), [`pieces`], [`guess_kind`] | `flaws` |
 //! | Read a list of literals | [`parse_list`] | `sources` |
@@ -37,12 +37,12 @@
 //! | Read an attribute in a procedural macro | [`Attrs`], [`Meta`]; [`MacroError`], [`AtSpan`] | `proc-macro` |
 //! | Read literals in a procedural macro | [`next_literal_of`], [`only_literal_of`], [`next_literal`](fn@next_literal), [`next_value`]; with `settings` [`MacroInput`] | `proc-macro` |
 //!
-//! Ranges and places are byte offsets. All features except `proc-macro` are on by default.
+//! Ranges and offsets count bytes. All features except `proc-macro` are on by default.
 //!
 //! # Guarantees
 //!
-//! The code in `proved` is translated from sources that are proved against a written grammar. `README.md` tells what is proved,
-//! trusted and tested. There is no `unsafe`.
+//! The code in `src/proved` is translated from Rattle, a language like Rust. The Rattle code is proved against a written grammar.
+//! `README.md` tells what is proved, trusted and tested. There is no `unsafe`.
 #![no_std]
 #![forbid(unsafe_code)]
 #![deny(missing_docs)]

@@ -12,8 +12,8 @@ use proc_macro::{Delimiter, Group, LexError, Literal, Span, TokenStream, TokenTr
 
 /// An error in the input of a procedural macro, with the tokens that the error is about.
 ///
-/// `?` converts errors of this crate to a `MacroError` at the macro's call. `.at(span)?` moves the error to a token; see [`AtSpan`].
-/// In this example, `LitStr::new` needs the feature `writers`.
+/// `?` converts other errors of this crate to a `MacroError` at the macro's call. `?` keeps the span of a `MacroError`.
+/// `.at(span)?` moves the error to a token; see [`AtSpan`]. In this example, `LitStr::new` needs the feature `writers`.
 ///
 /// ```no_run
 /// extern crate proc_macro;
@@ -37,7 +37,7 @@ use proc_macro::{Delimiter, Group, LexError, Literal, Span, TokenStream, TokenTr
 /// ```
 ///
 /// A `MacroError` can be sent to another thread. On another thread it has its messages but no spans, because `proc_macro` works
-/// only on the macro's thread.
+/// only on the macro's thread. There `span` and `to_compile_error` call `Span::call_site()`, which panics outside of a macro.
 #[doc(alias = "Error")]
 #[derive(Clone)]
 pub struct MacroError {
@@ -120,7 +120,7 @@ impl MacroError {
         }
     }
 
-    /// Moves the error to `span`. Use this method after `?` or `from`, whose errors are at the macro's call. If errors are
+    /// Moves the error to `span`. Errors that `?` or `from` converts are at the macro's call. This method moves them. If errors are
     /// combined, only the first one moves. For a `Result`, use [`AtSpan::at`].
     ///
     /// ```no_run
@@ -256,7 +256,7 @@ impl MacroError {
 
 /// A `Result` whose error can be moved to a span. It is any `Result` whose error `?` converts to a [`MacroError`].
 ///
-/// `?` alone reports the error at the macro's call.
+/// Without `.at`, `?` reports a converted error at the macro's call. A `MacroError` keeps its span.
 ///
 /// ```no_run
 /// extern crate proc_macro;

@@ -36,7 +36,7 @@ pub struct MacroEntry {
 /// A procedural macro's input as text, with the byte range of each token.
 ///
 /// Functions on text, such as [`Settings::read`](crate::Settings::read), can parse this text. [`spans`](MacroInput::spans) converts
-/// their byte ranges to spans.
+/// a byte range of this text to spans.
 ///
 /// ```no_run
 /// extern crate proc_macro;
@@ -177,7 +177,7 @@ impl MacroInput {
     }
 
     /// Returns the spans of the first and the last token that overlap the byte range `bytes`. If none overlaps, both are the span
-    /// of the next token, or of the last token.
+    /// of the next token. After the last token, both are the span of the last token. Without tokens, both are the macro's call.
     ///
     /// ```no_run
     /// extern crate proc_macro;

@@ -19,12 +19,15 @@ use proc_macro::{Delimiter, Group, Span, TokenStream, TokenTree};
 /// The name is an identifier, or a path such as `a::b`. Keywords are names too, and `r#type` has the name `type`. A list may have
 /// `(..)`, `[..]` or `{..}`.
 ///
-/// A value is all tokens up to the next comma. These commas don't end a value: a comma in brackets; a comma in `<..>` at the
-/// value's start or after `::`. If a closure begins the value, a comma among its parameters doesn't end the value either, and neither
-/// does a comma in `<..>` in its return type.
+/// A value is all tokens up to the next comma. These commas don't end a value:
 ///
-/// The methods `string`, `number`, `flag` and `literal_of` read a value that is one literal. The literal may follow a minus, or be
-/// in a group of `macro_rules!`.
+/// - a comma in `()`, `[]` or `{}`;
+/// - a comma in `<..>`, if the `<` begins the value, follows `::`, or is inside of other `<..>`;
+/// - if a closure begins the value, a comma among its parameters, or in `<..>` in its return type. `move`, `async` or `static` may
+///   be before the closure.
+///
+/// The methods `string`, `number`, `flag` and `literal_of` read a value that is one literal. A number may follow a minus.
+/// `macro_rules!` may pass the literal on as `$e:literal`.
 ///
 /// ```no_run
 /// extern crate proc_macro;
@@ -83,7 +86,7 @@ impl Meta {
     /// use navyspindle::{Attrs, MacroError, Meta};
     /// use proc_macro::Group;
     ///
-    /// /// The entries of `#[opt(..)]`, by the group that follows `#`; `None` for another attribute.
+    /// /// Returns the entries of `#[opt(..)]`, or `None` for another attribute. `brackets` is the group after the `#`.
     /// fn opt(brackets: &Group) -> Result<Option<Attrs>, MacroError> {
     ///     let meta = Meta::parse(brackets.stream())?;
     ///     (meta.name() == "opt").then(|| meta.list()).transpose()
@@ -169,8 +172,8 @@ impl Meta {
         MacroError::between(message, self.first, self.last)
     }
 
-    /// Creates an error with the span of the value, from its first token to its last, or of the list. For a flag, the error is at the
-    /// name.
+    /// Creates an error at the value, from its first token to its last. For a list, the error is at the whole list. For a flag, the
+    /// error is at the name.
     ///
     /// ```no_run
     /// extern crate proc_macro;
@@ -251,7 +254,7 @@ impl Meta {
         }
     }
 
-    /// Returns the text that the entry's string literal represents. The literal must have no suffix.
+    /// Returns the value of the entry's string literal. The literal must have no suffix.
     ///
     /// # Errors
     ///
@@ -561,10 +564,12 @@ fn next_name(trees: &mut Trees) -> Result<(String, Span, Span), MacroError> {
     }
 }
 
-/// Consumes and returns the tokens before the next comma, such as an expression. The comma stays.
+/// Consumes and returns the tokens before the next comma. They may be an expression. The comma stays.
 ///
-/// The tokens aren't parsed. A comma doesn't end the value in brackets of any kind, and in `<..>` at the start of the value or after
-/// `::`. If a closure begins the value, a comma doesn't end the value among the closure's parameters, and in `<..>` in its return type.
+/// The tokens aren't parsed. A comma in `()`, `[]` or `{}` doesn't end the value. A comma in `<..>` doesn't end it either, if the
+/// `<` begins the value, follows `::`, or is inside of other `<..>`. If a closure begins the value, these commas don't end it: a
+/// comma among the closure's parameters; a comma in `<..>` in its return type. `move`, `async` or `static` may be before the
+/// closure.
 ///
 /// # Errors
 ///
