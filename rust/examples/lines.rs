@@ -8,15 +8,9 @@ use navyspindle::{
     SegmentValue, SyntaxErrorKind,
 };
 use std::borrow::Cow;
-use std::io::{self, BufWriter, Write};
 
-/// Decodes pairs of hexadecimal digits to bytes.
-fn decoded(digits: &str) -> Option<Vec<u8>> {
-    (0..digits.len())
-        .step_by(2)
-        .map(|at| u8::from_str_radix(digits.get(at..at + 2)?, 16).ok())
-        .collect()
-}
+#[path = "../programs/rows/src/commands.rs"]
+mod commands;
 
 /// Returns a suffix as the output shows it: unchanged if it is an identifier, otherwise as a string literal.
 fn suffix_of(suffix: &str) -> String {
@@ -150,24 +144,19 @@ fn borrowed_text(text: Cow<'_, str>) -> Option<&[u8]> {
     }
 }
 
-fn main() -> io::Result<()> {
-    let mut out = BufWriter::new(io::stdout().lock());
-    for line in io::stdin().lines() {
-        let line = line?;
-        let (command, digits) = line.split_once(' ').unwrap_or((&line, ""));
-        let printed = match decoded(digits).map(String::from_utf8) {
-            None => "error: input is not hexadecimal".to_owned(),
-            Some(Err(_)) => "error: input is not UTF-8".to_owned(),
-            Some(Ok(text)) => match command {
-                "text" => line_of(&Lit::new(&*text)),
-                "attr" => settings_of(&text),
-                "places" => places_of(&text),
-                "value" => borrowed_of(&text),
-                "strict" => is_token(&text).to_string(),
-                _ => "error: no command".to_owned(),
-            },
-        };
-        writeln!(out, "{printed}")?;
-    }
-    out.flush()
+/// Returns the result of a command for a text, or `None` for an unknown command.
+fn answer(command: &str, text: &str) -> Option<String> {
+    let line = match command {
+        "text" => line_of(&Lit::new(text)),
+        "attr" => settings_of(text),
+        "places" => places_of(text),
+        "value" => borrowed_of(text),
+        "strict" => is_token(text).to_string(),
+        _ => return None,
+    };
+    Some(line + "\n")
+}
+
+fn main() -> std::io::Result<()> {
+    commands::run_commands(answer)
 }

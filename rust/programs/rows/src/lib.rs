@@ -2,6 +2,7 @@
 #![forbid(unsafe_code)]
 
 pub mod answers;
+pub mod commands;
 pub mod failing;
 pub mod settings;
 pub mod texts;

@@ -7,37 +7,18 @@
 //! - `source` prints the literals of a source, each with its position, and then a line with a full stop.
 
 use navyspindle_rows::answers::{explained, source_lines, value_explained};
-use std::io::{self, BufWriter, Write};
+use navyspindle_rows::commands::run_commands;
 
-/// Decodes pairs of hexadecimal digits to bytes.
-fn decoded(digits: &str) -> Option<Vec<u8>> {
-    (0..digits.len())
-        .step_by(2)
-        .map(|at| u8::from_str_radix(digits.get(at..at + 2)?, 16).ok())
-        .collect()
-}
-
-/// Returns the result of a command for a text.
-fn answer(command: &str, text: &str) -> String {
+/// Returns the result of a command for a text, or `None` for an unknown command.
+fn answer(command: &str, text: &str) -> Option<String> {
     match command {
-        "explain" => explained(text),
-        "explain-value" => value_explained(text),
-        "source" => source_lines(text),
-        _ => "error: no command\n".to_owned(),
+        "explain" => Some(explained(text)),
+        "explain-value" => Some(value_explained(text)),
+        "source" => Some(source_lines(text)),
+        _ => None,
     }
 }
 
-fn main() -> io::Result<()> {
-    let mut out = BufWriter::new(io::stdout().lock());
-    for line in io::stdin().lines() {
-        let line = line?;
-        let (command, digits) = line.split_once(' ').unwrap_or((&line, ""));
-        let printed = match decoded(digits).map(String::from_utf8) {
-            None => "error: input is not hexadecimal\n".to_owned(),
-            Some(Err(_)) => "error: input is not UTF-8\n".to_owned(),
-            Some(Ok(text)) => answer(command, &text),
-        };
-        out.write_all(printed.as_bytes())?;
-    }
-    out.flush()
+fn main() -> std::io::Result<()> {
+    run_commands(answer)
 }
