@@ -28,8 +28,9 @@ abbrev pub SegmentsMakeTheLiteral : Type 0
 SegmentsMakeTheLiteral =
     (kind : Kind) (text : List ℕ) → AllMakeTheLiteral kind text
 
--- A segment of a literal has one value. Plain characters have a text as their value. An escape or a line end CR LF has a
--- character, a byte or nothing as its value, which the literal's kind decides.
+-- A segment of a literal has one value. Plain characters have a text as their value. An escaped line end has no value. The
+-- value of `\u{..}` is a character. The value of any other escape, and of a line end CR LF, is a character if the literal is a
+-- `Str` or a `Char`, and otherwise a byte.
 abbrev pub ASegmentHasOneValue : Type 0
 ASegmentHasOneValue =
     (kind : Kind) (units : List QuotedUnit) → AreOneSegment kind units

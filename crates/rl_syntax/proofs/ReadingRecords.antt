@@ -24,6 +24,6 @@ both_are t a b p q =
     let e = read_and_strict t a.kind b.kind a.contents b.contents a.suffix b.suffix p.reads q.strict in
     same_reading a.kind b.kind a.contents b.contents a.suffix b.suffix e.0 e.1 e.2
 
--- Two parse results of a text are equal. The prover antt infers the arguments of this lemma from its use.
+-- Two parse results of a text are equal. The prover infers the arguments of this lemma from its use.
 inferred : (t : List ℕ) (a b : Reading) → IsReading t a → IsReading t b → a ≡ b
 inferred t a b p q = one_is _ _ _ p q

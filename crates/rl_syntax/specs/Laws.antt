@@ -75,7 +75,7 @@ BothGrammarsAgree =
     (t : List ℕ) (k l : Kind) (v w : Contents) (x y : List ℕ)
     → Reads t k v x → Strict t l w y → (k ≡ l) × (v ≡ w) × (x ≡ y)
 
--- By `syn`'s grammar, two parse results of a text are equal as records. The prover antt infers the arguments of this law, of
+-- By `syn`'s grammar, two parse results of a text are equal as records. The prover infers the arguments of this law, of
 -- `StrictReadingsOfATextAreOne` and of `AReadingIsTheStrictOne` from its use, so a caller writes `_` for each argument.
 abbrev pub ReadingsOfATextAreOne : Type 0
 ReadingsOfATextAreOne = (text : List ℕ) (a b : Reading) → IsReading text a → IsReading text b → a ≡ b

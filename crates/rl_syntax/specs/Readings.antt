@@ -1,5 +1,5 @@
--- Parse results as records. The prover antt infers each argument of these records, but infers no argument of `Reads`
--- and `Strict`, which are defined by the kind.
+-- Parse results as records. The prover infers each argument of these records, but infers no argument of `Reads` and
+-- `Strict`, which are defined by the kind.
 use Rattle.std.specs.Prelude.{List, ℕ}
 use Rattle.rl_syntax.specs.declared.kind.Kind.{Kind}
 use Rattle.rl_syntax.specs.Reading.{Contents, Reads}

@@ -54,7 +54,7 @@ impl<A: Allocator> Model for NulError<A> {
 }
 
 impl<A: Allocator> CString<A> {
-    /// Creates a C string from `bytes`, which must contain no zero.
+    /// Creates a C string from `bytes`, or returns an error if `bytes` contains a zero.
     ///
     /// # Errors
     ///

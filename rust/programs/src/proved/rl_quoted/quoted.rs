@@ -115,9 +115,8 @@ impl<K: QuotedKind, A: Allocator> Quoted<K, A> {
         self.segments().text_offset(at)
     }
 
-    /// Returns the byte offset in the literal's text after the text from which the byte at the offset `at` of the
-    /// decoded value comes: after the byte itself, or after its escape. An escaped line end that follows isn't
-    /// included.
+    /// Returns the byte offset in the literal's text where the text of the byte at the offset `at` of the decoded value
+    /// ends: after the byte itself, or after its escape. An escaped line end that follows isn't included.
     pub fn text_offset_after(&self, at: usize) -> usize {
         self.segments().text_offset_after(at)
     }

@@ -101,8 +101,8 @@ impl<'a, A: Allocator> ParseBuffer<'a, A> {
         }
     }
 
-    /// Consumes the next token tree, which must be the punctuation character `ch`, and returns the token, borrowed.
-    /// [`Punct::is_char`] must be `true` for `ch`.
+    /// Consumes the next token tree if it is the punctuation character `ch`, and otherwise returns an error. The consumed
+    /// token is returned, borrowed. [`Punct::is_char`] must be `true` for `ch`.
     ///
     /// # Errors
     ///

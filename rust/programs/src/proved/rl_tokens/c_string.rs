@@ -18,7 +18,7 @@ pub struct NulError<A: Allocator = Global> {
 }
 
 impl<A: Allocator> CString<A> {
-    /// Creates a C string from `bytes`, which must contain no zero.
+    /// Creates a C string from `bytes`, or returns an error if `bytes` contains a zero.
     ///
     /// # Errors
     ///
