@@ -4,3 +4,4 @@ pub mod VisibleLemmas
 pub mod GlobLemmas
 pub mod PartLemmas
 pub mod PathTextLemmas
+pub mod ListedLemmas

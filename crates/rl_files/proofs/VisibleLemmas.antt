@@ -7,7 +7,7 @@ use Rattle.std.proofs.lemmas.Bool.{and_parts}
 use Rattle.std.specs.Char.{is_control}
 use Rattle.rl_files.specs.Visible.{is_invisible_or_bidi, visible_char, visible_in_line, visible_lines, is_plain_byte}
 use Rattle.std.proofs.lemmas.Grind.{flat_map-append}
-use Rattle.std.proofs.lemmas.Str.{encodes-append, encodes-chars, chars_from_encodes, chars-append, chars-IsAscii}
+use Rattle.std.proofs.lemmas.Str.{encodes-append, encodes-chars, chars_from_encodes, chars-append, chars-nil, chars-IsAscii}
 use Rattle.std.proofs.lemmas.Str.Ascii.{IsAscii-nil, IsAscii-cons}
 
 -- The invariant of a loop that writes the characters of a text by the function `f` holds again after one more
@@ -68,3 +68,8 @@ plain_end text from utf8 plain =
     ap chars (sym (take-append-drop from text)) ∙ chars-append (take from text) (drop from text) utf8
     ∙ ap (λ (z : List ℕ). chars (take from text) ++ z) (chars-IsAscii (drop from text) same.1 ∙ sym same.0
     ∙ ap visible_lines (sym (chars-IsAscii (drop from text) same.1)))
+
+-- A piece that is appended to the empty text is the whole text.
+pub from_nothing : (old new piece : List ℕ) → old ≡ [] → chars new ≡ chars old ++ piece → chars new ≡ piece
+from_nothing old new piece none e = e ∙ ap (λ (z : List ℕ). chars z ++ piece) none
+    ∙ ap (λ (z : List ℕ). z ++ piece) chars-nil

@@ -7,3 +7,4 @@ pub mod Visible
 pub mod Globs
 pub mod PathTexts
 pub mod GlobStops
+pub mod Listed

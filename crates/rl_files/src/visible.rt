@@ -1,6 +1,6 @@
 //! Writes texts with escapes for control characters and for invisible and bidirectional characters.
 
-ghost use Rattle.std.specs.Prelude.{◌≡◌, ◌++◌, ◌∷◌, ◌==◌, [], cond, take, drop, OnOk, IsTrue, string_bytes, encode_utf8_all};
+ghost use Rattle.std.specs.Prelude.{◌≡◌, ◌++◌, ◌∷◌, ◌==◌, [], cond, take, drop, IfOk, OnOk, IsTrue, string_bytes, encode_utf8_all};
 ghost use Rattle.std.specs.List.{flat_map, list_all};
 ghost use Rattle.std.specs.Str.{chars, IsCharBoundary};
 ghost use Rattle.std.specs.Char.Escape.{escape_default};
@@ -108,4 +108,13 @@ pub fn make_visible<A: Allocator>(
     let lines = String::from_str(alloc, lines)?;
     text.truncate(from);
     push_visible_lines(text, lines.as_str())
+}
+
+/// Returns a copy of a text with escapes for invisible and bidirectional characters.
+pub fn visible_text<A: Allocator>(alloc: A, text: &str) -> Result<String<A>, AllocError>
+    ensures { IfOk result (λ shown. chars (string_bytes shown) ≡ visible (chars text.now)) }
+{
+    let mut shown = String::new(alloc);
+    push_visible(&mut shown, text)?;
+    Ok(shown)
 }

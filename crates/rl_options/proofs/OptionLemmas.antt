@@ -7,7 +7,7 @@ use Rattle.rl_options.specs.declared.flags.Effect.{Effect}
 use Rattle.rl_options.specs.declared.flags.Effect.TheVariants.{Takes, EndsOptions}
 use Rattle.rl_options.specs.declared.flags.Operand.{Operand}
 use Rattle.rl_options.specs.declared.table.OptionRow.{OptionRow}
-use Rattle.rl_options.specs.Meant.{option_part}
+use Rattle.rl_restyle.specs.Meant.{option_part}
 use Rattle.rl_options.specs.Modes.{is_without_effect, option_without_effect}
 use Rattle.rl_options.specs.Wishes.{Wishes}
 use Rattle.rl_options.specs.Options.{IsJoinedWord, IsLetter, OptionEntry, ends_options, is_letter_of, suggests}

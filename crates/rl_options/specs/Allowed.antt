@@ -7,7 +7,7 @@ use Rattle.rl_files.specs.Visible.{visible}
 use Rattle.rl_output.specs.CodePoints.{code_point}
 use Rattle.rl_options.specs.declared.argument_error.ArgumentError.{ArgumentError}
 use Rattle.rl_options.specs.declared.argument_error.ArgumentError.TheVariants.{Memory, UnclosedAllowed, UnknownAllowed}
-use Rattle.rl_options.specs.Meant.{is_near}
+use Rattle.rl_restyle.specs.Meant.{is_near}
 use Rattle.rl_options.specs.Wishes.{AllWanted, BadWanted, HiddenWanted, OnlyWanted, Wanted}
 
 -- The identifiers of the errors of `--bad` that may be allowed.

@@ -1,5 +1,4 @@
 pub mod Reads
-pub mod Meant
 pub mod Options
 pub mod Hints
 pub mod Flags
@@ -8,8 +7,6 @@ pub mod Modes
 pub mod Allowed
 pub mod Clashes
 pub mod Words
-pub mod Listed
 pub mod Rules
 pub mod RulesPage
 pub mod Generated
-pub mod Settings

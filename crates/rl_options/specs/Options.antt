@@ -11,7 +11,7 @@ use Rattle.rl_options.specs.declared.flags.Operand.{Operand}
 use Rattle.rl_options.specs.declared.flags.Operand.TheVariants as takes
 use Rattle.rl_options.specs.declared.modes.Modes.{Modes}
 use Rattle.rl_options.specs.declared.modes.Modes.TheVariants as modes
-use Rattle.rl_options.specs.Meant.{is_near, option_part}
+use Rattle.rl_restyle.specs.Meant.{is_near, option_part}
 
 -- An option: its name, the letter of the short option, its effect, and the modes in which it has one.
 pub record OptionEntry : Type 0 where

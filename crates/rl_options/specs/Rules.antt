@@ -1,5 +1,5 @@
 -- The rules of a style in a file, and the errors of such a file. Literals are rewritten by a style. Texts are lists of bytes.
-use Rattle.std.specs.Prelude.{◌≡◌, ℕ, ◌+◌, ⊤, List, ◌++◌, codes, take, String, string_bytes, Option, Some, None}
+use Rattle.std.specs.Prelude.{◌≡◌, ℕ, ◌+◌, ⊤, List, ◌++◌, codes, take, String, string_bytes, Option, Some, None, option_map}
 use denote.Ref.{Bor}
 use Rattle.std.specs.declared.result.Result.TheVariants.{Ok}
 use Rattle.std.specs.Fmt.{decimal}
@@ -16,7 +16,7 @@ use Rattle.rl_restyle.specs.declared.style_error.StyleErrorKind.TheVariants.{Unk
 use Rattle.rl_options.specs.declared.rules.LineError.{LineError}
 use Rattle.rl_options.specs.declared.rules.RulesError.{RulesError}
 use Rattle.rl_options.specs.declared.rules.RulesError.TheVariants as rules
-use Rattle.rl_options.specs.Meant.{IsNearest, rule_list}
+use Rattle.rl_restyle.specs.Meant.{near_rule}
 use Rattle.rl_output.specs.Contexts.{ends_among}
 use Rattle.rl_options.specs.Reads.{IsReadError}
 
@@ -43,7 +43,7 @@ IsShownName (Some name) None = ⊥
 -- The first rule of a style that the name is similar to, if there is a name.
 abbrev pub IsNearName : Option (Bor (List ℕ)) → Option (Bor (List ℕ)) → Type 0
 IsNearName None meant = meant ≡ None
-IsNearName (Some name) meant = IsNearest rule_list name.now meant
+IsNearName (Some name) meant = option_map (λ rule. rule.now) meant ≡ near_rule name.now
 
 -- The rule that was likely meant, if the error is an unknown name of a rule.
 abbrev pub IsRuleMeant : StyleErrorKind → Option (Bor (List ℕ)) → Option (Bor (List ℕ)) → Type 0

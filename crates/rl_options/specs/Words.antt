@@ -25,7 +25,7 @@ use Rattle.rl_options.specs.declared.flags.Next.TheVariants as next
 use Rattle.rl_options.specs.declared.flags.When.{When}
 use Rattle.rl_options.specs.declared.argument_error.ArgumentError.{ArgumentError}
 use Rattle.rl_options.specs.declared.argument_error.ArgumentError.TheVariants.{Memory, UnknownOption, UnknownLetter, NoValue, UnknownKind, NoKinds, TwoChoices, NoText, EmptyText, BadAndFind, TextlessKinds, ObjectsOfPaths, StatsOfPaths, TwoRestylings, NoEffect, InputTwice, TwoStyles, NoStyle, NoRule, NoMacros, UnknownMacros, NoAllowed, UnknownAllowed, UnclosedAllowed, NoGenerated, UnknownGenerated, NoColor, UnknownColor, NoExtension, NoPattern, EmptyPattern, OtherPattern, UselessPattern, UnknownExtension, NoList, NoEdition, UnknownEdition, NoFormat, UnknownFormat, NoCount, UnknownCount}
-use Rattle.rl_options.specs.Meant.{option_part}
+use Rattle.rl_restyle.specs.Meant.{option_part}
 use Rattle.rl_options.specs.Flags.{AreKindWords, IsCountWord, IsSide, IsUnknownKind, color_word, colored_form, edition_word, format_word, formatted, generated_word, has_other_mark, is_more_than_extension, matches_nothing, is_path_word, macros_word, recolored}
 use Rattle.rl_options.specs.Wishes.{AllWanted, BadWanted, HiddenWanted, OnlyWanted, Wishes, first_wishes}
 use Rattle.rl_options.specs.Clashes.{GoTogether, IsFirstClash}

@@ -4,13 +4,13 @@ ghost use Rattle.std.specs.Prelude.{◌≡◌, not, IfNone, IfOk, IfSome, None, 
 ghost use Rattle.std.specs.Option.{option_map};
 ghost use Rattle.rl_files.specs.Globs.{borrowed_texts};
 ghost use Rattle.rl_options.specs.Allowed.{IsIdError, IsUnknownAllowed, first_unknown as unknown_in, ids_hint as hint_for, ids_of as listed_ids, is_known as is_known_id, is_other_value as other_known, is_unclosed as ends_reading, near_id as nearest_id};
-ghost use Rattle.rl_options.specs.Meant.{is_near as near};
+ghost use Rattle.rl_restyle.specs.Meant.{is_near as near};
 ghost use Rattle.rl_options.specs.Wishes.{wanted_of};
 
 use crate::argument_error::ArgumentError;
-use crate::suggestion::is_near;
-use crate::visible::visible_text;
+use rl_files::visible_text;
 use rl_output::{Shown, code_point, contains_id};
+use rl_restyle::is_near;
 use std::alloc::{AllocError, Allocator};
 
 /// The identifiers of the errors of `--bad` that may be allowed.

@@ -20,12 +20,10 @@ use crate::flags::{
     format_of, generated_of, has_more_than_extension, has_other_mark, macros_of, matches_nothing,
     next_after, operand_of, recolored, when_of,
 };
-use crate::suggestion::option_part;
 use crate::table::{effect_of, effect_of_letter, joined_of, meant_by};
-use crate::visible::visible_text;
-use rl_files::Selection;
+use rl_files::{Selection, visible_text};
 use rl_output::{Matching, Shown, Spelling, list_contains};
-use rl_restyle::default_style;
+use rl_restyle::{default_style, option_part};
 use rl_tokens::text::split_char;
 use std::alloc::{AllocError, Allocator, Global};
 

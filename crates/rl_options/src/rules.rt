@@ -4,15 +4,12 @@ ghost use Rattle.std.specs.Prelude.{◌≡◌, IfErr, IfOk, IfSome};
 ghost use Rattle.rl_files.specs.Globs.{borrowed_texts};
 ghost use Rattle.rl_restyle.specs.Styles.{RejectsStyle, SaysStyle};
 ghost use Rattle.rl_options.specs.Rules.{HasNoRules, HasRules, IsNearName, IsNoStyle, IsRuleMeant, IsShownName, IsLineError, line_of};
-ghost use Rattle.rl_options.specs.Settings.{settings_text as text_for};
+ghost use Rattle.rl_restyle.specs.Settings.{settings_text as text_for};
 
-use crate::settings::settings_text;
-use crate::suggestion::near_rule;
-use crate::visible::visible_text;
-use rl_files::{PathError, Tree};
+use rl_files::{PathError, Tree, visible_text};
 use rl_lexer::without_byte_order_mark;
 use rl_output::count_line_feeds;
-use rl_restyle::{StyleError, StyleErrorKind, parse_style};
+use rl_restyle::{StyleError, StyleErrorKind, near_rule, parse_style, settings_text};
 use rl_style::Style;
 use std::alloc::{AllocError, Allocator, Global};
 use std::fmt;

@@ -10,7 +10,7 @@ ghost use Rattle.rl_options.specs.Wishes.{wishes_of};
 use crate::command::Command;
 use crate::flags::{Effect, Flag, Operand, after_front, operand_of};
 use crate::modes::{Modes, goes_with, has_option, mode_of};
-use crate::suggestion::{is_near, option_part};
+use rl_restyle::{is_near, option_part};
 
 /// An option of `rl_scan`.
 #[derive(Clone, Copy)]

@@ -11,3 +11,7 @@ pub mod LastLines
 mod SpotLines
 pub mod ChoiceLemmas
 pub mod CodePointLemmas
+pub mod SearchLemmas
+pub mod DiffLemmas
+pub mod PatchLemmas
+pub mod Theorems

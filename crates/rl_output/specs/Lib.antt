@@ -15,3 +15,7 @@ pub mod Widths
 pub mod SelectorRows
 pub mod Selectors
 pub mod Contexts
+pub mod Matches
+pub mod Searches
+pub mod Diffs
+pub mod Patches

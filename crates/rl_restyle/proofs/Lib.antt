@@ -8,3 +8,4 @@ pub mod EditPlaces
 pub mod OneText
 pub mod Theorems
 pub mod ChangingLemmas
+pub mod SettingLemmas

@@ -6,3 +6,5 @@ pub mod Places
 pub mod Edits
 pub mod Mirrors
 pub mod Changing
+pub mod Meant
+pub mod Settings

@@ -25,7 +25,7 @@ use Rattle.rl_options.specs.declared.rules.RulesError.{RulesError}
 use Rattle.rl_options.specs.Rules.{IsNoStyle}
 use Rattle.rl_options.specs.RulesPage.{rules_page}
 use Rattle.rl_options.specs.Generated.{generated_text}
-use Rattle.rl_options.specs.Settings.{settings_text}
+use Rattle.rl_restyle.specs.Settings.{settings_text}
 use Rattle.rl_options.specs.declared.rules.RulesError.TheVariants as rules
 use Rattle.rl_scan.specs.Visits.{nothing}
 use Rattle.rl_scan.specs.Runs.{Streams, WritesFront}

@@ -1,9 +1,6 @@
 pub mod RuleCountLemmas
-pub mod DiffLemmas
 pub mod EditRuleLemmas
 pub mod ChangeLemmas
-pub mod PatchLemmas
-pub mod Theorems
 pub mod ReportLemmas
 pub mod Handing
 pub mod VisitLemmas

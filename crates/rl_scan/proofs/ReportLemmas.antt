@@ -9,7 +9,7 @@ use Rattle.rl_program.proofs.LineLemmas.{pushed}
 use Rattle.rl_output.specs.declared.context.Context.{Context}
 use Rattle.rl_output.specs.declared.place.Place.{Place}
 use Rattle.rl_sources.specs.declared.options.Options.{Options}
-use Rattle.rl_options.proofs.VisibleLemmas.{from_nothing}
+use Rattle.rl_files.proofs.VisibleLemmas.{from_nothing}
 use Rattle.rl_scan.specs.Reports.{AreBareLines, IsScannedAs, error_hint}
 use Rattle.rl_output.proofs.Pieces.{low_text}
 

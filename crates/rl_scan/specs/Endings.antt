@@ -29,8 +29,8 @@ use Rattle.rl_options.specs.declared.rules.RulesError.TheVariants as rules
 use Rattle.rl_options.specs.Rules.{HasNoRules, HasRules, IsNoStyle, line_error_words}
 use Rattle.rl_options.specs.RulesPage.{rules_page}
 use Rattle.rl_options.specs.Generated.{generated_text}
-use Rattle.rl_options.specs.Settings.{settings_text}
-use Rattle.rl_options.specs.Listed.{AreWithAllListed, IsFirstUnread}
+use Rattle.rl_restyle.specs.Settings.{settings_text}
+use Rattle.rl_files.specs.Listed.{AreWithAllListed, IsFirstUnread}
 use Rattle.rl_scan.specs.Runs.{Streams, WritesWalk, WritesFront, asked_status}
 use Rattle.rl_options.specs.Wishes.{Wishes, reads_current_directory, wishes_of}
 use Rattle.rl_options.specs.Words.{AskForWishes, CannotAsk, word_message}

@@ -1,9 +1,7 @@
 pub mod EditRules
 pub mod RuleCounts
 pub mod Changes
-pub mod Diffs
 pub mod Outcomes
-pub mod Patches
 pub mod Reports
 pub mod Restyling
 pub mod Visits

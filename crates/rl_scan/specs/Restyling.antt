@@ -6,7 +6,7 @@ use Rattle.rl_files.specs.Replacements.{Replacement, replacing}
 use Rattle.rl_files.specs.Visible.{visible}
 use Rattle.rl_files.specs.declared.tree.PathError.{PathError}
 use Rattle.rl_scan.specs.Changes.{AreChangeLines}
-use Rattle.rl_scan.specs.Diffs.{diff}
+use Rattle.rl_output.specs.Diffs.{diff}
 use Rattle.rl_scan.specs.EditRules.{IsChangeCount}
 use Rattle.rl_scan.specs.Outcomes.{AreRejections, IsJudging, IsRestyledAs}
 use Rattle.rl_restyle.specs.declared.edit.Macros.{Macros}

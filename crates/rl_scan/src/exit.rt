@@ -8,11 +8,14 @@ ghost use Rattle.rl_scan.specs.Runs.{asked_status};
 ghost use Rattle.rl_options.specs.Wishes.{reads_current_directory as is_read_here, style_of, wishes_in};
 
 use crate::runs::{RunStop, Tally, run};
-use rl_files::{PathError, Replace, Selection, Tree, Walk, WalkError, escaped_non_utf8_path};
+use rl_files::{
+    PathError, Replace, Selection, Tree, Walk, WalkError, escaped_non_utf8_path,
+    push_listed_paths, visible_text,
+};
 use rl_options::{
     Action, ArgumentError, Command, Console, HELP, LineError, ParsedArguments, Restyling,
-    RulesError, VERSION, generated_text, lists_files, parse_arguments, push_listed_paths,
-    read_rules_file, rules_page, style_of_settings, visible_text,
+    RulesError, VERSION, generated_text, lists_files, parse_arguments, read_rules_file, rules_page,
+    style_of_settings,
 };
 use rl_program::{Ending, RunError, WriteError, write_bytes};
 use rl_restyle::default_style;

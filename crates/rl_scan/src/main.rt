@@ -4,11 +4,9 @@
 
 mod change;
 mod changes;
-mod diff;
 mod edit_rules;
 mod exit;
 mod host;
-pub mod laws;
 mod outcome;
 mod report;
 mod restyling;
@@ -19,7 +17,6 @@ mod visit_report;
 
 pub use crate::change::push_change;
 pub use crate::changes::push_changes;
-pub use crate::diff::push_diff;
 pub use crate::exit::{CallError, out_of_memory_ending, run_with_arguments};
 use crate::host::host_arguments;
 pub use crate::outcome::{Outcome, rewrite_outcome, source_check_options};

@@ -9,8 +9,8 @@ ghost use Rattle.rl_sources.specs.Scans.{error_end};
 ghost use Rattle.rl_scan.specs.Reports.{is_input as input, is_by_line as by_line, is_bad as bad, judges_macros as judges, is_alarm as alarm, is_error as fails, context_of as context, edition_read, error_hint, side_lines as on_side, IsShownPath, IsPathIn, IsListReport, IsOptionsFor, IsScannedAs, worded_place as as_words, error_text, after_path as path_end, count_line, listed_of, path_line, printed_of, in_report, IsTextReport, IsErrorReport};
 
 use crate::stats::requested_count;
-use rl_files::{PathError, push_visible};
-use rl_options::{Command, Output, PlaceForm, asks_context, path_hint, visible_text};
+use rl_files::{PathError, push_visible, visible_text};
+use rl_options::{Command, Output, PlaceForm, asks_context, path_hint};
 use rl_output::{LineColumn, count_line_feeds};
 use rl_restyle::{Macros, Rule};
 use rl_sources::{

@@ -14,9 +14,10 @@ use crate::report::{
     Report, edition_for, is_by_line, is_input, options_for, path_before, path_in, push_count_line,
     push_path_line, report_error, written,
 };
-use crate::{Outcome, push_changes, push_diff, rewrite_outcome, source_check_options};
-use rl_files::{Replace, push_visible};
-use rl_options::{Command, Output, Restyling, visible_text};
+use crate::{Outcome, push_changes, rewrite_outcome, source_check_options};
+use rl_files::{Replace, push_visible, visible_text};
+use rl_options::{Command, Output, Restyling};
+use rl_output::push_diff;
 use rl_restyle::{Macros, Restyled};
 use rl_sources::{Form, Options};
 use rl_style::Style;

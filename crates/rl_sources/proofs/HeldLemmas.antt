@@ -11,7 +11,8 @@ use Rattle.rl_lenient.specs.Decoded.{in_bytes}
 use Rattle.rl_lenient.specs.declared.found.Found.{Found}
 use Rattle.rl_lenient.specs.Founds.{IsFound, is_quoted}
 use Rattle.rl_output.specs.declared.choice.Matching.{Matching}
-use Rattle.rl_sources.specs.Held.{AreContentsOf, Holds, MatchesAt}
+use Rattle.rl_sources.specs.Held.{AreContentsOf, Holds}
+use Rattle.rl_output.specs.Matches.{MatchesAt}
 
 -- ---- one text has one value
 

@@ -15,7 +15,8 @@ use Rattle.rl_lenient.specs.Decoded.{in_bytes}
 use Rattle.rl_lenient.specs.Segments.{AreUnitsOf, IsBytePlace, begins_in, is_itself, unit_bytes, unit_place, units_bytes}
 use Rattle.std.specs.Char.{to_ascii_lowercase}
 use Rattle.rl_output.specs.declared.choice.Matching.{Matching}
-use Rattle.rl_sources.specs.Held.{AreContentsOf, FirstMatchAt, IsCutAt, MatchesFirst, compared}
+use Rattle.rl_sources.specs.Held.{AreContentsOf, IsCutAt}
+use Rattle.rl_output.specs.Matches.{FirstMatchAt, MatchesFirst, compared}
 use Rattle.rl_sources.proofs.HeldLemmas.{same_contents}
 
 -- ---- the bytes of a character

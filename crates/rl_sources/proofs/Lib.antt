@@ -3,7 +3,6 @@ pub mod ScanLemmas
 pub mod StepLemmas
 pub mod HeldLemmas
 pub mod HeldPlaces
-pub mod SearchLemmas
 pub mod ReasonLemmas
 pub mod FlawLineLemmas
 pub mod PrefixLemmas

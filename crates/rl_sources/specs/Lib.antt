@@ -9,5 +9,4 @@ pub mod Scans
 pub mod Steps
 pub mod ScanErrors
 pub mod Held
-pub mod Searches
 pub mod Json

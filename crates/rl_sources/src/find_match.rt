@@ -11,10 +11,9 @@ ghost use Rattle.rl_lenient.specs.Segments.{IsBytePlace, IsByteEnd};
 ghost use Rattle.rl_sources.specs.Held.{AreContentsOf, Holds, IsCutAt, IsFirstHeld, IsHeldAt, first_range as earlier};
 ghost use Rattle.rl_files.specs.Globs.{borrowed_texts};
 
-use crate::search::first_in;
 use rl_fronts::{bytes_of_body, str_of_body};
 use rl_lenient::Found;
-use rl_output::Matching;
+use rl_output::{Matching, first_in};
 use rl_syntax::Kind;
 use std::alloc::{AllocError, Allocator};
 

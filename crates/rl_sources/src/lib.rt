@@ -16,7 +16,6 @@ mod prefix;
 mod reason;
 mod scan_error;
 mod scanner;
-mod search;
 mod step;
 
 pub use crate::options::Options;

@@ -1,6 +1,6 @@
 use Rattle.rl_syntax.proofs.Common.{ap, option_map, sym, ◌∙◌}
 use Rattle.std.specs.Prelude.{find}
-use Rattle.rl_options.specs.Meant.{is_near}
+use Rattle.rl_restyle.specs.Meant.{is_near}
 use Rattle.rl_options.proofs.AllowedLemmas.{found_text}
 use Rattle.rl_options.proofs.allowed.near_id.Goals as goal
 

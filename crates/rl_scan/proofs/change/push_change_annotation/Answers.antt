@@ -1,5 +1,5 @@
 use Rattle.rl_syntax.proofs.Common.{ap, chars, chars-nil, ◌≡◌, ◌∙◌}
-use Rattle.rl_options.proofs.VisibleLemmas.{from_nothing}
+use Rattle.rl_files.proofs.VisibleLemmas.{from_nothing}
 use Rattle.rl_scan.specs.Changes.{change_words}
 use Rattle.rl_scan.proofs.change.push_change_annotation.Goals as goal
 

@@ -2,7 +2,7 @@ use Rattle.rl_syntax.proofs.Common.{chars}
 use Rattle.rl_lenient.proofs.SegmentLawLemmas.{end_in_text}
 use Rattle.rl_sources.proofs.HeldLemmas.{holds_none}
 use Rattle.rl_sources.proofs.HeldPlaces.{held_cut}
-use Rattle.rl_sources.proofs.SearchLemmas.{match_fits}
+use Rattle.rl_output.proofs.SearchLemmas.{match_fits}
 use Rattle.rl_sources.proofs.find_match.range_in_contents.Goals as goal
 
 pub returns-in_default-clause-none : goal.returns-in_default-clause-none

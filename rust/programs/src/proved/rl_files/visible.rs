@@ -81,3 +81,10 @@ pub fn make_visible<A: Allocator>(
     text.truncate(from);
     push_visible_lines(text, lines.as_str())
 }
+
+/// Returns a copy of a text with escapes for invisible and bidirectional characters.
+pub fn visible_text<A: Allocator>(alloc: A, text: &str) -> Result<String<A>, AllocError> {
+    let mut shown = String::new(alloc);
+    push_visible(&mut shown, text)?;
+    Ok(shown)
+}

@@ -2,9 +2,9 @@
 //! The identifiers of findings that `--allow` may leave out.
 
 use crate::rl_options::argument_error::ArgumentError;
-use crate::rl_options::suggestion::is_near;
-use crate::rl_options::visible::visible_text;
+use crate::rl_files::visible_text;
 use crate::rl_output::{Shown, code_point, contains_id};
+use crate::rl_restyle::is_near;
 use crate::rattle_std::alloc::{AllocError, Allocator};
 
 /// The identifiers of the errors of `--bad` that may be allowed.

@@ -11,12 +11,10 @@ use crate::rl_options::flags::{
     format_of, generated_of, has_more_than_extension, has_other_mark, macros_of, matches_nothing,
     next_after, operand_of, recolored, when_of,
 };
-use crate::rl_options::suggestion::option_part;
 use crate::rl_options::table::{effect_of, effect_of_letter, joined_of, meant_by};
-use crate::rl_options::visible::visible_text;
-use crate::rl_files::Selection;
+use crate::rl_files::{Selection, visible_text};
 use crate::rl_output::{Matching, Shown, Spelling, list_contains};
-use crate::rl_restyle::default_style;
+use crate::rl_restyle::{default_style, option_part};
 use crate::rl_tokens::text::split_char;
 use crate::rattle_std::alloc::{AllocError, Allocator, Global};
 

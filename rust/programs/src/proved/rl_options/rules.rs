@@ -2,13 +2,10 @@
 //! Reads the rules of a style from a file, or from the values of `--rule`. Literals are rewritten by a style.
 
 use crate::rattle_std::prelude::{String};
-use crate::rl_options::settings::settings_text;
-use crate::rl_options::suggestion::near_rule;
-use crate::rl_options::visible::visible_text;
-use crate::rl_files::{PathError, Tree};
+use crate::rl_files::{PathError, Tree, visible_text};
 use crate::rl_lexer::without_byte_order_mark;
 use crate::rl_output::count_line_feeds;
-use crate::rl_restyle::{StyleError, StyleErrorKind, parse_style};
+use crate::rl_restyle::{StyleError, StyleErrorKind, near_rule, parse_style, settings_text};
 use crate::rl_style::Style;
 use crate::rattle_std::alloc::{AllocError, Allocator, Global};
 use crate::rattle_std::fmt;

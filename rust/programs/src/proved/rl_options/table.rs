@@ -4,7 +4,7 @@
 use crate::rl_options::command::Command;
 use crate::rl_options::flags::{Effect, Flag, Operand, after_front, operand_of};
 use crate::rl_options::modes::{Modes, goes_with, has_option, mode_of};
-use crate::rl_options::suggestion::{is_near, option_part};
+use crate::rl_restyle::{is_near, option_part};
 
 /// An option of `rl_scan`.
 #[derive(Clone, Copy)]

@@ -3,11 +3,14 @@
 
 use crate::rattle_std::prelude::{String, Vec};
 use crate::rl_scan::runs::{RunStop, Tally, run};
-use crate::rl_files::{PathError, Replace, Selection, Tree, Walk, WalkError, escaped_non_utf8_path};
+use crate::rl_files::{
+    PathError, Replace, Selection, Tree, Walk, WalkError, escaped_non_utf8_path,
+    push_listed_paths, visible_text,
+};
 use crate::rl_options::{
     Action, ArgumentError, Command, Console, HELP, LineError, ParsedArguments, Restyling,
-    RulesError, VERSION, generated_text, lists_files, parse_arguments, push_listed_paths,
-    read_rules_file, rules_page, style_of_settings, visible_text,
+    RulesError, VERSION, generated_text, lists_files, parse_arguments, read_rules_file, rules_page,
+    style_of_settings,
 };
 use crate::rl_program::{Ending, RunError, WriteError, write_bytes};
 use crate::rl_restyle::default_style;

@@ -5,7 +5,6 @@
 use crate::rattle_std::prelude::{HostRuntime};
 mod change;
 mod changes;
-mod diff;
 mod edit_rules;
 mod exit;
 mod host;
@@ -19,7 +18,6 @@ mod visit_report;
 
 pub use crate::rl_scan::change::push_change;
 pub use crate::rl_scan::changes::push_changes;
-pub use crate::rl_scan::diff::push_diff;
 pub use crate::rl_scan::exit::{CallError, out_of_memory_ending, run_with_arguments};
 use crate::rl_scan::host::host_arguments;
 pub use crate::rl_scan::outcome::{Outcome, rewrite_outcome, source_check_options};

@@ -3,8 +3,8 @@
 
 use crate::rattle_std::prelude::{String, Vec};
 use crate::rl_scan::stats::requested_count;
-use crate::rl_files::{PathError, push_visible};
-use crate::rl_options::{Command, Output, PlaceForm, asks_context, path_hint, visible_text};
+use crate::rl_files::{PathError, push_visible, visible_text};
+use crate::rl_options::{Command, Output, PlaceForm, asks_context, path_hint};
 use crate::rl_output::{LineColumn, count_line_feeds};
 use crate::rl_restyle::{Macros, Rule};
 use crate::rl_sources::{

@@ -7,9 +7,10 @@ use crate::rl_scan::report::{
     Report, edition_for, is_by_line, is_input, options_for, path_before, path_in, push_count_line,
     push_path_line, report_error, written,
 };
-use crate::rl_scan::{Outcome, push_changes, push_diff, rewrite_outcome, source_check_options};
-use crate::rl_files::{Replace, push_visible};
-use crate::rl_options::{Command, Output, Restyling, visible_text};
+use crate::rl_scan::{Outcome, push_changes, rewrite_outcome, source_check_options};
+use crate::rl_files::{Replace, push_visible, visible_text};
+use crate::rl_options::{Command, Output, Restyling};
+use crate::rl_output::push_diff;
 use crate::rl_restyle::{Macros, Restyled};
 use crate::rl_sources::{Form, Options};
 use crate::rl_style::Style;

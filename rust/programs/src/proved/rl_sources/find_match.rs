@@ -2,10 +2,9 @@
 //! Finds the byte range of a literal that encodes a match in the literal's value.
 
 use crate::rattle_std::prelude::{String, Vec};
-use crate::rl_sources::search::first_in;
 use crate::rl_fronts::{bytes_of_body, str_of_body};
 use crate::rl_lenient::Found;
-use crate::rl_output::Matching;
+use crate::rl_output::{Matching, first_in};
 use crate::rl_syntax::Kind;
 use crate::rattle_std::alloc::{AllocError, Allocator};
 

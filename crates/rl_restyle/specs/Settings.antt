@@ -1,0 +1,33 @@
+-- The rules of a style that the values of `--rule` set. Texts are lists of bytes.
+use Rattle.std.specs.Prelude.{ℕ, ◌==◌, Bool, cond, ◌||◌, List, [], ◌∷◌, ◌++◌, codes, Option, Some, None}
+use Prim.Native.Char.{code}
+use Rattle.std.specs.List.{flat_map}
+use Rattle.std.specs.Str.{bytes_eq}
+use Rattle.rl_restyle.specs.Meant.{option_part}
+
+-- The text after the first `=`, or `None` for a text without `=`.
+abbrev pub value_part : List ℕ → Option (List ℕ)
+value_part [] = None
+value_part (b ∷ text) = cond (b == code "=") (Some text) (value_part text)
+
+-- The value is the content of a string that some rule may have as its value.
+abbrev pub is_string_content : List ℕ → Bool
+is_string_content value =
+    bytes_eq value (codes "lower") || bytes_eq value (codes "upper") || bytes_eq value (codes "_")
+    || bytes_eq value (codes "")
+
+-- The literal that a value represents. The content of a string gets its quotes.
+abbrev pub value_literal : List ℕ → List ℕ
+value_literal value = cond (is_string_content value) (codes "\"" ++ (value ++ codes "\"")) value
+
+abbrev entry_with : List ℕ → Option (List ℕ) → List ℕ
+entry_with name None = name ++ codes " = true\n"
+entry_with name (Some value) = name ++ (codes " = " ++ (value_literal value ++ codes "\n"))
+
+-- The line of a style file that a value of `--rule` represents. The value is NAME=VALUE, or NAME for the value `true`.
+abbrev pub setting_line : List ℕ → List ℕ
+setting_line setting = entry_with (option_part setting) (value_part setting)
+
+-- The style file that the values of `--rule` represent. It has a line for each value.
+abbrev pub settings_text : List (List ℕ) → List ℕ
+settings_text settings = flat_map setting_line settings

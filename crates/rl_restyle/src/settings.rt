@@ -1,0 +1,53 @@
+//! Converts the values of `--rule` to the text of a style file.
+
+ghost use Rattle.std.specs.Prelude.{◌≡◌, ◌++◌, option_map, string_bytes, IfOk, OnOk};
+ghost use Rattle.rl_files.specs.Globs.{borrowed_texts};
+ghost use Rattle.rl_restyle.specs.Settings.{is_string_content as is_content, setting_line, settings_text as text_for, value_part as part_after};
+
+use crate::suggestion::option_part;
+use std::alloc::{AllocError, Allocator};
+
+/// Returns the text after the first `=`, or `None` for a text without `=`.
+fn value_part(text: &str) -> Option<&str>
+    ensures { option_map (λ value. value.now) result ≡ part_after text.now }
+{
+    match text.split_once('=') {
+        Some((_, value)) => Some(value),
+        None => None,
+    }
+}
+
+/// Whether a value is the content of a string that some rule may have as its value.
+fn is_string_content(value: &str) -> bool
+    ensures { result ≡ is_content value.now }
+{
+    value == "lower" || value == "upper" || value == "_" || value == ""
+}
+
+/// Appends the line of a style file that a value of `--rule` represents.
+fn push_setting<A: Allocator>(text: &mut String<A>, setting: &str) -> Result<(), AllocError>
+    ensures { OnOk result (string_bytes text.new ≡ string_bytes text.old ++ setting_line setting.now) }
+{
+    let name = option_part(setting);
+    match value_part(setting) {
+        None => writeln!(text, "{name} = true"),
+        Some(value) if is_string_content(value) => writeln!(text, "{name} = \"{value}\""),
+        Some(value) => writeln!(text, "{name} = {value}"),
+    }
+}
+
+/// Returns the text of the style file that the values of `--rule` represent. It has a line for each value.
+pub fn settings_text<A: Allocator>(
+    alloc: A,
+    settings: &[&str],
+) -> Result<String<A>, AllocError>
+    ensures { IfOk result (λ text. string_bytes text ≡ text_for (borrowed_texts settings.now)) }
+{
+    let mut text = String::new(alloc);
+    let mut rest = settings;
+    while let [setting, after @ ..] = rest {
+        push_setting(&mut text, setting)?;
+        rest = after;
+    }
+    Ok(text)
+}

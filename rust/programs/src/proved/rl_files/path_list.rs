@@ -1,0 +1,126 @@
+// Rendered from crates/rl_files/src/path_list.rt by tools/render, which erases contracts: change that file, and render again.
+//! Reads files that list paths.
+
+use crate::rattle_std::prelude::{String, Vec};
+use crate::rl_files::path_texts::path_text;
+use crate::rl_files::tree::{PathError, Tree};
+use crate::rattle_std::alloc::{AllocError, Allocator};
+
+/// A list of paths that can't be read, and the reason.
+#[derive(Clone, Copy)]
+pub struct Unread<'a> {
+    /// The path of the file that lists paths.
+    pub file: &'a str,
+    /// The reason why the file can't be read.
+    pub why: PathError,
+}
+
+/// Returns a list without a byte order mark at its start.
+fn after_mark(list: &[u8]) -> &[u8] {
+    if list.starts_with(b"\xef\xbb\xbf".as_slice()) {
+        return &list[3..];
+    }
+    list
+}
+
+/// Whether a list of paths contains a NUL.
+fn has_nul(list: &[u8]) -> bool {
+    list.contains(&0)
+}
+
+/// Returns the byte that ends each path in a list: NUL if the list contains one, else LF.
+fn separator(list: &[u8]) -> u8 {
+    if has_nul(list) {
+        return 0;
+    }
+    b'\n'
+}
+
+/// Appends the text of the path `name` to `paths`, if it isn't empty.
+fn push_name<A: Allocator + Copy>(
+    alloc: A,
+    paths: &mut Vec<String<A>, A>,
+    name: &[u8],
+) -> Result<(), AllocError> {
+    if name.is_empty() {
+        return Ok(());
+    }
+    paths.push(path_text(alloc, name)?)?;
+    Ok(())
+}
+
+/// Whether a byte ends a path.
+fn ends_path(byte: u8, between: u8) -> bool {
+    byte == between
+}
+
+/// Returns the first path in a list that isn't empty, and the list after it. `between` is the byte that ends each path.
+fn split_name(list: &[u8], between: u8) -> (&[u8], &[u8]) {
+    for (at, byte) in list.iter().enumerate() {
+        if ends_path(*byte, between) {
+            return (&list[..at], &list[at + 1..]);
+        }
+    }
+    (list, &[])
+}
+
+/// Appends the paths in a list to `paths`. `between` is the byte that ends each path.
+fn push_parts<A: Allocator + Copy>(
+    alloc: A,
+    paths: &mut Vec<String<A>, A>,
+    list: &[u8],
+    between: u8,
+) -> Result<(), AllocError> {
+    let mut rest = list;
+    while !rest.is_empty() {
+        let (name, after) = split_name(rest, between);
+        push_name(alloc, paths, name)?;
+        rest = after;
+    }
+    Ok(())
+}
+
+/// Appends the paths that a file lists to `paths`. A byte order mark at the start of the file is skipped. A path that isn't UTF-8
+/// is represented as `path_text` represents it.
+///
+/// # Errors
+///
+/// Returns the reason why the file can't be read. If an allocation fails, some paths may have been appended.
+fn push_listed<A: Allocator + Copy, T: Tree>(
+    alloc: A,
+    tree: &T,
+    file: &str,
+    paths: &mut Vec<String<A>, A>,
+) -> Result<(), PathError> {
+    let bytes = match tree.bytes(alloc, file) {
+        Ok(bytes) => bytes,
+        Err(why) => return Err(why),
+    };
+    let list = after_mark(bytes.as_slice());
+    match push_parts(alloc, paths, list, separator(list)) {
+        Ok(()) => Ok(()),
+        Err(_) => Err(PathError::OutOfMemory),
+    }
+}
+
+/// Appends the paths that files list to `paths`, one file after another.
+///
+/// # Errors
+///
+/// Returns the first file that can't be read, and the reason. The paths in earlier files have been appended then.
+pub fn push_listed_paths<'f, A: Allocator + Copy, T: Tree>(
+    alloc: A,
+    tree: &T,
+    files: &[&'f str],
+    paths: &mut Vec<String<A>, A>,
+) -> Result<(), Unread<'f>> {
+    let mut rest = files;
+    while let [file, after @ ..] = rest {
+        match push_listed(alloc, tree, file, paths) {
+            Ok(()) => {}
+            Err(why) => return Err(Unread { file, why }),
+        }
+        rest = after;
+    }
+    Ok(())
+}
