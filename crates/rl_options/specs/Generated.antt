@@ -26,12 +26,12 @@ fish_text =
 -- The program for `jq` that makes SARIF of JSON objects.
 unfoldable pub sarif_jq_text : List ℕ
 sarif_jq_text =
-    codes "# Makes one document of SARIF 2.1.0 from the objects that `rl_scan --json` prints with `--bad`, `--invisible` or `--check`:\n#\n#     rl_scan --generate sarif-jq > sarif.jq\n#     rl_scan --json --bad src | jq -s -f sarif.jq\n#\n# Columns are counted in characters. The object of `--stats` is left out. For standard input the path is `-`.\n#\n# Two arguments add what the objects don't contain. `--arg version \"$(rl_scan -V)\"` is the program's version. `--arg status N` is its exit\n# status; without it the document has no invocation:\n#\n#     rl_scan --json --bad src > found; jq -s --arg status $? --arg version \"$(rl_scan -V)\" -f sarif.jq found\ndef uri:\n  sub(\"^(\\\\./+)+\"; \"\") | split(\"/\") | map(@uri) | join(\"/\") | if startswith(\"/\") then \"file://\" + . else . end;\ndef rule: if has(\"new\") then \"style\" else .id end;\ndef description: if has(\"hidden\") then (.id | gsub(\"-\"; \" \")) elif has(\"new\") then \"literal in another style\" else .error end;\ndef message:\n  if has(\"hidden\") then .hidden\n  elif has(\"new\") then \"\\(.text) -> \\(.new)\"\n  elif has(\"piece\") and .piece != \"\" then \"\\(.error): \\(.piece)\"\n  elif has(\"error\") then .error\n  else error(\"an object of none of --bad, --invisible and --check\") end;\ndef result:\n  {\n    ruleId: rule,\n    level: \"error\",\n    message: {text: message},\n    locations: [{\n      physicalLocation: {\n        artifactLocation: {uri: ((.path // \"-\") | uri)},\n        region: {startLine: .line, startColumn: .column, endLine: .end_line, endColumn: .end_column}\n      }\n    }]\n  };\ndef rules: group_by(rule) | map({id: (.[0] | rule), shortDescription: {text: (.[0] | description)}});\ndef driver: {name: \"rl_scan\"} + ($ARGS.named.version | if . then {version: split(\" \")[-1]} else {} end);\ndef invocations:\n  $ARGS.named.status | if . then {invocations: [tonumber | {executionSuccessful: (. < 2), exitCode: .}]} else {} end;\nmap(select(has(\"files_with_findings\") | not))\n| {\n  version: \"2.1.0\",\n  \"$schema\": \"https://json.schemastore.org/sarif-2.1.0.json\",\n  runs: [{\n    tool: {driver: (driver + {rules: rules})},\n    columnKind: \"unicodeCodePoints\",\n    results: map(result)\n  } + invocations]\n}\n"
+    codes "# Makes one document of SARIF 2.1.0 from the objects that `rl_scan --json` prints with `--bad`, `--invisible` or `--check`:\n#\n#     rl_scan --generate sarif-jq > sarif.jq\n#     rl_scan --json --bad src | jq -s -f sarif.jq\n#\n# Columns are counted in characters. The object of `--stats` is left out. For standard input the path is `-`.\n#\n# Two arguments add what the objects don't contain. `--arg version \"$(rl_scan -V)\"` is the program's version. `--arg status N` is its exit\n# status; without it the document has no invocation:\n#\n#     rl_scan --json --bad src > found; jq -s --arg status $? --arg version \"$(rl_scan -V)\" -f sarif.jq found\ndef uri:\n  sub(\"^(\\\\./+)+\"; \"\") | split(\"/\") | map(@uri) | join(\"/\") | if startswith(\"/\") then \"file://\" + . else . end;\ndef rule: if has(\"new\") then .rules[0] // \"style\" else .id end;\ndef description: if has(\"hidden\") then (.id | gsub(\"-\"; \" \")) elif has(\"new\") then \"rule of a style: \\(rule)\" else .error end;\ndef message:\n  if has(\"hidden\") then .hidden\n  elif has(\"new\") then \"\\(.text) -> \\(.new)\"\n  elif has(\"piece\") and .piece != \"\" then \"\\(.error): \\(.piece)\"\n  elif has(\"error\") then .error\n  else error(\"an object of none of --bad, --invisible and --check\") end;\ndef result:\n  {\n    ruleId: rule,\n    level: \"error\",\n    message: {text: message},\n    locations: [{\n      physicalLocation: {\n        artifactLocation: {uri: ((.path // \"-\") | uri)},\n        region: {startLine: .line, startColumn: .column, endLine: .end_line, endColumn: .end_column}\n      }\n    }]\n  };\ndef rules: group_by(rule) | map({id: (.[0] | rule), shortDescription: {text: (.[0] | description)}});\ndef driver: {name: \"rl_scan\"} + ($ARGS.named.version | if . then {version: split(\" \")[-1]} else {} end);\ndef invocations:\n  $ARGS.named.status | if . then {invocations: [tonumber | {executionSuccessful: (. < 2), exitCode: .}]} else {} end;\nmap(select(has(\"files_with_findings\") | not))\n| {\n  version: \"2.1.0\",\n  \"$schema\": \"https://json.schemastore.org/sarif-2.1.0.json\",\n  runs: [{\n    tool: {driver: (driver + {rules: rules})},\n    columnKind: \"unicodeCodePoints\",\n    results: map(result)\n  } + invocations]\n}\n"
 
 -- The problem matchers for GitHub.
 unfoldable pub problem_matcher_text : List ℕ
 problem_matcher_text =
-    codes "{\n  \"problemMatcher\": [\n    {\n      \"owner\": \"rl_scan-bad\",\n      \"pattern\": [{ \"regexp\": \"^(.+?):(\\\\d+):(\\\\d+): (error): (.+)$\", \"file\": 1, \"line\": 2, \"column\": 3, \"severity\": 4, \"message\": 5 }]\n    },\n    {\n      \"owner\": \"rl_scan-invisible\",\n      \"severity\": \"error\",\n      \"pattern\": [{ \"regexp\": \"^(.+?):(\\\\d+):(\\\\d+): (U\\\\+[0-9A-F]{4,6}(?: .+)?)$\", \"file\": 1, \"line\": 2, \"column\": 3, \"message\": 4 }]\n    },\n    {\n      \"owner\": \"rl_scan-check\",\n      \"severity\": \"warning\",\n      \"pattern\": [{ \"regexp\": \"^(.+?):(\\\\d+):(\\\\d+): (?!error: )(.+ -> .+)$\", \"file\": 1, \"line\": 2, \"column\": 3, \"message\": 4 }]\n    }\n  ]\n}\n"
+    codes "{\n  \"problemMatcher\": [\n    {\n      \"owner\": \"rl_scan-bad\",\n      \"pattern\": [{ \"regexp\": \"^(.+?):(\\\\d+):(\\\\d+): (error): (.+)$\", \"file\": 1, \"line\": 2, \"column\": 3, \"severity\": 4, \"message\": 5 }]\n    },\n    {\n      \"owner\": \"rl_scan-invisible\",\n      \"severity\": \"error\",\n      \"pattern\": [{ \"regexp\": \"^(.+?):(\\\\d+):(\\\\d+): (U\\\\+[0-9A-F]{4,6}(?: .+)?)$\", \"file\": 1, \"line\": 2, \"column\": 3, \"message\": 4 }]\n    },\n    {\n      \"owner\": \"rl_scan-check\",\n      \"severity\": \"warning\",\n      \"pattern\": [{ \"regexp\": \"^(.+?):(\\\\d+):(\\\\d+): (?!error: )(.+ -> .+ \\\\[[a-z_, ]*\\\\])$\", \"file\": 1, \"line\": 2, \"column\": 3, \"message\": 4 }]\n    }\n  ]\n}\n"
 
 -- The text that `rl_scan --generate` prints.
 abbrev pub generated_text : GeneratedText → List ℕ

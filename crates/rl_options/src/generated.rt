@@ -363,8 +363,8 @@ const SARIF_JQ_TEXT: &str =
 #     rl_scan --json --bad src > found; jq -s --arg status $? --arg version "$(rl_scan -V)" -f sarif.jq found
 def uri:
   sub("^(\\./+)+"; "") | split("/") | map(@uri) | join("/") | if startswith("/") then "file://" + . else . end;
-def rule: if has("new") then "style" else .id end;
-def description: if has("hidden") then (.id | gsub("-"; " ")) elif has("new") then "literal in another style" else .error end;
+def rule: if has("new") then .rules[0] // "style" else .id end;
+def description: if has("hidden") then (.id | gsub("-"; " ")) elif has("new") then "rule of a style: \(rule)" else .error end;
 def message:
   if has("hidden") then .hidden
   elif has("new") then "\(.text) -> \(.new)"
@@ -422,7 +422,7 @@ const PROBLEM_MATCHER_TEXT: &str = r###"{
     {
       "owner": "rl_scan-check",
       "severity": "warning",
-      "pattern": [{ "regexp": "^(.+?):(\\d+):(\\d+): (?!error: )(.+ -> .+)$", "file": 1, "line": 2, "column": 3, "message": 4 }]
+      "pattern": [{ "regexp": "^(.+?):(\\d+):(\\d+): (?!error: )(.+ -> .+ \\[[a-z_, ]*\\])$", "file": 1, "line": 2, "column": 3, "message": 4 }]
     }
   ]
 }

@@ -23,7 +23,7 @@ fn base_number(c: char) -> usize
 
 /// Returns `true` if the character `base` takes the variation selector that follows it.
 ///
-/// An emoji with emoji variation sequences takes U+FE0E and U+FE0F. A mathematical symbol takes U+FE00 to U+FE02. An ideograph takes
+/// An emoji takes U+FE0E and U+FE0F. A mathematical symbol takes U+FE00 to U+FE02. An ideograph takes
 /// U+FE00 to U+FE02, and U+E0100 to U+E01EF.
 pub fn takes_variation_selector(base: char, selector: char) -> bool
     ensures { result ≡ takes base selector }

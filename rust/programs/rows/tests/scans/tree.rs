@@ -52,7 +52,7 @@ const HIDES: &str = "\u{feff}\"a\\u{202e}b\" \"a\u{202e}b\"
 /// ideograph. Also a joiner between emoji.
 const SELECTORS: &str = "\u{fe0f}\u{263a}\u{fe0e}\u{fe0f}1\u{fe0f}\u{20e3}a\u{fe00}
 \u{2229}\u{fe00}\u{2229}\u{fe0f}\u{845b}\u{e0100}\u{845b}\u{fe02}\u{263a}\u{e0100}\u{845b}\u{fe03}\u{e01ef}
-\u{1f469}\u{200d}\u{2764}\u{fe0f}";
+\u{1f469}\u{200d}\u{2764}\u{fe0f}\u{1f680}\u{fe0f}";
 
 /// The published examples of Trojan Source (CVE-2021-42574) for Rust. In one a comment is displayed as code, and in the other the
 /// end of a string is displayed elsewhere.
