@@ -9,9 +9,9 @@ use navyspindle_programs::rattle_std::string::String as Line;
 use navyspindle_programs::rattle_std::vec::Vec as List;
 use navyspindle_programs::rl_files::{MemoryReplacements, Visit};
 use navyspindle_programs::rl_options::parse_arguments;
-use navyspindle_programs::rl_output::{Extent, Form, LineColumn, Place, Position};
+use navyspindle_programs::rl_output::{push_diff, Extent, Form, LineColumn, Place, Position};
 use navyspindle_programs::rl_restyle::Rule;
-use navyspindle_programs::rl_scan::{push_change, push_diff, report_of, Command, Output};
+use navyspindle_programs::rl_scan::{push_change, report_of, Command, Output};
 use one_text::OneText;
 
 fn diff(path: &str, old: &str, new: &str) -> String {
