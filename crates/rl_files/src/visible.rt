@@ -111,6 +111,10 @@ pub fn make_visible<A: Allocator>(
 }
 
 /// Returns a copy of a text with escapes for invisible and bidirectional characters.
+///
+/// # Errors
+///
+/// Returns an error if an allocation fails.
 pub fn visible_text<A: Allocator>(alloc: A, text: &str) -> Result<String<A>, AllocError>
     ensures { IfOk result (λ shown. chars (string_bytes shown) ≡ visible (chars text.now)) }
 {

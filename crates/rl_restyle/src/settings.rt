@@ -37,10 +37,11 @@ fn push_setting<A: Allocator>(text: &mut String<A>, setting: &str) -> Result<(),
 }
 
 /// Returns the text of the style file that the values of `--rule` represent. It has a line for each value.
-pub fn settings_text<A: Allocator>(
-    alloc: A,
-    settings: &[&str],
-) -> Result<String<A>, AllocError>
+///
+/// # Errors
+///
+/// Returns an error if an allocation fails.
+pub fn settings_text<A: Allocator>(alloc: A, settings: &[&str]) -> Result<String<A>, AllocError>
     ensures { IfOk result (λ text. string_bytes text ≡ text_for (borrowed_texts settings.now)) }
 {
     let mut text = String::new(alloc);

@@ -9,8 +9,8 @@ ghost use Rattle.rl_options.specs.Wishes.{reads_current_directory as is_read_her
 
 use crate::runs::{RunStop, Tally, run};
 use rl_files::{
-    PathError, Replace, Selection, Tree, Walk, WalkError, escaped_non_utf8_path,
-    push_listed_paths, visible_text,
+    PathError, Replace, Selection, Tree, Walk, WalkError, escaped_non_utf8_path, push_listed_paths,
+    visible_text,
 };
 use rl_options::{
     Action, ArgumentError, Command, Console, HELP, LineError, ParsedArguments, Restyling,

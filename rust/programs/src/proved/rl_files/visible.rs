@@ -83,6 +83,10 @@ pub fn make_visible<A: Allocator>(
 }
 
 /// Returns a copy of a text with escapes for invisible and bidirectional characters.
+///
+/// # Errors
+///
+/// Returns an error if an allocation fails.
 pub fn visible_text<A: Allocator>(alloc: A, text: &str) -> Result<String<A>, AllocError> {
     let mut shown = String::new(alloc);
     push_visible(&mut shown, text)?;

@@ -29,6 +29,10 @@ fn push_setting<A: Allocator>(text: &mut String<A>, setting: &str) -> Result<(),
 }
 
 /// Returns the text of the style file that the values of `--rule` represent. It has a line for each value.
+///
+/// # Errors
+///
+/// Returns an error if an allocation fails.
 pub fn settings_text<A: Allocator>(
     alloc: A,
     settings: &[&str],
