@@ -7,7 +7,7 @@ use Rattle.rl_options.specs.declared.flags.Next.{Next}
 use Rattle.rl_options.specs.declared.argument_error.ArgumentError.{ArgumentError}
 use Rattle.rl_options.specs.Flags.{IsCountWord}
 use Rattle.rl_options.specs.Wishes.{Wishes}
-use Rattle.rl_options.specs.Words.{IsStep, AreSteps, AskForWishes, AskSoFar, Asks, CannotAsk, IsRejectedWord, AreRejected}
+use Rattle.rl_options.specs.Words.{IsNextStep, AreSteps, AskForWishes, AskSoFar, Asks, CannotAsk, IsNextError, AreRejected}
 
 -- ---- the text after the start of a word: each lemma takes the postcondition of `strip_prefix`
 
@@ -35,12 +35,12 @@ count_unknown word error none count is = none (is.numeral, subst (λ (n : ℕ). 
 -- The steps for some arguments, and the step for one more.
 steps_more : (has_colors : Bool) (first between then : Next) (old middle new : Wishes) (words : List (List ℕ))
     (word : List ℕ) → AreSteps has_colors first old words between middle
-    → IsStep has_colors between middle word then new → AreSteps has_colors first old (words ++ word ∷ []) then new
+    → IsNextStep has_colors between middle word then new → AreSteps has_colors first old (words ++ word ∷ []) then new
 steps_more hc first between then old middle new [] word (same, is) step = (
   then,
   new,
-  subst (λ (w : Wishes). IsStep hc first w word then new) is
-      (subst (λ (n : Next). IsStep hc n middle word then new) same step),
+  subst (λ (w : Wishes). IsNextStep hc first w word then new) is
+      (subst (λ (n : Next). IsNextStep hc n middle word then new) same step),
   (refl, refl),
 )
 steps_more hc first between then old middle new (w ∷ ws) word (b, m, one, more) step =
@@ -66,7 +66,7 @@ around bytes words i item word within is word_is =
 pub word_taken : {S : Type 0} (has_colors : Bool) (bytes : S → List ℕ) (words : List S) (i : ℕ) (item : S)
     (word : List ℕ) (between then : Next) (middle new : Wishes) → i < length words → item ≡ get_or words i item
     → word ≡ bytes item → AskSoFar has_colors (map bytes (take i words)) between middle
-    → IsStep has_colors between middle word then new
+    → IsNextStep has_colors between middle word then new
     → AskSoFar has_colors (map bytes (take (i + 1) words)) then new
 word_taken hc bytes words i item word between then middle new within is word_is steps step =
     subst (λ (ws : List (List ℕ)). AskSoFar hc ws then new)
@@ -78,7 +78,7 @@ pub word_rejected : {S A : Type 0} (has_colors : Bool) (bytes : S → List ℕ) 
     (word : List ℕ) (between : Next) (middle : Wishes) (error : ArgumentError A) → i < length words
     → item ≡ get_or words i item → word ≡ bytes item
     → AskSoFar has_colors (map bytes (take i words)) between middle
-    → IsRejectedWord has_colors between middle word error
+    → IsNextError has_colors between middle word error
     → AreRejected has_colors (map bytes words) error
 word_rejected hc bytes words i item word between middle error within is word_is steps rejected = inr (inr (
   map bytes (take i words),

@@ -12,8 +12,8 @@ use Rattle.rl_output.specs.Forms.{has_extents}
 use Rattle.rl_options.specs.declared.argument_error.ArgumentError.{ArgumentError}
 use Rattle.rl_options.specs.declared.argument_error.ArgumentError.TheVariants.{InputTwice, NoEffect, ObjectsOfPaths, StatsOfPaths, TextlessKinds, TwoStyles}
 use Rattle.rl_output.specs.Choices.{Names, words_of}
-use Rattle.rl_options.specs.Modes.{lists_files, mode_of, mode_words, modes_hint, option_without_effect}
-use Rattle.rl_options.specs.Wishes.{AllWanted, BadWanted, HiddenWanted, OnlyWanted, Wanted, Wishes}
+use Rattle.rl_options.specs.Modes.{mode_of, mode_words, modes_hint, option_without_effect}
+use Rattle.rl_options.specs.Wishes.{AllWanted, BadWanted, HiddenWanted, OnlyWanted, Wanted, Wishes, lists_files}
 
 -- The kinds of literals whose value may contain a text.
 abbrev pub text_kind_list : List ℕ

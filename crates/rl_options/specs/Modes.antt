@@ -23,7 +23,7 @@ use Rattle.rl_options.specs.declared.modes.Mode.TheVariants as mode
 use Rattle.rl_options.specs.declared.modes.Modes.{Modes}
 use Rattle.rl_options.specs.declared.modes.Modes.TheVariants as modes
 use Rattle.rl_options.specs.Options.{options}
-use Rattle.rl_options.specs.Wishes.{AllWanted, BadWanted, HiddenWanted, OnlyWanted, Wanted, Wishes}
+use Rattle.rl_options.specs.Wishes.{AllWanted, BadWanted, HiddenWanted, OnlyWanted, Wanted, Wishes, lists_files}
 
 -- The mode of a command that prints findings. `searches` says that it has a text to search for.
 abbrev pub printing_mode : Wanted → Bool → Mode
@@ -149,11 +149,6 @@ is_count _ = false
 abbrev pub is_path : Output → Bool
 is_path output.Path = true
 is_path _ = false
-
--- The command only lists the files that would be read.
-abbrev pub lists_files : Action → Bool
-lists_files action.Files = true
-lists_files _ = false
 
 -- The command has the option without a value. For an option that has an effect in all modes, the result is false.
 abbrev pub has_flag : Flag → Wishes → Bool

@@ -1,5 +1,5 @@
 -- The command that the command-line arguments of `rl_scan` describe. Arguments are lists of bytes.
-use Rattle.std.specs.Prelude.{ℕ, ◌==◌, Bool, true, false, not, ◌||◌, List, [], length, Option, Some, None}
+use Rattle.std.specs.Prelude.{ℕ, Bool, true, false, ◌||◌, List, [], Option, Some, None}
 use denote.Ref.{Bor}
 use Rattle.rl_files.specs.Globs.{borrowed_texts}
 use Rattle.rl_files.specs.Trees.{string_texts}
@@ -106,11 +106,15 @@ first_wishes has_colors = record {
   paths = [];
 }
 
+-- The action lists the files that would be read.
+abbrev pub lists_files : Action → Bool
+lists_files action.Files = true
+lists_files _ = false
+
 -- If no path is passed, `.` is read in place of standard input. Either standard input isn't a file, a pipe or a socket, as
--- `lacks_input` says, or an option selects the files of directories.
+-- `lacks_input` says, or files are listed.
 abbrev pub reads_current_directory : Bool → Wishes → Bool
-reads_current_directory lacks_input w =
-    lacks_input || w.all_directories || not (length w.extensions == 0) || not (length w.excludes == 0)
+reads_current_directory lacks_input w = lacks_input || lists_files w.action
 
 -- The file with the rules of a style, if one is passed.
 abbrev pub style_of : Option (Bor (List ℕ)) → Option (List ℕ)

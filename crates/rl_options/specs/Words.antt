@@ -2,6 +2,7 @@
 use Rattle.std.specs.Prelude.{◌≡◌, ◌≢◌, ◌⊎◌, ℕ, Bool, true, false, List, [], ◌∷◌, ◌++◌, codes, encode_utf8, String, string_bytes, ⊤, Some, None}
 use Rattle.std.specs.Str.{chars}
 use Rattle.rl_files.specs.Trees.{string_texts}
+use Rattle.rl_files.specs.PathTexts.{is_marked, unmarked}
 use Rattle.rl_files.specs.Visible.{visible}
 use Rattle.rl_options.specs.declared.command.Action.TheVariants as action
 use Rattle.rl_options.specs.declared.command.PlaceForm.TheVariants as form
@@ -24,7 +25,7 @@ use Rattle.rl_options.specs.declared.flags.Next.{Next}
 use Rattle.rl_options.specs.declared.flags.Next.TheVariants as next
 use Rattle.rl_options.specs.declared.flags.When.{When}
 use Rattle.rl_options.specs.declared.argument_error.ArgumentError.{ArgumentError}
-use Rattle.rl_options.specs.declared.argument_error.ArgumentError.TheVariants.{Memory, UnknownOption, UnknownLetter, NoValue, UnknownKind, NoKinds, TwoChoices, NoText, EmptyText, BadAndFind, TextlessKinds, ObjectsOfPaths, StatsOfPaths, TwoRestylings, NoEffect, InputTwice, TwoStyles, NoStyle, NoRule, NoMacros, UnknownMacros, NoAllowed, UnknownAllowed, UnclosedAllowed, NoGenerated, UnknownGenerated, NoColor, UnknownColor, NoExtension, NoPattern, EmptyPattern, OtherPattern, UselessPattern, UnknownExtension, NoList, NoEdition, UnknownEdition, NoFormat, UnknownFormat, NoCount, UnknownCount}
+use Rattle.rl_options.specs.declared.argument_error.ArgumentError.TheVariants.{Memory, NotUtf8, UnknownOption, UnknownLetter, NoValue, UnknownKind, NoKinds, TwoChoices, NoText, EmptyText, BadAndFind, TextlessKinds, ObjectsOfPaths, StatsOfPaths, TwoRestylings, NoEffect, InputTwice, TwoStyles, NoStyle, NoRule, NoMacros, UnknownMacros, NoAllowed, UnknownAllowed, UnclosedAllowed, NoGenerated, UnknownGenerated, NoColor, UnknownColor, NoExtension, NoPattern, EmptyPattern, OtherPattern, UselessPattern, UnknownExtension, NoList, NoEdition, UnknownEdition, NoFormat, UnknownFormat, NoCount, UnknownCount}
 use Rattle.rl_restyle.specs.Meant.{option_part}
 use Rattle.rl_options.specs.Flags.{AreKindWords, IsCountWord, IsSide, IsUnknownKind, color_word, colored_form, edition_word, format_word, formatted, generated_word, has_other_mark, is_more_than_extension, matches_nothing, is_path_word, macros_word, recolored}
 use Rattle.rl_options.specs.Wishes.{AllWanted, BadWanted, HiddenWanted, OnlyWanted, Wishes, first_wishes}
@@ -188,10 +189,24 @@ IsStep has_colors next.Any old word then new =
     × GoesWithOptions (Takes operand) old × (then ≡ next.Any) × IsTaken has_colors operand old text new)
     ⊎ ((letters : List ℕ) × (word ≡ codes "-" ++ letters) × AreLetters has_colors old letters then new)
 
+-- The argument is a path. The `Next` is what the argument may be.
+abbrev pub is_path_after : Next → List ℕ → Bool
+is_path_after next.Path word = true
+is_path_after next.Any word = is_path_word word
+is_path_after (next.Operand operand) word = false
+
+-- The argument is UTF-8, or a path. The `Next` is what the argument may be.
+abbrev pub IsReadable : Next → List ℕ → Type 0
+IsReadable first word = (is_marked word ≡ false) ⊎ (is_path_after first word ≡ true)
+
+-- `new` is the command `old` with one more argument, which is UTF-8 or a path.
+abbrev pub IsNextStep : Bool → Next → Wishes → List ℕ → Next → Wishes → Type 0
+IsNextStep has_colors first old word then new = IsReadable first word × IsStep has_colors first old word then new
+
 abbrev pub AreSteps : Bool → Next → Wishes → List (List ℕ) → Next → Wishes → Type 0
 AreSteps has_colors first old [] then new = (then ≡ first) × (new ≡ old)
 AreSteps has_colors first old (word ∷ words) then new =
-    (between : Next) × (middle : Wishes) × IsStep has_colors first old word between middle
+    (between : Next) × (middle : Wishes) × IsNextStep has_colors first old word between middle
     × AreSteps has_colors between middle words then new
 
 -- The arguments up to some point describe the command `new`, and `then` is what the next argument may be.
@@ -208,6 +223,7 @@ Asks has_colors words wishes =
 -- The message of an error in the command-line arguments.
 abbrev pub word_message : {A : Type 0} → ArgumentError A → List ℕ
 word_message Memory = codes "out of memory"
+word_message (NotUtf8 word) = codes "the argument '" ++ (string_bytes word ++ codes "' is neither UTF-8 nor a path")
 word_message (UnknownOption word None) =
     codes "unknown option '" ++ (string_bytes word ++ codes "': rl_scan --help lists all options")
 word_message (UnknownOption word (Some meant)) =
@@ -382,6 +398,19 @@ IsRejectedWord has_colors (next.Operand operand) old word error = IsRejectedText
 IsRejectedWord has_colors next.Any old word error = IsRejectedOption has_colors old word error
 IsRejectedWord has_colors next.Path old word error = error ≡ Memory
 
+-- The error of an argument that is neither UTF-8 nor a path. It has the argument's escaped bytes.
+abbrev pub IsUnreadableWord : {A : Type 0} → Next → List ℕ → ArgumentError A → Type 0
+IsUnreadableWord first word (NotUtf8 shown) =
+    (is_marked word ≡ true) × (is_path_after first word ≡ false) × (string_bytes shown ≡ unmarked word)
+IsUnreadableWord first word _ = ⊥
+
+-- The error of the next argument: a failed allocation, an argument that is neither UTF-8 nor a path, or another invalid argument.
+abbrev pub IsNextError : {A : Type 0} → Bool → Next → Wishes → List ℕ → ArgumentError A → Type 0
+IsNextError has_colors first old word error =
+    (error ≡ Memory)
+    ⊎ IsUnreadableWord first word error
+    ⊎ (IsReadable first word × IsRejectedWord has_colors first old word error)
+
 -- The error of an option that is the last argument, and whose value is missing.
 abbrev pub IsMissing : {A : Type 0} → Operand → ArgumentError A → Type 0
 IsMissing takes.Kinds error = error ≡ NoKinds
@@ -416,7 +445,7 @@ AreRejected has_colors words error =
     ⊎ ((then : Next) × (wishes : Wishes) × AskSoFar has_colors words then wishes × IsClashAtEnd wishes error)
     ⊎ ((before after : List (List ℕ)) × (word : List ℕ) × (first : Next) × (old : Wishes)
     × (words ≡ before ++ word ∷ after) × AskSoFar has_colors before first old
-    × IsRejectedWord has_colors first old word error)
+    × IsNextError has_colors first old word error)
 
 -- The first argument is the program's name, and the others describe the command.
 abbrev pub AskForWishes : {A : Type 0} → Bool → List (String A) → Wishes → Type 0

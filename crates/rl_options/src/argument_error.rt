@@ -8,6 +8,8 @@ use std::fmt;
 pub enum ArgumentError<A: Allocator = Global> {
     /// An allocation failed.
     Memory,
+    /// The argument is neither UTF-8 nor a path. The field is the argument with escaped bytes, such as `b\xe9`.
+    NotUtf8(String<A>),
     /// The option is unknown. The fields are the argument, and the option that was likely meant.
     UnknownOption(String<A>, Option<&'static str>),
     /// A letter in a group of short options is unknown, as `x` in `-ix`. The fields are `-` and the letter, the whole argument, and
@@ -113,6 +115,9 @@ impl<A: Allocator> fmt::Display for ArgumentError<A> {
     fn fmt<W: fmt::Write>(&self, f: &mut fmt::Formatter<W>) -> fmt::Result {
         match self {
             ArgumentError::Memory => write!(f, "out of memory"),
+            ArgumentError::NotUtf8(word) => {
+                write!(f, "the argument '{word}' is neither UTF-8 nor a path")
+            }
             ArgumentError::UnknownOption(word, None) => {
                 write!(
                     f,

@@ -9,7 +9,7 @@ ghost use Rattle.rl_options.specs.declared.flags.Operand.TheVariants as takes;
 ghost use Rattle.rl_options.specs.declared.argument_error.ArgumentError.TheVariants.{Memory};
 ghost use Rattle.rl_options.specs.Flags.{IsKindWord, AreKindWords, IsUnknownKind, is_path_word};
 ghost use Rattle.rl_options.specs.Wishes.{first_wishes, wishes_of, wishes_in};
-ghost use Rattle.rl_options.specs.Words.{NamesLetter, NamesUnknown, AreLetters, AreRejectedLetters, GoesWithOptions, with_kinds, with_path, with_text, with_pattern, with_allowed, with_list, with_setting, IsWithoutDot, IsAdded, IsTaken, IsStep, Asks, IsRejectedEffect, IsRejectedText, IsRejectedJoined, IsRejectedWord, IsMissing, AreRejected};
+ghost use Rattle.rl_options.specs.Words.{NamesLetter, NamesUnknown, AreLetters, AreRejectedLetters, GoesWithOptions, with_kinds, with_path, with_text, with_pattern, with_allowed, with_list, with_setting, IsWithoutDot, IsAdded, IsTaken, IsStep, Asks, IsRejectedEffect, IsRejectedText, IsRejectedJoined, IsRejectedWord, IsNextError, IsNextStep, IsMissing, AreRejected, is_path_after as path_after};
 
 use crate::allowed::allowed_error;
 use crate::argument_error::ArgumentError;
@@ -21,7 +21,7 @@ use crate::flags::{
     next_after, operand_of, recolored, when_of,
 };
 use crate::table::{effect_of, effect_of_letter, joined_of, meant_by};
-use rl_files::{Selection, visible_text};
+use rl_files::{Selection, escaped_non_utf8_path, visible_text};
 use rl_output::{Matching, Shown, Spelling, list_contains};
 use rl_restyle::{default_style, option_part};
 use rl_tokens::text::split_char;
@@ -69,6 +69,17 @@ fn is_path(word: &str) -> bool
     ensures { result ≡ is_path_word word.now }
 {
     word == "-" || !word.as_bytes().starts_with(b"-".as_slice())
+}
+
+/// Whether the argument `word` is a path. `next` is what the argument may be.
+fn is_path_after(next: Next, word: &str) -> bool
+    ensures { result ≡ path_after next word.now }
+{
+    match next {
+        Next::Path => true,
+        Next::Any => is_path(word),
+        Next::Operand(_) => false,
+    }
 }
 
 /// Returns the error of an option that is the last argument, and whose value is missing. `operand` is the kind of value.
@@ -542,7 +553,7 @@ impl<'a, A: Allocator + Copy> ParsedArguments<'a, A> {
         }
     }
 
-    /// Adds the next argument: the value of the option before it, a path, or an option.
+    /// Adds an argument that is UTF-8 or a path: the value of the option before it, a path, or an option.
     fn take_word(
         &mut self,
         alloc: A,
@@ -559,6 +570,25 @@ impl<'a, A: Allocator + Copy> ParsedArguments<'a, A> {
             Next::Any if is_path(word) => Ok(self.take_path(alloc, word)?),
             Next::Any => self.take_option(alloc, has_colors, word),
         }
+    }
+
+    /// Adds the next argument. An argument that isn't UTF-8 must be a path.
+    fn take_next(
+        &mut self,
+        alloc: A,
+        has_colors: bool,
+        word: &'a str,
+    ) -> Result<(), ArgumentError<A>>
+        ensures step { OnOk result
+            (IsNextStep has_colors self.old.next (wishes_in self.old) word.now self.new.next (wishes_in self.new)) }
+        ensures rejected { IfErr result (IsNextError has_colors self.old.next (wishes_in self.old) word.now) }
+    {
+        if !is_path_after(self.next, word) {
+            if let Some(shown) = escaped_non_utf8_path(word) {
+                return Err(ArgumentError::NotUtf8(String::from_str(alloc, shown)?));
+            }
+        }
+        self.take_word(alloc, has_colors, word)
     }
 }
 
@@ -634,7 +664,7 @@ pub fn parse_arguments<A: Allocator + Copy>(
         next: Next::Any,
     };
     for word in words {
-        match asked.take_word(alloc, has_colors, word.as_str()) {
+        match asked.take_next(alloc, has_colors, word.as_str()) {
             Ok(()) => {}
             Err(error) => return Err(error),
         }

@@ -2,9 +2,9 @@
 
 ghost use Rattle.std.specs.Prelude.{◌≡◌, ◌↔◌, ℕ, List, [], None, string_bytes, IfNone, IfSome, IsTrue};
 ghost use Rattle.std.specs.List.{list_any};
-ghost use Rattle.rl_options.specs.Wishes.{style_of, wanted_of, wishes_in, wishes_of};
+ghost use Rattle.rl_options.specs.Wishes.{style_of, wanted_of, wishes_in, wishes_of, lists_files as lists};
 ghost use Rattle.rl_options.specs.Clashes.{GoTogether, HasTextKind, has_two_styles as two_styles, IsFirstClash, IsFirstOf, IsWithoutEffect, is_input_among, is_input_name as names_input, is_input_read_twice, is_input_style, MayHold, PrintTogether, asks_context as asks, prints_no_objects as no_objects, sums_lines as sums, printing_clashes};
-ghost use Rattle.rl_options.specs.Modes.{lists_files as lists, option_without_effect};
+ghost use Rattle.rl_options.specs.Modes.{option_without_effect};
 
 use crate::argument_error::ArgumentError;
 use crate::arguments::ParsedArguments;

@@ -14,7 +14,7 @@ rl_scan [OPTIONS] [PATH..]
 .SH DESCRIPTION
 Prints the literals of Rust source files, or the errors in them.
 .PP
-A PATH is a file or a directory. In a directory, rl_scan reads the *.rs files, sorted by their paths. It skips hidden files and directories, and `target` beside a Cargo.toml, and doesn't follow symbolic links. `\-` is standard input. Without a PATH and \-\-files\-from, rl_scan reads standard input if that is a file, a pipe or a socket. Otherwise, or with \-\-all, \-\-extension or \-\-exclude, it reads the current directory.
+A PATH is a file or a directory. In a directory, rl_scan reads the *.rs files, sorted by their paths. It skips hidden files and directories, and `target` beside a Cargo.toml, and doesn't follow symbolic links. `\-` is standard input. Without a PATH and \-\-files\-from, rl_scan reads standard input if that is a file, a pipe or a socket. Otherwise, or with \-\-files, it reads the current directory.
 .SH OPTIONS
 .SS Modes
 One at most, except \-\-find with \-\-only.

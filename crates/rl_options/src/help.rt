@@ -11,8 +11,7 @@ A PATH is a file or a directory. In a directory, rl_scan reads the *.rs files,
 sorted by their paths. It skips hidden files and directories, and `target`
 beside a Cargo.toml, and doesn't follow symbolic links. `-` is standard input.
 Without a PATH and --files-from, rl_scan reads standard input if that is a file,
-a pipe or a socket. Otherwise, or with --all, --extension or --exclude, it reads
-the current directory.
+a pipe or a socket. Otherwise, or with --files, it reads the current directory.
 
 Modes: one at most, except --find with --only
       --bad            print the literals that Rust rejects, and unclosed quotes

@@ -1,7 +1,8 @@
 -- The rules of a style that the values of `--rule` set. Texts are lists of bytes.
-use Rattle.std.specs.Prelude.{ℕ, ◌==◌, Bool, cond, ◌||◌, List, [], ◌∷◌, ◌++◌, codes, Option, Some, None}
+use Rattle.std.specs.Prelude.{ℕ, ◌==◌, Bool, cond, not, ◌||◌, ◌&&◌, List, [], ◌∷◌, ◌++◌, codes, Option, Some, None}
 use Prim.Native.Char.{code}
-use Rattle.std.specs.List.{flat_map}
+use Rattle.std.specs.Char.{is_ascii_alphabetic}
+use Rattle.std.specs.List.{flat_map, list_all}
 use Rattle.std.specs.Str.{bytes_eq}
 use Rattle.rl_restyle.specs.Meant.{option_part}
 
@@ -10,15 +11,18 @@ abbrev pub value_part : List ℕ → Option (List ℕ)
 value_part [] = None
 value_part (b ∷ text) = cond (b == code "=") (Some text) (value_part text)
 
--- The value is the content of a string that some rule may have as its value.
-abbrev pub is_string_content : List ℕ → Bool
-is_string_content value =
-    bytes_eq value (codes "lower") || bytes_eq value (codes "upper") || bytes_eq value (codes "_")
-    || bytes_eq value (codes "")
+-- The byte is an ASCII letter or `_`.
+abbrev pub is_word_byte : ℕ → Bool
+is_word_byte b = is_ascii_alphabetic b || (b == code "_")
 
--- The literal that a value represents. The content of a string gets its quotes.
+-- The value is a word in place of a string: it consists of letters and `_`, and isn't `true` or `false`. It may be empty.
+abbrev pub is_bare_string : List ℕ → Bool
+is_bare_string value =
+    list_all is_word_byte value && not (bytes_eq value (codes "true")) && not (bytes_eq value (codes "false"))
+
+-- The literal that a value represents. A word in place of a string gets quotes.
 abbrev pub value_literal : List ℕ → List ℕ
-value_literal value = cond (is_string_content value) (codes "\"" ++ (value ++ codes "\"")) value
+value_literal value = cond (is_bare_string value) (codes "\"" ++ (value ++ codes "\"")) value
 
 abbrev entry_with : List ℕ → Option (List ℕ) → List ℕ
 entry_with name None = name ++ codes " = true\n"

@@ -2,7 +2,7 @@
 
 ghost use Rattle.std.specs.Prelude.{◌≡◌, ◌++◌, option_map, string_bytes, IfOk, OnOk};
 ghost use Rattle.rl_files.specs.Globs.{borrowed_texts};
-ghost use Rattle.rl_restyle.specs.Settings.{is_string_content as is_content, setting_line, settings_text as text_for, value_part as part_after};
+ghost use Rattle.rl_restyle.specs.Settings.{is_bare_string as bare_string, is_word_byte as word_byte, setting_line, settings_text as text_for, value_part as part_after};
 
 use crate::suggestion::option_part;
 use std::alloc::{AllocError, Allocator};
@@ -17,11 +17,19 @@ fn value_part(text: &str) -> Option<&str>
     }
 }
 
-/// Whether a value is the content of a string that some rule may have as its value.
-fn is_string_content(value: &str) -> bool
-    ensures { result ≡ is_content value.now }
+/// Whether a byte is an ASCII letter or `_`.
+fn is_word_byte(byte: u8) -> bool
+    ensures { result ≡ word_byte byte }
 {
-    value == "lower" || value == "upper" || value == "_" || value == ""
+    byte.is_ascii_alphabetic() || byte == b'_'
+}
+
+/// Whether a value is a word in place of a string: it consists of letters and `_`, and isn't `true` or `false`. It may be empty.
+fn is_bare_string(value: &str) -> bool
+    ensures { result ≡ bare_string value.now }
+{
+    let bytes = value.as_bytes();
+    bytes.iter().all(|byte| is_word_byte(*byte)) && value != "true" && value != "false"
 }
 
 /// Appends the line of a style file that a value of `--rule` represents.
@@ -31,7 +39,7 @@ fn push_setting<A: Allocator>(text: &mut String<A>, setting: &str) -> Result<(),
     let name = option_part(setting);
     match value_part(setting) {
         None => writeln!(text, "{name} = true"),
-        Some(value) if is_string_content(value) => writeln!(text, "{name} = \"{value}\""),
+        Some(value) if is_bare_string(value) => writeln!(text, "{name} = \"{value}\""),
         Some(value) => writeln!(text, "{name} = {value}"),
     }
 }

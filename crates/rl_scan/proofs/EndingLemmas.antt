@@ -1,12 +1,12 @@
 -- Lemmas about the result of a call of `rl_scan`.
-use Rattle.rl_syntax.proofs.Common.{ap, arith, drop, false, length, not, take, take_all, true, ◌==◌, ◌∙◌, Bool, Bor, List, None, Option, Some, [], inl, inr, refl, subst, sym, ℕ, ◌-◌, ◌∷◌, ◌≡◌, ◌≤◌, ◌⊎◌, codes}
+use Rattle.rl_syntax.proofs.Common.{ap, false, length, not, true, ◌==◌, ◌∙◌, Bool, Bor, List, None, Option, Some, [], inl, inr, refl, subst, sym, ℕ, ◌-◌, ◌∷◌, ◌≡◌, ◌⊎◌, codes}
 use Rattle.std.specs.Prelude.{IfSome, String}
 use Rattle.std.proofs.lemmas.Bool.{false≢true}
 use Rattle.std.specs.Io.KnownBytes.{Keeps}
 use Rattle.std.proofs.KnownBytes.{Appends-nil}
 use Rattle.rl_files.specs.Globs.{borrowed_texts}
 use Rattle.rl_files.specs.Replacements.{Replacement}
-use Rattle.rl_files.specs.Trees.{World, string_texts}
+use Rattle.rl_files.specs.Trees.{World}
 use Rattle.rl_files.specs.Walks.{Waypoint}
 use Rattle.rl_files.proofs.WalkLemmas.{some_visits}
 use Rattle.rl_program.specs.declared.exit.Ending.{Ending}
@@ -33,7 +33,7 @@ use Rattle.rl_scan.proofs.Handing.{hands_none, written_on}
 use Rattle.rl_scan.proofs.RunLemmas.{not_empty}
 use Rattle.rl_options.specs.Wishes.{Wishes, style_of, wishes_of, reads_current_directory}
 use Rattle.rl_options.specs.Words.{AskForWishes}
-use Rattle.rl_scan.specs.Endings.{EndsText, EndsWish, EndsAsked, EndsAsScan, EndsFrom, EndsListed, EndsPaths, EndsRuled, EndsScan, EndsStyled, paths_read, HasOddWord, IsCommandFor, IsRulesError, IsSelecting, WritesNothing, only_paths, words_after_name}
+use Rattle.rl_scan.specs.Endings.{EndsText, EndsWish, EndsAsked, EndsAsScan, EndsFrom, EndsListed, EndsPaths, EndsRuled, EndsScan, EndsStyled, paths_read, IsCommandFor, IsRulesError, IsSelecting, WritesNothing}
 
 -- The bytes of a writer are unchanged if nothing is written.
 pub keeps_same : (a : Option (List ℕ)) → Keeps a a
@@ -237,38 +237,18 @@ no_word error (Generate which) wishes lacks_input holds streams ((never, begun),
 
 pub call_asked : {A B : Type 0} (args : List (String A)) (console : Console) (holds : Option World) (streams : Streams)
     (ending : Ending (CallError B)) (wishes : Wishes) → AskForWishes console.has_colors args wishes
-    → only_paths (words_after_name args) wishes.paths ≡ true
     → EndsAsked wishes console.lacks_input holds streams ending → EndsAsScan args console holds streams ending
-call_asked args console holds streams Done wishes asks paths ends = (wishes, asks, paths, ends)
-call_asked args console holds streams FoundBad wishes asks paths ends = (wishes, asks, paths, ends)
-call_asked args console holds streams Reported wishes asks paths ends = (wishes, asks, paths, ends)
-call_asked args console holds streams Closed wishes asks paths ends = (wishes, asks, paths, ends)
-call_asked args console holds streams (Usage line) wishes asks paths ends = (wishes, asks, paths, ends)
-call_asked {A} {B} args console holds streams (Failed NoArguments) wishes asks paths ends = absurd
+call_asked args console holds streams Done wishes asks ends = (wishes, asks, ends)
+call_asked args console holds streams FoundBad wishes asks ends = (wishes, asks, ends)
+call_asked args console holds streams Reported wishes asks ends = (wishes, asks, ends)
+call_asked args console holds streams Closed wishes asks ends = (wishes, asks, ends)
+call_asked args console holds streams (Usage line) wishes asks ends = (wishes, asks, ends)
+call_asked {A} {B} args console holds streams (Failed NoArguments) wishes asks ends = absurd
     (no_arguments B wishes.action wishes console.lacks_input holds streams ends)
-call_asked args console holds streams (Failed (Word error)) wishes asks paths ends = absurd
+call_asked args console holds streams (Failed (Word error)) wishes asks ends = absurd
     (no_word error wishes.action wishes console.lacks_input holds streams ends)
-call_asked args console holds streams (Failed (Walk error)) wishes asks paths ends = (wishes, asks, paths, ends)
-call_asked args console holds streams (Failed (NoList file why)) wishes asks paths ends = (wishes, asks, paths, ends)
-call_asked args console holds streams (Failed (NoStyle file error)) wishes asks paths ends = (wishes, asks, paths, ends)
-call_asked args console holds streams (Failed NoFile) wishes asks paths ends = (wishes, asks, paths, ends)
-call_asked args console holds streams (Failed Write) wishes asks paths ends = (wishes, asks, paths, ends)
-
--- An argument that isn't UTF-8 is an option or a value.
-pub odd_word : {A : Type 0} (args : List (String A)) (console : Console) (wishes : Wishes)
-    → AskForWishes console.has_colors args wishes → only_paths (words_after_name args) wishes.paths ≡ false
-    → HasOddWord args console.has_colors
-odd_word args console wishes asks odd = inr (wishes, asks, odd)
-
--- The arguments after the first one.
-words_after : {A : Type 0} (args : List (String A)) → 1 ≤ length args
-    → string_texts (take (length args - 1) (drop 1 args)) ≡ words_after_name args
-words_after [] some = absurd (omega (arith, some))
-words_after (program ∷ words) some = ap string_texts (take_all (length (program ∷ words) - 1) words (omega arith))
-
--- The result of the test for all arguments after the first one.
-pub paths_known : {A : Type 0} (args : List (String A)) (paths : List (List ℕ)) (found : Bool) {told : Bool}
-    → 1 ≤ length args → found ≡ only_paths (string_texts (take (length args - 1) (drop 1 args))) paths → found ≡ told
-    → only_paths (words_after_name args) paths ≡ told
-paths_known args paths found some is told =
-    ap (λ (words : List (List ℕ)). only_paths words paths) (sym (words_after args some)) ∙ sym is ∙ told
+call_asked args console holds streams (Failed (Walk error)) wishes asks ends = (wishes, asks, ends)
+call_asked args console holds streams (Failed (NoList file why)) wishes asks ends = (wishes, asks, ends)
+call_asked args console holds streams (Failed (NoStyle file error)) wishes asks ends = (wishes, asks, ends)
+call_asked args console holds streams (Failed NoFile) wishes asks ends = (wishes, asks, ends)
+call_asked args console holds streams (Failed Write) wishes asks ends = (wishes, asks, ends)

@@ -3,7 +3,7 @@ use Rattle.rl_syntax.proofs.Common.{Bool, None, Option, Some, cond, false, sym, 
 use Rattle.rl_options.specs.declared.command.Command.{Command}
 use Rattle.rl_options.specs.declared.command.Restyling.{Restyling}
 use Rattle.rl_options.specs.declared.command.Restyling.TheVariants.{Fix, Check, Diff}
-use Rattle.rl_options.specs.Modes.{lists_files}
+use Rattle.rl_options.specs.Wishes.{lists_files}
 use Rattle.rl_output.specs.declared.choice.Shown.TheVariants.{All}
 use Rattle.rl_scan.specs.declared.runs.Tally.{Tally}
 use Rattle.rl_scan.specs.Reports.{is_alarm}

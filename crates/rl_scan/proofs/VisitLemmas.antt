@@ -12,7 +12,7 @@ use Rattle.rl_scan.specs.declared.report.Report.{Report}
 use Rattle.rl_options.specs.Reads.{IsNotUtf8}
 use Rattle.rl_scan.specs.Reports.{Findings, IsErrorReport, IsListReport, in_report}
 use Rattle.rl_scan.specs.Visits.{IsBytesReport, IsReadReport, IsReport, ReportsAs}
-use Rattle.rl_options.specs.Modes.{lists_files}
+use Rattle.rl_options.specs.Wishes.{lists_files}
 use Rattle.rl_scan.proofs.Handing.{hands_none}
 
 -- If the report for a file satisfies `IsThis`, and no file was replaced, the report satisfies `ReportsAs IsThis`.

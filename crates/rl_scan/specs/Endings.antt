@@ -2,7 +2,6 @@
 use Rattle.std.specs.Prelude.{◌≡◌, ◌⊎◌, ℕ, ◌+◌, ◌==◌, Bool, true, false, cond, not, ◌&&◌, List, [], ◌∷◌, ◌++◌, length, codes, String, string_bytes, Option, Some, None, IfSome, ⊤}
 use Rattle.std.specs.Str.{chars}
 use Rattle.std.specs.Io.KnownBytes.{Appends, Keeps}
-use Rattle.rl_files.specs.PathTexts.{is_marked}
 use Rattle.rl_files.specs.Trees.{World, string_texts}
 use Rattle.rl_files.specs.Globs.{borrowed_texts}
 use Rattle.rl_files.specs.Visible.{visible}
@@ -37,7 +36,7 @@ use Rattle.rl_options.specs.Words.{AskForWishes, CannotAsk, word_message}
 
 -- The line on standard error for the reason why a call fails.
 abbrev pub call_error_line : {A : Type 0} → CallError A → List ℕ
-call_error_line NoArguments = codes "rl_scan: an argument is not UTF-8"
+call_error_line NoArguments = codes "rl_scan: there are no arguments"
 call_error_line (Word error) = codes "rl_scan: " ++ word_message error
 call_error_line (Walk error) = codes "rl_scan: " ++ walk_error_message error
 call_error_line (NoList file why) = codes "rl_scan: " ++ (string_bytes file ++ (codes ": " ++ path_error_message why))
@@ -240,31 +239,11 @@ abbrev pub EndsAsked : {B : Type 0} → Wishes → Bool → Option World → Str
 EndsAsked wishes lacks_input holds streams ending =
     EndsWish wishes.action wishes lacks_input holds streams ending
 
--- The number of texts that represent a path that isn't UTF-8.
-abbrev pub marked_count : List (List ℕ) → ℕ
-marked_count [] = 0
-marked_count (text ∷ texts) = cond (is_marked text) 1 0 + marked_count texts
-
--- All arguments that aren't UTF-8 are paths, and not options or values. `words` are the arguments, and `paths` the paths among them.
-abbrev pub only_paths : List (List ℕ) → List (List ℕ) → Bool
-only_paths words paths = marked_count words == marked_count paths
-
--- The arguments without the first one, which is the program's name.
-abbrev pub words_after_name : {A : Type 0} → List (String A) → List (List ℕ)
-words_after_name [] = []
-words_after_name (program ∷ words) = string_texts words
-
--- There is no argument, or an argument that isn't UTF-8 is an option or a value.
-abbrev pub HasOddWord : {A : Type 0} → List (String A) → Bool → Type 0
-HasOddWord args has_colors =
-    (args ≡ []) ⊎ ((wishes : Wishes) × AskForWishes has_colors args wishes × (only_paths (words_after_name args) wishes.paths ≡ false))
-
 -- The result of a call with the arguments `args`. If the arguments are invalid or can't be read, nothing is written.
 abbrev pub EndsAsScan : {A B : Type 0} → List (String A) → Console → Option World → Streams → Ending (CallError B)
     → Type 0
-EndsAsScan args console holds streams (Failed NoArguments) = HasOddWord args console.has_colors × WritesNothing streams
+EndsAsScan args console holds streams (Failed NoArguments) = (args ≡ []) × WritesNothing streams
 EndsAsScan args console holds streams (Failed (Word error)) =
     CannotAsk console.has_colors args error × WritesNothing streams
 EndsAsScan args console holds streams ending =
-    (wishes : Wishes) × AskForWishes console.has_colors args wishes × (only_paths (words_after_name args) wishes.paths ≡ true)
-    × EndsAsked wishes console.lacks_input holds streams ending
+    (wishes : Wishes) × AskForWishes console.has_colors args wishes × EndsAsked wishes console.lacks_input holds streams ending

@@ -16,7 +16,7 @@ use Rattle.rl_scan.specs.Reports.{Findings, HandsOn, is_alarm}
 use Rattle.rl_scan.specs.RuleCounts.{both_counts}
 use Rattle.rl_scan.specs.Visits.{AreReports, IsReport, Totals, totals_of}
 use Rattle.rl_scan.specs.Stats.{tally_of, shown_stats}
-use Rattle.rl_options.specs.Modes.{lists_files}
+use Rattle.rl_options.specs.Wishes.{lists_files}
 
 -- The bytes that standard output and standard error received before and after, and the files that were replaced before and after.
 pub record Streams : Type 0 where

@@ -13,7 +13,7 @@ use Rattle.rl_scan.specs.declared.report.Report.{Report}
 use Rattle.rl_options.specs.Reads.{IsNotUtf8, IsReadError}
 use Rattle.rl_scan.specs.Reports.{Findings, HandsOn, IsErrorReport, IsListReport, IsTextReport, with_handed}
 use Rattle.rl_scan.specs.Restyling.{IsRestyledReport}
-use Rattle.rl_options.specs.Modes.{lists_files}
+use Rattle.rl_options.specs.Wishes.{lists_files}
 
 -- The output for a source. Its literals are rewritten if the command requests it.
 abbrev pub IsWantedReport : Option Restyling → Command → List ℕ → List ℕ → Findings → Type 0

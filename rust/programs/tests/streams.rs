@@ -85,7 +85,7 @@ fn paths_that_are_not_texts() {
         let said = if expected == 0 {
             skipped
         } else {
-            "rl_scan: an argument is not UTF-8\n"
+            "rl_scan: the argument 'a\\xff' is neither UTF-8 nor a path\n"
         };
         assert_eq!(ended(command), (Some(expected), said.to_owned()));
     }

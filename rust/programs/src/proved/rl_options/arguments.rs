@@ -12,7 +12,7 @@ use crate::rl_options::flags::{
     next_after, operand_of, recolored, when_of,
 };
 use crate::rl_options::table::{effect_of, effect_of_letter, joined_of, meant_by};
-use crate::rl_files::{Selection, visible_text};
+use crate::rl_files::{Selection, escaped_non_utf8_path, visible_text};
 use crate::rl_output::{Matching, Shown, Spelling, list_contains};
 use crate::rl_restyle::{default_style, option_part};
 use crate::rl_tokens::text::split_char;
@@ -53,6 +53,15 @@ pub struct ParsedArguments<'a, A: Allocator = Global> {
 /// Whether an argument is a path: it is `-`, or doesn't begin with a dash.
 fn is_path(word: &str) -> bool {
     word == "-" || !word.as_bytes().starts_with(b"-".as_slice())
+}
+
+/// Whether the argument `word` is a path. `next` is what the argument may be.
+fn is_path_after(next: Next, word: &str) -> bool {
+    match next {
+        Next::Path => true,
+        Next::Any => is_path(word),
+        Next::Operand(_) => false,
+    }
 }
 
 /// Returns the error of an option that is the last argument, and whose value is missing. `operand` is the kind of value.
@@ -403,7 +412,7 @@ impl<'a, A: Allocator + Copy> ParsedArguments<'a, A> {
         }
     }
 
-    /// Adds the next argument: the value of the option before it, a path, or an option.
+    /// Adds an argument that is UTF-8 or a path: the value of the option before it, a path, or an option.
     fn take_word(
         &mut self,
         alloc: A,
@@ -416,6 +425,21 @@ impl<'a, A: Allocator + Copy> ParsedArguments<'a, A> {
             Next::Any if is_path(word) => Ok(self.take_path(alloc, word)?),
             Next::Any => self.take_option(alloc, has_colors, word),
         }
+    }
+
+    /// Adds the next argument. An argument that isn't UTF-8 must be a path.
+    fn take_next(
+        &mut self,
+        alloc: A,
+        has_colors: bool,
+        word: &'a str,
+    ) -> Result<(), ArgumentError<A>> {
+        if !is_path_after(self.next, word) {
+            if let Some(shown) = escaped_non_utf8_path(word) {
+                return Err(ArgumentError::NotUtf8(String::from_str(alloc, shown)?));
+            }
+        }
+        self.take_word(alloc, has_colors, word)
     }
 }
 
@@ -486,7 +510,7 @@ pub fn parse_arguments<A: Allocator + Copy>(
         next: Next::Any,
     };
     for word in words {
-        match asked.take_word(alloc, has_colors, word.as_str()) {
+        match asked.take_next(alloc, has_colors, word.as_str()) {
             Ok(()) => {}
             Err(error) => return Err(error),
         }

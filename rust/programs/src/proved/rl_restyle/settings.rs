@@ -13,9 +13,15 @@ fn value_part(text: &str) -> Option<&str> {
     }
 }
 
-/// Whether a value is the content of a string that some rule may have as its value.
-fn is_string_content(value: &str) -> bool {
-    value == "lower" || value == "upper" || value == "_" || value == ""
+/// Whether a byte is an ASCII letter or `_`.
+fn is_word_byte(byte: u8) -> bool {
+    byte.is_ascii_alphabetic() || byte == b'_'
+}
+
+/// Whether a value is a word in place of a string: it consists of letters and `_`, and isn't `true` or `false`. It may be empty.
+fn is_bare_string(value: &str) -> bool {
+    let bytes = value.as_bytes();
+    bytes.iter().all(|byte| is_word_byte(*byte)) && value != "true" && value != "false"
 }
 
 /// Appends the line of a style file that a value of `--rule` represents.
@@ -23,7 +29,7 @@ fn push_setting<A: Allocator>(text: &mut String<A>, setting: &str) -> Result<(),
     let name = option_part(setting);
     match value_part(setting) {
         None => writeln!(text, "{name} = true"),
-        Some(value) if is_string_content(value) => writeln!(text, "{name} = \"{value}\""),
+        Some(value) if is_bare_string(value) => writeln!(text, "{name} = \"{value}\""),
         Some(value) => writeln!(text, "{name} = {value}"),
     }
 }
@@ -33,10 +39,7 @@ fn push_setting<A: Allocator>(text: &mut String<A>, setting: &str) -> Result<(),
 /// # Errors
 ///
 /// Returns an error if an allocation fails.
-pub fn settings_text<A: Allocator>(
-    alloc: A,
-    settings: &[&str],
-) -> Result<String<A>, AllocError> {
+pub fn settings_text<A: Allocator>(alloc: A, settings: &[&str]) -> Result<String<A>, AllocError> {
     let mut text = String::new(alloc);
     let mut rest = settings;
     while let [setting, after @ ..] = rest {

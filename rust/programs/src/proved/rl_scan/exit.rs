@@ -4,8 +4,7 @@
 use crate::rattle_std::prelude::{String, Vec};
 use crate::rl_scan::runs::{RunStop, Tally, run};
 use crate::rl_files::{
-    PathError, Replace, Selection, Tree, Walk, WalkError, escaped_non_utf8_path,
-    push_listed_paths, visible_text,
+    PathError, Replace, Selection, Tree, Walk, WalkError, push_listed_paths, visible_text,
 };
 use crate::rl_options::{
     Action, ArgumentError, Command, Console, HELP, LineError, ParsedArguments, Restyling,
@@ -22,7 +21,7 @@ use crate::rattle_std::io::Write;
 
 /// The reason why a call of `rl_scan` fails.
 pub enum CallError<A: Allocator = Global> {
-    /// An argument isn't UTF-8, and isn't a path.
+    /// There are no arguments, not even the program's name.
     NoArguments,
     /// An argument is invalid.
     Word(ArgumentError<A>),
@@ -48,7 +47,7 @@ impl<A: Allocator> RunError for CallError<A> {
 impl<A: Allocator> fmt::Display for CallError<A> {
     fn fmt(&self, f: &mut fmt::Formatter<'_>) -> fmt::Result {
         match self {
-            CallError::NoArguments => write!(f, "rl_scan: an argument is not UTF-8"),
+            CallError::NoArguments => write!(f, "rl_scan: there are no arguments"),
             CallError::Word(error) => write!(f, "rl_scan: {error}"),
             CallError::Walk(error) => write!(f, "rl_scan: {error}"),
             CallError::List(file, why) => write!(f, "rl_scan: {file}: {why}"),
@@ -90,12 +89,9 @@ fn write_text<A: Allocator, W: Write>(out: &mut W, text: &str) -> Ending<CallErr
 }
 
 /// Whether `.` is read, and not standard input, if no path is passed. This is the case if standard input isn't a file, a pipe or a
-/// socket, or if an option selects files in directories.
+/// socket, or if files are listed.
 fn reads_current_directory<A: Allocator>(lacks_input: bool, asked: &ParsedArguments<'_, A>) -> bool {
-    lacks_input
-        || asked.command.selection.all
-        || !asked.extensions.is_empty()
-        || !asked.excludes.is_empty()
+    lacks_input || lists_files(asked.command.action)
 }
 
 /// Adds a path if there is none: `.` if `is_here` is true, else `-` for standard input.
@@ -417,25 +413,6 @@ pub fn out_of_memory_ending<A: Allocator>() -> Ending<CallError<A>> {
     Ending::Failed(error)
 }
 
-/// Returns the number of texts that represent a path that isn't UTF-8.
-fn count_marked<A: Allocator>(texts: &[String<A>]) -> usize {
-    let mut count = 0;
-    let mut rest = texts;
-    while let [text, after @ ..] = rest {
-        if escaped_non_utf8_path(text.as_str()).is_some() {
-            count += 1;
-        }
-        rest = after;
-    }
-    count
-}
-
-/// Whether all arguments that aren't UTF-8 are paths. Such an argument can't be an option or a value. `words` are the arguments,
-/// and `paths` the paths among them.
-fn only_paths<A: Allocator>(words: &[String<A>], paths: &[String<A>]) -> bool {
-    count_marked(words) == count_marked(paths)
-}
-
 /// Runs `rl_scan` with the arguments `args`, and returns the result of the call. The first argument is the program's name. An
 /// argument that isn't UTF-8 is represented as `path_text` of `rl_files` represents it.
 ///
@@ -453,12 +430,7 @@ pub fn run_with_arguments<A: Allocator + Copy, T: Tree, W: Write, E: Write, F: R
         return Ending::Failed(CallError::NoArguments);
     };
     match parse_arguments(alloc, console.has_colors, words) {
-        Ok(asked) => {
-            if !only_paths(words, asked.paths.as_slice()) {
-                return Ending::Failed(CallError::NoArguments);
-            }
-            answer(alloc, asked, console.lacks_input, tree, out, err, files)
-        }
+        Ok(asked) => answer(alloc, asked, console.lacks_input, tree, out, err, files),
         Err(error) => Ending::Failed(CallError::Word(error)),
     }
 }
