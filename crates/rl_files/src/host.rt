@@ -97,6 +97,14 @@ pub(crate) fn read_all<A: Allocator, R: Read + Drop>(
     }
 }
 
+/// Whether the file at `path` has more than `LONGEST` bytes by its metadata. Such a file isn't read.
+fn is_too_long<R: Files>(rt: &R, path: &str) -> bool {
+    match fs::metadata(rt, path) {
+        Ok(about) => about.len() > LONGEST,
+        Err(_) => false,
+    }
+}
+
 /// Returns the names of the files and directories in a directory. A directory's name ends with a slash. A name that isn't UTF-8 is
 /// empty.
 fn list_directory<A: Allocator + Copy, R: Files + Alloc + Clone + Drop>(
@@ -127,6 +135,9 @@ where
     fn bytes<A: Allocator>(&self, alloc: A, path: &str) -> Result<Vec<u8, A>, PathError> {
         if path == "-" {
             return read_all(alloc, self.rt.reader());
+        }
+        if is_too_long(self.rt, path) {
+            return Err(PathError::TooLong);
         }
         match File::open(self.rt, path) {
             Ok(file) => read_all(alloc, file),
