@@ -50,7 +50,7 @@ TRIED += [(INLINING, *change) for change in [
     ('strict.rs skip_raw_characters', 'strict.rs skip_outside', 'skip_outside'),
     ('strict.rs skip_raw_characters', 'strict.rs skip_units', 'skip_units'),
     ('skip_raw_characters: ', 'skip_raw_characters ', 'no entry'),
-    ('+ rl_lenient/ranges.rs *', '+ rl_lenient/range.rs *', 'range.rs'),
+    ('+ rl_cursors/ranges.rs *', '+ rl_cursors/range.rs *', 'range.rs'),
     ('+ rl_settings/ *', '+ rl_setting/ *', 'rl_setting/'), ('found.rs parse_number_literal, ', 'found.rs find_numbers, ', 'find_numbers'),
     ('strict_reading.rs read_rare', 'strict_reading.rs read_next', 'read_next'),
     ('strict_reading.rs read_rare', 'strict_reading.rs number_at', 'number_at'),

@@ -1,6 +1,7 @@
 //! Decoded values of literals whose text differs from their value, such as strings with escapes.
 
-use crate::rl_lenient::{decode_bytes_into, float_digits_into, Body, SegmentValue};
+use crate::rl_cursors::{SegmentValue, Segments};
+use crate::rl_lenient::{decode_bytes_into, float_digits_into, Body};
 use crate::rl_syntax::Kind;
 use alloc::string::String;
 use alloc::vec::Vec;
@@ -21,7 +22,7 @@ fn written(front: &str, body: &str, write: impl FnOnce(&str, &mut [u8]) -> usize
 /// body.
 pub(crate) fn text_of(text: &str, body: Body) -> String {
     let mut out = String::with_capacity(body.hi - body.lo);
-    let mut segments = body.segments_in(Kind::Str, text);
+    let mut segments = Segments::of_body(Kind::Str, text, &body);
     while let Some(segment) = segments.next() {
         match segment.value {
             SegmentValue::Text(run) => out.push_str(run),

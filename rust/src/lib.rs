@@ -159,8 +159,8 @@ mod write;
 #[doc(hidden)]
 pub mod rendered {
     pub use crate::proved::{
-        rl_flaws, rl_lenient, rl_lexer, rl_recovery, rl_settings, rl_strict, rl_style, rl_syntax,
-        rl_writing,
+        rl_cursors, rl_flaws, rl_lenient, rl_lexer, rl_recovery, rl_settings, rl_strict, rl_style,
+        rl_syntax, rl_writing,
     };
 }
 
@@ -173,7 +173,7 @@ use proved::rl_recovery;
 use proved::rl_style;
 #[cfg(any(feature = "writers", feature = "style"))]
 use proved::rl_writing;
-use proved::{rl_lenient, rl_strict, rl_syntax};
+use proved::{rl_cursors, rl_lenient, rl_strict, rl_syntax};
 #[cfg(any(feature = "sources", feature = "settings"))]
 use proved::{rl_lexer, rl_settings};
 

@@ -3,7 +3,7 @@
 use crate::list_error::ListError;
 use crate::lit::Lit;
 use crate::next_literal::placed;
-use crate::rl_lenient::{next_list_literal, ListStep};
+use crate::rl_cursors::{next_list_literal, ListStep};
 use crate::rl_lexer::Tokens;
 use core::fmt;
 use core::iter::FusedIterator;

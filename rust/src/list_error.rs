@@ -2,7 +2,7 @@
 
 use crate::common::shifted;
 use crate::error::{range_at, SyntaxErrorKind};
-use crate::rl_lenient::Rejection;
+use crate::rl_cursors::Rejection;
 use crate::rl_lexer::LexError;
 use crate::rl_settings::{lexer_error, list_error};
 use core::fmt;

@@ -1,7 +1,7 @@
 //! The next literal of a list or of settings, with its byte range.
 
 use crate::lit::Lit;
-use crate::rl_lenient::NextLiteral;
+use crate::rl_cursors::NextLiteral;
 use alloc::borrow::Cow;
 use alloc::format;
 use core::ops::Range;

@@ -1,6 +1,7 @@
 //! The segments of a literal's text, and the maps between byte offsets of the text and of the value.
 
-use crate::rl_lenient::{self, Body};
+use crate::rl_cursors;
+use crate::rl_lenient::Body;
 use crate::rl_syntax::Kind;
 use alloc::vec::Vec;
 use core::fmt;
@@ -55,13 +56,13 @@ pub struct Segment<'t> {
 impl<'t> Segment<'t> {
     /// Creates a segment. `value_offset` is the number of bytes of the value before the segment.
     #[inline]
-    pub(crate) fn of(segment: rl_lenient::Segment<'t>, value_offset: usize) -> Segment<'t> {
+    pub(crate) fn of(segment: rl_cursors::Segment<'t>, value_offset: usize) -> Segment<'t> {
         let value_range = value_offset..value_offset + segment.value.len();
         let value = match segment.value {
-            rl_lenient::SegmentValue::Text(text) => SegmentValue::Text(text),
-            rl_lenient::SegmentValue::Char(c) => SegmentValue::Char(c),
-            rl_lenient::SegmentValue::Byte(byte) => SegmentValue::Byte(byte),
-            rl_lenient::SegmentValue::Nothing => SegmentValue::Nothing,
+            rl_cursors::SegmentValue::Text(text) => SegmentValue::Text(text),
+            rl_cursors::SegmentValue::Char(c) => SegmentValue::Char(c),
+            rl_cursors::SegmentValue::Byte(byte) => SegmentValue::Byte(byte),
+            rl_cursors::SegmentValue::Nothing => SegmentValue::Nothing,
         };
         Segment {
             range: segment.lo..segment.hi,
@@ -87,7 +88,7 @@ pub struct Segments<'t> {
     text: &'t str,
     kind: Kind,
     parts: Body,
-    cursor: rl_lenient::Segments<'t>,
+    cursor: rl_cursors::Segments<'t>,
     // The number of bytes of the value that the returned segments give.
     value_offset: usize,
 }
@@ -100,7 +101,7 @@ impl<'t> Segments<'t> {
             text,
             kind,
             parts,
-            cursor: parts.segments_in(kind, text),
+            cursor: rl_cursors::Segments::of_body(kind, text, &parts),
             value_offset: 0,
         }
     }
@@ -126,7 +127,7 @@ impl Clone for Segments<'_> {
         let lo = self.cursor.next_offset();
         let left = Body { lo, ..self.parts };
         Segments {
-            cursor: left.segments_in(self.kind, self.text),
+            cursor: rl_cursors::Segments::of_body(self.kind, self.text, &left),
             ..*self
         }
     }
@@ -165,12 +166,12 @@ pub struct OffsetMap {
 
 impl OffsetMap {
     #[inline]
-    pub(crate) fn of(mut segments: rl_lenient::Segments<'_>) -> OffsetMap {
+    pub(crate) fn of(mut segments: rl_cursors::Segments<'_>) -> OffsetMap {
         let (mut places, mut at) = (Vec::new(), 0);
         while let Some(segment) = segments.next() {
             let len = segment.value.len();
             if len > 0 {
-                let is_text = matches!(segment.value, rl_lenient::SegmentValue::Text(_));
+                let is_text = matches!(segment.value, rl_cursors::SegmentValue::Text(_));
                 places.push((at, segment.lo..segment.hi, is_text));
             }
             at += len;
@@ -280,8 +281,8 @@ macro_rules! quoted_type {
         impl $name<'_> {
             /// Returns the proved cursor over the literal's segments.
             #[inline]
-            pub(crate) fn cursor(&self) -> $crate::rl_lenient::Segments<'_> {
-                self.parts().segments_in(Self::KIND, &self.text)
+            pub(crate) fn cursor(&self) -> $crate::rl_cursors::Segments<'_> {
+                $crate::rl_cursors::Segments::of_body(Self::KIND, &self.text, &self.parts())
             }
 
             /// Returns the segments between the quotes, with their ranges in the literal's text. A segment is a sequence of plain
@@ -322,7 +323,7 @@ macro_rules! quoted_type {
             #[inline]
             #[must_use]
             pub fn text_range(&self, bytes: core::ops::Range<usize>) -> core::ops::Range<usize> {
-                let (lo, hi) = $crate::rl_lenient::text_range(Self::KIND, &self.text, &self.parts(), bytes.start, bytes.end);
+                let (lo, hi) = $crate::rl_cursors::text_range(Self::KIND, &self.text, &self.parts(), bytes.start, bytes.end);
                 lo..hi
             }
 

@@ -5,7 +5,7 @@ use crate::error::{range_at, SyntaxErrorKind};
 use crate::help::{help_of, Separators};
 use crate::lit::Lit;
 use crate::next_literal::placed;
-use crate::rl_lenient::NextLiteral;
+use crate::rl_cursors::NextLiteral;
 use crate::rl_lexer::{LexError, Tokens};
 use crate::rl_settings::{
     first_error, lexer_error, next_setting, NextSetting, SettingRejection, SettingStep, SyntaxError,

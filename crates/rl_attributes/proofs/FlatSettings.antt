@@ -12,9 +12,9 @@ use Rattle.rl_lexer.specs.Lexemes.{Lexeme, QuotedLexeme, RawLexeme, CharacterLex
 use Rattle.rl_lexer.specs.Cursors.{form_view, CursorState, TakesNext}
 use Rattle.rl_lexer.proofs.CutLemmas.{byte_len-append}
 use Rattle.rl_lenient.specs.declared.found.Found.{Found}
-use Rattle.rl_lenient.specs.declared.next_literals.NextLiteral.{NextLiteral}
+use Rattle.rl_cursors.specs.declared.next_literals.NextLiteral.{NextLiteral}
 use Rattle.rl_lenient.specs.Founds.{IsFound, suffix_in}
-use Rattle.rl_lenient.specs.NextLiterals.{IsLiteralToken, TakesNegative, TakesNextLiteral}
+use Rattle.rl_cursors.specs.NextLiterals.{IsLiteralToken, TakesNegative, TakesNextLiteral}
 use Rattle.rl_settings.specs.declared.settings.NextSetting.{NextSetting}
 use Rattle.rl_settings.specs.SettingSteps.{TakesName, TakesMark, TakesSetting}
 use Rattle.rl_tokens.specs.Puncts.{Mark}

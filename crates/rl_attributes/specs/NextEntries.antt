@@ -3,7 +3,7 @@ use Rattle.std.specs.Prelude.{◌≡◌, ℕ, ◌∷◌, Option, Some, None, str
 use Prim.Native.Char.{code}
 use Rattle.rl_syntax.specs.Texts.{SpannedText}
 use Rattle.rl_lexer.specs.declared.cursor.Lexeme.{Lexeme}
-use Rattle.rl_lenient.specs.declared.next_literals.NextLiteral.{NextLiteral}
+use Rattle.rl_cursors.specs.declared.next_literals.NextLiteral.{NextLiteral}
 use Rattle.rl_settings.specs.declared.settings.NextSetting.{NextSetting}
 use Rattle.rust_literals.specs.Literals.{IsReadFrom}
 use Rattle.rl_attributes.specs.declared.attributes.Entry.{Entry}

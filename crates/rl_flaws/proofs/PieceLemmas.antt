@@ -1,7 +1,7 @@
 -- The valid content of a quoted literal, and its segments.
 use Rattle.rl_flaws.proofs.Names.{◌≡◌, ◌≤◌, ◌+◌, ◌-◌, ℕ, Bool, Bor, true, false, List, [], ◌∷◌, ◌++◌, map, length, length-append, refl, sym, ap, subst, ◌∙◌, inl, inr, arith, and_from, append_cancel_right, append-nil, encodes-chars, flat_map, IsUtf8, IsUtf8-nil, chars-nil, chars, byte_len, is_dropped_blank, Kind, Plain, QuotedUnit, StrictUnit, Itself, QuoteEscape, PlainEscape, AsciiEscape, ByteEscape, UnicodeEscape, LineBreak, strict_text, is_strict_unit, BlanksEnd, BreaksEnd, QuotedForm, CookedForm, RawForm, SingleForm, is_raw_form, IsInsideUpTo, IsLeft, IsSameLiteral, StaysOpen, IsOpened, opened_front, ArePiecesLeft, IsGoodLeft, IsOpenAs, Left, Whole, Inside, Closed, Nothing, Opened, passes_front}
 use Rattle.rl_syntax.proofs.StrictQuoted.{stand_row}
-use Rattle.rl_lenient.specs.Segments.{AreUnitsIn, IsSegmentsState}
+use Rattle.rl_cursors.specs.Segments.{AreUnitsIn, IsSegmentsState}
 
 abbrev pub HasUnitsIn : Kind → Bool → List ℕ → Type 0
 HasUnitsIn kind plain t = (units : List QuotedUnit) × AreUnitsIn kind plain t units

@@ -4,7 +4,7 @@ use Rattle.std.specs.Prelude.{◌≡◌, ◌+◌, ℕ, List, [], ◌++◌, lengt
 use Rattle.std.specs.Str.{chars}
 use Rattle.rl_syntax.specs.Texts.{byte_len}
 use Rattle.rl_syntax.specs.declared.kind.Kind.{Kind}
-use Rattle.rl_lenient.specs.Segments.{HasUnitsLeft, SegmentsState, TakesSegment}
+use Rattle.rl_cursors.specs.Segments.{HasUnitsLeft, SegmentsState, TakesSegment}
 use Rattle.rl_lenient.specs.declared.quoted_forms.QuotedForm.{QuotedForm}
 use Rattle.rl_strict.specs.StrictFlawKinds.{is_raw_form}
 use Rattle.rl_flaws.specs.Flawed.{FlawsState, GivesFlaw}

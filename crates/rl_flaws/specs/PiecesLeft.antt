@@ -1,7 +1,7 @@
 -- The fields of a cursor over pieces, and the state that they represent.
 use Rattle.std.specs.Prelude.{◌≡◌, ◌-◌, ℕ, Bool, List, [], length, Option, ⊤}
 use Rattle.rl_syntax.specs.declared.kind.Kind.{Kind}
-use Rattle.rl_lenient.specs.Segments.{IsSegmentsState, SegmentsState}
+use Rattle.rl_cursors.specs.Segments.{IsSegmentsState, SegmentsState}
 use Rattle.rl_strict.specs.StrictFlawKinds.{is_raw_form}
 use Rattle.rl_strict.specs.declared.line_ends.LineEnds.TheVariants.{Text}
 use Rattle.rl_flaws.specs.Left.{IsLeft, state_of}

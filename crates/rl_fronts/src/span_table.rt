@@ -2,9 +2,9 @@
 
 ghost use Rattle.std.specs.Prelude.{◌≡◌, ◌<◌, ◌≤◌, ◌+◌, ℕ, length, slice_index_or, OnOk, IfOk};
 ghost use Rattle.rl_syntax.specs.Spans.{nowhere};
-ghost use Rattle.rl_lenient.specs.Segments.{IsSpanTable, segment_end, segment_place, span_from, value_bytes};
+ghost use Rattle.rl_cursors.specs.Segments.{IsSpanTable, segment_end, segment_place, span_from, value_bytes};
 
-use rl_lenient::{Segment, Segments};
+use rl_cursors::{Segment, Segments};
 use rl_tokens::Span;
 use std::alloc::{AllocError, Allocator};
 

@@ -23,7 +23,7 @@ pub use Rattle.rl_strict.specs.SignedFlaws
 pub use Rattle.rl_strict.specs.Limits
 pub use Rattle.rl_lenient.specs.Bodies
 pub use Rattle.rl_lenient.specs.Founds
-pub use Rattle.rl_lenient.specs.Segments
-pub use Rattle.rl_lenient.specs.SegmentLaws
-pub use Rattle.rl_lenient.specs.NextLiterals
-pub use Rattle.rl_lenient.specs.SourceLiterals
+pub use Rattle.rl_cursors.specs.Segments
+pub use Rattle.rl_cursors.specs.SegmentLaws
+pub use Rattle.rl_cursors.specs.NextLiterals
+pub use Rattle.rl_cursors.specs.SourceLiterals

@@ -1,8 +1,9 @@
 -- The parse result of a text is computed from the parts of the literal.
-use Rattle.rl_syntax.proofs.Common.{◌≡◌, ℕ, ◌⊎◌, inl, inr, Bool, true, false, List, [], ◌++◌, length, take, drop, refl, sym, ap, ap₂, subst, ◌∙◌, arith, rules, both_ways, append_cancel_right, IsCharBoundary-start, IsUtf8-drop, chars-append, chars-nil, IsUtf8, IsCharBoundary}
+use Rattle.rl_syntax.proofs.Common.{◌≡◌, ℕ, ◌+◌, ◌≤◌, ◌⊎◌, inl, inr, Bool, true, false, List, [], ◌++◌, length, take, drop, refl, sym, ap, ap₂, subst, ◌∙◌, arith, rules, both_ways, append_cancel_right, IsCharBoundary-start, IsUtf8-drop, chars-append, chars-nil, IsUtf8, IsCharBoundary}
 use Rattle.rl_lenient.proofs.Names.{drop-append_seam, Kind, Str, ByteStr, CStr, Byte, Char, Int, Float, BoolKind, IsTail, FloatReads, float_digits, is_string, is_single, Digits, Truth, HasNoInteger, HasSuffix, ReadsAs, ReadsQuoted, quoted_contents, truth_text}
-use Rattle.std.proofs.Common.{◌-◌}
+use Rattle.std.proofs.Common.{◌-◌, length-drop}
 use Rattle.std.proofs.Math.Seq.{take-append_seam}
+use Rattle.std.proofs.lemmas.List.{length-take-le}
 use Rattle.std.proofs.lemmas.Str.{IsCharBoundary-at_seam, IsCharBoundary-end, IsUtf8-between}
 use lib.Seq.{drop-length, take-length}
 use Rattle.std.specs.Str.{chars}
@@ -32,6 +33,18 @@ use Rattle.rl_lenient.proofs.SingleBodies.{unit_reads}
 -- The body of a literal is UTF-8.
 pub body_text : (t : List ℕ) (body : Body) → IsUtf8 t → IsBodyWithin t body → IsUtf8 (body_in t body)
 body_text t body u s = IsUtf8-between t body.lo body.hi u s.ordered s.begins s.ends
+
+-- The length of a literal's body is the difference of its offsets.
+pub body_long : (t : List ℕ) (body : Body) → IsBodyWithin t body → length (body_in t body) + body.lo ≡ body.hi
+body_long t body s =
+    let within : body.hi ≤ length t = s.ends.0 in
+    omega (
+      arith,
+      s.ordered,
+      within,
+      length-take-le (body.hi - body.lo) (drop body.lo t)
+          (omega (arith, within, s.ordered, length-drop body.lo t)),
+    )
 
 pub suffix_text : (t : List ℕ) (body : Body) → IsUtf8 t → IsBodyWithin t body → IsUtf8 (suffix_in t body)
 suffix_text t body u s = IsUtf8-drop t body.suffix_at u s.following

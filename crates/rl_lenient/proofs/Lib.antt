@@ -37,12 +37,6 @@ pub mod FoundLemmas
 pub mod MinusFoundLemmas
 pub mod FoundContents
 pub mod RoomLemmas
-pub mod NextLiteralLemmas
-pub mod SourceLiteralLemmas
-pub mod SegmentValues
-pub mod SegmentLemmas
-pub mod SegmentStarts
-pub mod SegmentLawLemmas
 pub mod OpenerLemmas
 pub mod ValueLemmas
 pub mod Theorems

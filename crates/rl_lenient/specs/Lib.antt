@@ -9,14 +9,9 @@ pub mod WholeShapes
 pub mod StrictBytes
 pub mod Bodies
 pub mod Founds
-pub mod Segments
-pub mod SegmentLaws
-pub mod NextLiterals
-pub mod SourceLiterals
 pub mod Mirrors
 pub mod Laws
 pub mod Values
 pub mod PartMirrors
 pub mod NumberParts
-pub mod Ranges
 pub mod PartLaws

@@ -6,5 +6,4 @@ pub mod Decodes
 pub mod NumberAt
 pub mod OpenerAt
 pub mod PlainAt
-pub mod SegmentAt
 pub mod UnitAt

@@ -259,7 +259,7 @@ pub fn parse_with_added_minus(text: &str) -> Option<Found>
 }
 
 /// Parses the text as a boolean literal. Returns `None` if it is neither `true` nor `false`.
-pub(crate) fn parse_bool_literal(text: &str) -> Option<Found>
+pub fn parse_bool_literal(text: &str) -> Option<Found>
     ensures none { IfNone result (HasNoTruth (chars text.now)) }
     ensures found { IfSome result (IsFound text.now) }
     ensures kind { IfSome result (λ f. f.kind ≡ BoolKind) }

@@ -1,19 +1,16 @@
 //! Functions that return the value of an integer literal with its sign, decode a string literal, and test for a suffix.
 
-ghost use Rattle.std.specs.Prelude.{◌≡◌, ◌≢◌, ◌≤◌, ◌<◌, ◌^◌, [], ℕ, List, IfSome, IfNone, MatchBool, false, length, take, if◌then◌else◌};
+ghost use Rattle.std.specs.Prelude.{◌≡◌, ◌≢◌, ◌≤◌, ◌<◌, ◌^◌, [], ℕ, List, IfSome, IfNone, MatchBool, length, take, if◌then◌else◌};
 ghost use Rattle.std.specs.Str.{chars, IsUtf8};
-ghost use Rattle.rl_syntax.specs.declared.kind.Kind.{Kind as AnyKind};
 ghost use Rattle.rl_syntax.specs.declared.kind.Kind.TheVariants.{Int, Str};
-ghost use Rattle.rl_syntax.specs.Reading.{Characters, Contents, HasNoReading, Reads};
+ghost use Rattle.rl_syntax.specs.Reading.{Characters, Reads};
 ghost use Rattle.rl_syntax.specs.Numbers.{NoSign, Minus};
 ghost use Rattle.rl_lenient.specs.Founds.{IsFound, IsBodyWithin, body_in, suffix_in};
-ghost use Rattle.rl_lenient.specs.Mirrors.NumberAt.{sign_at};
-ghost use Rattle.rl_lenient.specs.Values.{HasIntegerValue, HasNoValue, IsPastSigned, IsReadLiteral, signed, whole_text, with_minus};
+ghost use Rattle.rl_lenient.specs.Values.{HasIntegerValue, HasNoValue, IsPastSigned, signed};
 
 use crate::contents::decode_str_into;
 use crate::digit_runs::is_negative;
 use crate::found::Found;
-use crate::next_literals::NextLiteral;
 use rl_syntax::Kind;
 use rl_syntax::slice_writer::put;
 
@@ -49,7 +46,7 @@ fn number_of(magnitude: u128, negative: bool) -> Option<i128>
 
 /// Returns the value of a parsed integer literal, negative if `negative` is `true`. Returns `None` if the literal isn't
 /// an integer, or its value doesn't fit an `i128`.
-fn number_found(found: &Found, negative: bool) -> Option<i128>
+pub fn number_found(found: &Found, negative: bool) -> Option<i128>
     ensures kind { IfSome result (λ value. found.now.kind ≡ Int) }
     ensures some { IfSome result (λ value. value
         ≡ signed (if negative then Minus else NoSign) found.now.magnitude) }
@@ -101,72 +98,5 @@ impl Found {
         ensures none { IfNone result ((suffix : List ℕ) → HasNoValue (chars text.now) suffix) }
     {
         number_found(self, is_negative(text))
-    }
-}
-
-/// Whether the byte offset `at` is the end of a literal. `text` is the literal's token without its minus. If `minus_at`
-/// is `Some`, a minus precedes the token, and `at` counts from the minus.
-fn ends_at(text: &str, minus_at: Option<usize>, at: usize) -> bool
-    ensures ends { MatchBool result (at ≡ length (with_minus minus_at text.now))
-        (at ≢ length (with_minus minus_at text.now)) }
-    ensures utf8 { IsUtf8 (with_minus minus_at text.now) }
-{
-    match minus_at {
-        Some(_) => at == text.len() + 1,
-        None => at == text.len(),
-    }
-}
-
-impl NextLiteral<'_> {
-    /// Whether the literal is a number after a minus.
-    fn is_minus(&self) -> bool
-        ensures { sign_at (chars (whole_text self.now)) ≡ (if result then Minus else NoSign) }
-    {
-        match self.minus_at {
-            Some(_) => true,
-            None => is_negative(self.token.text),
-        }
-    }
-
-    /// Returns `true` if the literal has a suffix. For a literal token without a parse result, which is invalid, it
-    /// returns `false`.
-    pub fn has_suffix(&self) -> bool
-        requires { IsReadLiteral self.now }
-        ensures reads { (kind : AnyKind) (contents : Contents) (suffix : List ℕ)
-            → Reads (chars (whole_text self.now)) kind contents suffix
-            → MatchBool result (suffix ≢ []) (suffix ≡ []) }
-        ensures unread { HasNoReading (chars (whole_text self.now)) → result ≡ false }
-    {
-        match self.found {
-            Some(found) => !ends_at(self.token.text, self.minus_at, found.body.suffix_at),
-            None => false,
-        }
-    }
-
-    /// Returns the value of an integer literal with its sign, whatever its suffix. Returns `None` for any other
-    /// literal, and for an integer that doesn't fit an `i128`.
-    pub fn signed(&self) -> Option<i128>
-        requires { IsReadLiteral self.now }
-        ensures some { IfSome result
-            (λ value. (suffix : List ℕ) × HasIntegerValue (chars (whole_text self.now)) suffix value) }
-        ensures none { IfNone result ((suffix : List ℕ) → HasNoValue (chars (whole_text self.now)) suffix) }
-    {
-        match self.found {
-            Some(found) => number_found(&found, self.is_minus()),
-            None => None,
-        }
-    }
-
-    /// Returns the value of an integer literal without a suffix, with its sign. Returns `None` for any other literal,
-    /// and for an integer that doesn't fit an `i128`.
-    pub fn value_if_unsuffixed(&self) -> Option<i128>
-        requires { IsReadLiteral self.now }
-        ensures some { IfSome result (HasIntegerValue (chars (whole_text self.now)) []) }
-        ensures none { IfNone result (HasNoValue (chars (whole_text self.now)) []) }
-    {
-        if self.has_suffix() {
-            return None;
-        }
-        self.signed()
     }
 }

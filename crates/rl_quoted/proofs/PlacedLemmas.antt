@@ -5,11 +5,11 @@ use Rattle.std.proofs.Common.{min}
 use Rattle.rl_syntax.specs.declared.span.Span.{Span}
 use Rattle.rl_syntax.specs.Spans.{nowhere, entry_at, mapped_by_byte_spans}
 use Rattle.rl_tokens.specs.Trees.{Tree, Trees, GroupTree, IdentTree, PunctTree, LiteralTree, NoTrees, MoreTrees, all_relocated, all_respanned, relocated, respanned}
-use Rattle.rl_lenient.specs.Segments.{IsByteEnd, IsBytePlace, IsSegmentsOf, IsSpanTable, SegmentsState, begins_in, ends_in, unit_place, span_from, units_bytes}
-use Rattle.rl_lenient.proofs.SegmentLemmas.{place_at_end, unit_span}
-use Rattle.rl_lenient.proofs.SegmentLawLemmas.{end_in_text, place_in_text}
-use Rattle.rl_lenient.proofs.SegmentStarts.{given_in_whole}
-use Rattle.rl_lenient.specs.Ranges.{IsRangeOf}
+use Rattle.rl_cursors.specs.Segments.{IsByteEnd, IsBytePlace, IsSegmentsOf, IsSpanTable, SegmentsState, begins_in, ends_in, unit_place, span_from, units_bytes}
+use Rattle.rl_cursors.proofs.SegmentLemmas.{place_at_end, unit_span}
+use Rattle.rl_cursors.proofs.SegmentLawLemmas.{end_in_text, place_in_text}
+use Rattle.rl_cursors.proofs.SegmentStarts.{given_in_whole}
+use Rattle.rl_cursors.specs.Ranges.{IsRangeOf}
 use Rattle.rl_quoted.specs.declared.inside.Placing.{Placing}
 use Rattle.rl_quoted.specs.declared.inside.Placing.TheVariants.{AtLiteral, InFile}
 use Rattle.rl_quoted.specs.Inside.{AreMoved, AreMovedInside, IsMoved, IsReportedAt}

@@ -8,8 +8,8 @@ use Rattle.rl_syntax.specs.Written.{IsWrittenForm}
 use Rattle.rl_lenient.specs.declared.found.Body.{Body}
 use Rattle.rl_lenient.specs.Decoded.{in_bytes}
 use Rattle.rl_lenient.specs.Founds.{IsQuotedAt, IsBodyWithin, is_quoted, suffix_in}
-use Rattle.rl_lenient.specs.Ranges.{IsRangeOf}
-use Rattle.rl_lenient.specs.Segments.{span_from}
+use Rattle.rl_cursors.specs.Ranges.{IsRangeOf}
+use Rattle.rl_cursors.specs.Segments.{span_from}
 use Rattle.rl_lenient.specs.WholeShapes.{IsPlain}
 use Rattle.rl_syntax.specs.declared.span.Span.{Span}
 use Rattle.rl_syntax.specs.Texts.{SpannedText}

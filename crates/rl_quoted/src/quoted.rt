@@ -17,16 +17,17 @@ ghost use Rattle.rl_tokens.specs.Trees.{LiteralTree, stream_view};
 ghost use Rattle.rl_syntax.specs.Quoted.{is_single, is_string};
 ghost use Rattle.rl_lenient.specs.Bodies.{HasBody, HasSingleBody};
 ghost use Rattle.rl_lenient.specs.Founds.{IsFound, is_quoted};
-ghost use Rattle.rl_lenient.specs.Segments.{IsByteEnd, IsBytePlace, IsSegmentsOf};
+ghost use Rattle.rl_cursors.specs.Segments.{IsByteEnd, IsBytePlace, IsSegmentsOf};
 ghost use Rattle.rl_lenient.specs.WholeShapes.{IsPlain};
 ghost use Rattle.rl_quoted.specs.Places.{IsSpanOf, IsWrittenAs, HasPartsAt};
-ghost use Rattle.rl_lenient.specs.Ranges.{IsRangeOf};
+ghost use Rattle.rl_cursors.specs.Ranges.{IsRangeOf};
 ghost use Rattle.rl_quoted.specs.Suffixes.{HasSomeSuffix};
 ghost use Rattle.rl_syntax.specs.Words.{kind_name};
 
 use crate::written::written_body;
+use rl_cursors::{Segments, text_range};
 use rl_fronts::{begins_with_kind, take_literal_of_kind};
-use rl_lenient::{Body, Found, Segments, byte_of_body, char_of_body, parse_literal, text_range};
+use rl_lenient::{Body, Found, byte_of_body, char_of_body, parse_literal};
 use rl_syntax::Kind;
 use rl_tokens::{
     Error, Literal, Parse, ParseBuffer, Span, ToTokens, Token, TokenStream, append_literal,
@@ -175,7 +176,7 @@ impl<K: QuotedKind, A: Allocator> Quoted<K, A> {
         ensures segments { IsSegmentsOf K.KIND (chars self.now.text) result }
         ensures within { result.at + length result.rest ≤ length self.now.text }
     {
-        self.body.segments_in(K::KIND, self.token.text())
+        Segments::of_body(K::KIND, self.token.text(), &self.body)
     }
 
     /// Returns the byte offset in the literal's text from which the byte at the offset `at` of the decoded value comes:

@@ -7,7 +7,7 @@ use Rattle.rl_syntax.specs.Texts.{IsTail, begins, first_passes}
 use Rattle.rl_lexer.specs.Sources.{SourceKind, SourceBefore, IsLiteralText}
 use Rattle.rl_lenient.specs.declared.found.Found.{Found}
 use Rattle.rl_lenient.specs.Founds.{IsFound}
-use Rattle.rl_lenient.specs.NextLiterals.{FindsReading}
+use Rattle.rl_cursors.specs.NextLiterals.{FindsReading}
 use Rattle.rl_recovery.specs.declared.leading.LeadingLiteral.{LeadingLiteral}
 
 -- The first token of the text is the literal `l`: a literal token, `true` or `false`.

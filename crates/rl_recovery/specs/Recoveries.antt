@@ -7,9 +7,9 @@ use Rattle.rl_lexer.specs.Cursors.{CursorState, IsCursorState}
 use Rattle.rl_lexer.specs.Sources.{IsCutUpTo, PassesTo, TakesLiteralAfter, SourceErrorAt}
 use Rattle.rl_lexer.specs.declared.lex_error.LexError.{LexError}
 use Rattle.rl_lexer.specs.declared.sources.SourceToken.{SourceToken}
-use Rattle.rl_lenient.specs.NextLiterals.{FindsReading}
-use Rattle.rl_lenient.specs.declared.source_literals.SourceStep.{SourceStep}
-use Rattle.rl_lenient.specs.declared.source_literals.SourceStep.TheVariants.{End, Literal, Rejected}
+use Rattle.rl_cursors.specs.NextLiterals.{FindsReading}
+use Rattle.rl_cursors.specs.declared.source_literals.SourceStep.{SourceStep}
+use Rattle.rl_cursors.specs.declared.source_literals.SourceStep.TheVariants.{End, Literal, Rejected}
 
 -- The state of a cursor over a source: the whole text, in bytes, and the part of the text from the position at which lexing
 -- last resumed. The part is lexed as a source of its own.

@@ -10,7 +10,8 @@ ghost use Rattle.rl_recovery.specs.Mirrors.Closing.{AreUnclosed};
 
 use crate::lines::lines_after;
 use crate::unclosed::Unclosed;
-use rl_lenient::{SourceStep, parse_literal};
+use rl_cursors::SourceStep;
+use rl_lenient::parse_literal;
 use rl_lexer::{LexError, SourceToken, Sources, source_error_kind};
 use std::marker::Model;
 

@@ -5,9 +5,9 @@ use Rattle.rl_lexer.specs.Cursors.{CursorState, form_view}
 use Rattle.rl_lexer.specs.Lexemes.{LexemeForm, LiteralForm, IdentifierForm, DelimiterForm, MarkForm}
 use Rattle.rl_lexer.specs.Skipping.{Skipped}
 use Rattle.rl_lenient.specs.declared.found.Found.{Found}
-use Rattle.rl_lenient.specs.declared.next_literals.NextLiteral.{NextLiteral}
+use Rattle.rl_cursors.specs.declared.next_literals.NextLiteral.{NextLiteral}
 use Rattle.rl_lenient.specs.Founds.{IsFound}
-use Rattle.rl_lenient.specs.NextLiterals.{TakesNextLiteral, IsLiteralToken}
+use Rattle.rl_cursors.specs.NextLiterals.{TakesNextLiteral, IsLiteralToken}
 use Rattle.rl_settings.specs.declared.entries.DottedName.{DottedName}
 use Rattle.rl_settings.specs.declared.entries.NextEntry.{NextEntry}
 use Rattle.rl_settings.specs.declared.entries.EntryRejection.{EntryRejection}

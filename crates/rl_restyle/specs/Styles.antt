@@ -4,7 +4,7 @@ use denote.Ref.{Bor}
 use Rattle.std.specs.Str.{chars}
 use Rattle.rl_lexer.specs.Cursors.{CursorState}
 use Rattle.rl_lexer.specs.Skipping.{Skipped}
-use Rattle.rl_lenient.specs.declared.next_literals.NextLiteral.{NextLiteral}
+use Rattle.rl_cursors.specs.declared.next_literals.NextLiteral.{NextLiteral}
 use Rattle.rl_settings.specs.declared.entries.DottedName.{DottedName}
 use Rattle.rl_settings.specs.declared.entries.NextEntry.{NextEntry}
 use Rattle.rl_settings.specs.declared.entries.EntryRejection.{EntryRejection}

@@ -9,7 +9,7 @@ use crate::rule::{expected_of, rule_of};
 use crate::style_error::{StyleError, StyleErrorKind};
 use crate::value::value_of;
 use crate::values::Values;
-use rl_lenient::NextLiteral;
+use rl_cursors::NextLiteral;
 use rl_lexer::Tokens;
 use rl_settings::{DottedName, EntryRejection, EntryStep, NextEntry, next_config_entry};
 use rl_style::{Case, Style};

@@ -4,7 +4,7 @@ ghost use Rattle.std.specs.Prelude.{◌≡◌, option_map};
 ghost use Rattle.rl_restyle.specs.Values.{word_of as word_in, size_of as size_in, truth_word, case_word, separator_word, value_of as value_in, IsOfText};
 
 use crate::style_error::Expected;
-use rl_lenient::NextLiteral;
+use rl_cursors::NextLiteral;
 use rl_style::{Case, Separator};
 use rl_syntax::Kind;
 

@@ -6,8 +6,8 @@ use Prim.Native.Char.{code}
 use Rattle.rl_lexer.specs.declared.cursor.Lexeme.{Lexeme}
 use Rattle.rl_lexer.specs.Cursors.{CursorState, TakesNext, form_view}
 use Rattle.rl_lexer.specs.Lexemes.{LexemeForm, MarkForm}
-use Rattle.rl_lenient.specs.declared.next_literals.NextLiteral.{NextLiteral}
-use Rattle.rl_lenient.specs.NextLiterals.{TakesNextLiteral}
+use Rattle.rl_cursors.specs.declared.next_literals.NextLiteral.{NextLiteral}
+use Rattle.rl_cursors.specs.NextLiterals.{TakesNextLiteral}
 use Rattle.rl_settings.specs.declared.syntax_error.Part.TheVariants.{Name, Equals, Comma}
 use Rattle.rl_settings.specs.declared.syntax_error.SyntaxError.{SyntaxError}
 use Rattle.rl_settings.specs.declared.entries.DottedName.{DottedName}

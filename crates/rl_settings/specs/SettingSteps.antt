@@ -7,8 +7,8 @@ use Rattle.rl_lexer.specs.declared.lex_error.LexKind.{LexKind}
 use Rattle.rl_lexer.specs.Cursors.{CursorState, TakesNext, form_view}
 use Rattle.rl_lexer.specs.Lexemes.{LexemeForm, IdentifierForm, DelimiterForm, MarkForm}
 use Rattle.rl_lexer.specs.Cuts.{BeginsNoLexeme, OpenGroup, ErrorAt, is_opener}
-use Rattle.rl_lenient.specs.declared.next_literals.NextLiteral.{NextLiteral}
-use Rattle.rl_lenient.specs.NextLiterals.{TakesNextLiteral, HasNoNextLiteral}
+use Rattle.rl_cursors.specs.declared.next_literals.NextLiteral.{NextLiteral}
+use Rattle.rl_cursors.specs.NextLiterals.{TakesNextLiteral, HasNoNextLiteral}
 use Rattle.rl_settings.specs.declared.syntax_error.Part.{Part}
 use Rattle.rl_settings.specs.declared.syntax_error.Part.TheVariants.{Name, Equals, Literal, Comma}
 use Rattle.rl_settings.specs.declared.syntax_error.SyntaxErrorKind.TheVariants.{Expected, EndOfInput}

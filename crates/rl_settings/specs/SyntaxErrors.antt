@@ -3,8 +3,8 @@ use Rattle.std.specs.Prelude.{ℕ, ◌==◌, List, [], ◌∷◌, ◌++◌, code
 use Prim.Native.Char.{code}
 use Rattle.rl_lexer.specs.declared.lex_error.LexKind.{LexKind}
 use Rattle.rl_lexer.specs.declared.lex_error.LexKind.TheVariants as lex
-use Rattle.rl_lenient.specs.declared.next_literals.RejectionKind.{RejectionKind}
-use Rattle.rl_lenient.specs.declared.next_literals.RejectionKind.TheVariants as list
+use Rattle.rl_cursors.specs.declared.next_literals.RejectionKind.{RejectionKind}
+use Rattle.rl_cursors.specs.declared.next_literals.RejectionKind.TheVariants as list
 use Rattle.rl_settings.specs.declared.syntax_error.Part.{Part}
 use Rattle.rl_settings.specs.declared.syntax_error.Part.TheVariants.{Name, Equals, Literal, Comma}
 use Rattle.rl_settings.specs.declared.syntax_error.SyntaxErrorKind.{SyntaxErrorKind}

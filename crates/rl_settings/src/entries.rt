@@ -23,7 +23,7 @@ ghost use Rattle.rl_settings.specs.EntrySteps.{
 
 use crate::settings::{is_mark, missed, take_literal, take_mark, take_name};
 use crate::syntax_error::{Part, SyntaxError};
-use rl_lenient::NextLiteral;
+use rl_cursors::NextLiteral;
 use rl_lexer::{Lexeme, Tokens};
 
 /// The name of a configuration entry: an identifier, or several identifiers with dots between them, as `server.port`. Neither

@@ -3,7 +3,7 @@
 ghost use Rattle.std.specs.Prelude.{◌≡◌, ◌≢◌, ◌<◌, ◌≤◌, length, IfOk, IfErr, OnOk, MatchBool};
 ghost use Rattle.rl_lexer.specs.Cursors.{form_view};
 ghost use Rattle.rl_lexer.specs.Lexemes.{MarkForm};
-ghost use Rattle.rl_lenient.specs.NextLiterals.{TakesNextLiteral};
+ghost use Rattle.rl_cursors.specs.NextLiterals.{TakesNextLiteral};
 ghost use Rattle.rl_settings.specs.SettingSteps.{
   TakesName,
   TakesMark,
@@ -23,7 +23,7 @@ ghost use Rattle.rl_settings.specs.SettingSteps.{
 };
 
 use crate::syntax_error::{Part, SyntaxError, SyntaxErrorKind, lexer_error};
-use rl_lenient::{NextLiteral, next_literal};
+use rl_cursors::{NextLiteral, next_literal};
 use rl_lexer::{Form, Lexeme, Tokens};
 
 /// A setting that was consumed from a text: a name, `=` and a literal.

@@ -3,10 +3,10 @@
 ghost use Rattle.std.specs.Prelude.{◌≡◌, ◌≢◌, Some};
 ghost use Rattle.std.specs.Fmt.{padded};
 ghost use Rattle.rl_lexer.specs.declared.lex_error.LexKind.TheVariants.{Memory};
-ghost use Rattle.rl_lenient.specs.declared.next_literals.RejectionKind.TheVariants.{Lex};
+ghost use Rattle.rl_cursors.specs.declared.next_literals.RejectionKind.TheVariants.{Lex};
 ghost use Rattle.rl_settings.specs.SyntaxErrors.{part_words, expected_message, ended_message, syntax_message, of_lexer, of_list};
 
-use rl_lenient::RejectionKind;
+use rl_cursors::RejectionKind;
 use rl_lexer::LexKind;
 use std::fmt;
 

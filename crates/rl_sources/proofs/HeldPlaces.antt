@@ -9,10 +9,10 @@ use Rattle.rl_syntax.specs.Texts.{byte_len}
 use Rattle.rl_lenient.proofs.Names.{BoolKind, Byte, ByteStr, CStr, Char, Continuation, CrLf, Float, Hex, Int, Kind, Named, Plain, QuotedUnit, Str, Unicode, opener, raw_opener, texts, unit_text, unit_value, values, Cooked, Raw, Single, HasContents, ReadsQuoted, quoted_contents}
 use Rattle.rl_lenient.proofs.ContentLemmas.{held_in_bytes, in_bytes_append, nothing_in_bytes}
 use Rattle.rl_lenient.proofs.FrontLenLemmas.{byte_len_ascii, hashes_long}
-use Rattle.rl_lenient.proofs.SegmentLemmas.{run_bytes, run_texts, tested}
-use Rattle.rl_lenient.proofs.SegmentStarts.{quoted_kind, quoted_reads_as}
+use Rattle.rl_cursors.proofs.SegmentLemmas.{run_bytes, run_texts, tested}
+use Rattle.rl_cursors.proofs.SegmentStarts.{quoted_kind, quoted_reads_as}
 use Rattle.rl_lenient.specs.Decoded.{in_bytes}
-use Rattle.rl_lenient.specs.Segments.{AreUnitsOf, IsBytePlace, begins_in, is_itself, unit_bytes, unit_place, units_bytes}
+use Rattle.rl_cursors.specs.Segments.{AreUnitsOf, IsBytePlace, begins_in, is_itself, unit_bytes, unit_place, units_bytes}
 use Rattle.std.specs.Char.{to_ascii_lowercase}
 use Rattle.rl_output.specs.declared.choice.Matching.{Matching}
 use Rattle.rl_sources.specs.Held.{AreContentsOf, IsCutAt}

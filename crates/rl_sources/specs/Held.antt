@@ -5,7 +5,7 @@ use Rattle.rl_syntax.specs.Texts.{byte_len}
 use Rattle.rl_syntax.specs.declared.kind.Kind.{Kind}
 use Rattle.rl_syntax.specs.Reading.{HasContents, quoted_contents}
 use Rattle.rl_lenient.specs.Decoded.{in_bytes}
-use Rattle.rl_lenient.specs.Segments.{IsBytePlace, IsByteEnd}
+use Rattle.rl_cursors.specs.Segments.{IsBytePlace, IsByteEnd}
 use Rattle.rl_output.specs.Matches.{FirstMatchAt, MatchesAt}
 use Rattle.rl_output.specs.declared.choice.Matching.{Matching}
 

@@ -7,10 +7,11 @@ ghost use Rattle.rl_syntax.specs.Quoted.{is_string, is_single};
 ghost use Rattle.rl_syntax.specs.declared.kind.Kind.TheVariants.{Str, ByteStr, CStr, Byte, Char};
 ghost use Rattle.rl_syntax.specs.Reading.{HasNoReading};
 ghost use Rattle.rl_lenient.specs.Founds.{IsFound, is_quoted};
-ghost use Rattle.rl_lenient.specs.Segments.{IsBytePlace, IsByteEnd};
+ghost use Rattle.rl_cursors.specs.Segments.{IsBytePlace, IsByteEnd};
 ghost use Rattle.rl_sources.specs.Held.{AreContentsOf, Holds, IsCutAt, IsFirstHeld, IsHeldAt, first_range as earlier};
 ghost use Rattle.rl_files.specs.Globs.{borrowed_texts};
 
+use rl_cursors::Segments;
 use rl_fronts::{bytes_of_body, str_of_body};
 use rl_lenient::Found;
 use rl_output::{Matching, first_in};
@@ -117,11 +118,8 @@ fn matched_range(text: &str, found: &Found, first: usize, last: usize) -> (usize
     ensures begins { IsBytePlace found.now.kind (chars text.now) first result.0 }
     ensures ends { IsByteEnd found.now.kind (chars text.now) last result.1 }
 {
-    let lo = found.body.segments_in(found.kind, text).text_offset(first);
-    let hi = found
-        .body
-        .segments_in(found.kind, text)
-        .text_offset_after(last);
+    let lo = Segments::of_body(found.kind, text, &found.body).text_offset(first);
+    let hi = Segments::of_body(found.kind, text, &found.body).text_offset_after(last);
     (lo, hi)
 }
 

@@ -2,6 +2,7 @@
 //! crate. The contracts use only definitions of the libraries and of std. Only the example of `rl_style` needs a proof file.
 
 pub mod attributes;
+pub mod cursors;
 pub mod grammar;
 pub mod lenient;
 pub mod literals;

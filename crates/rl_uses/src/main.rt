@@ -1,7 +1,7 @@
 //! Small programs that use the libraries, each with its contract: parsers of an attribute, of a number, of a server's
 //! and a mount's settings, of a path, of a list of literals and of a sum of products; two linters, a formatter,
 //! functions that rewrite a string as a raw one or digits in upper case, and a count of the literals of a text. The
-//! crate's main function prints a server's settings.
+//! crate's main function prints a server's settings. Its tests are a `#[test]` of each library for callers.
 #![tactic(auto)]
 
 mod attribute;
@@ -19,6 +19,8 @@ mod rewrite;
 mod server;
 mod setting;
 mod sum;
+#[cfg(test)]
+mod tests;
 mod upper;
 
 pub use crate::attribute::{Attribute, read_attribute};

@@ -4,7 +4,7 @@ ghost use Rattle.std.specs.Prelude.{◌≡◌, ◌<◌, IfOk, IfSome, IsTrue, Is
 ghost use Rattle.rl_uses.specs.Sums.{Tree, IsProduct, IsSum, IsExpression, TakesInteger, TakesOperator, eval};
 ghost use Rattle.rl_lexer.specs.Cursors.{CursorState};
 
-use rl_lenient::next_literal;
+use rl_cursors::next_literal;
 use rl_lexer::{Form, Tokens};
 
 /// The reason why a text isn't a sum of products of integers, or has no value of 64 bits.

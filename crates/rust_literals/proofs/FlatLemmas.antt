@@ -20,7 +20,7 @@ use Rattle.rust_literals.specs.declared.lit.Lit.{Lit}
 use Rattle.rust_literals.specs.declared.lit.Lit.TheVariants.{Bool as BoolLit}
 use Rattle.rust_literals.specs.Literals.{IsReadFrom}
 use Rattle.rust_literals.specs.Parsing.{ReadsLiterals, AreRead}
-use Rattle.rl_lenient.specs.NextLiterals.{BeginsNone, HasNoNumber, HasNoNextLiteral}
+use Rattle.rl_cursors.specs.NextLiterals.{BeginsNone, HasNoNumber, HasNoNextLiteral}
 use Rattle.rust_literals.specs.Flat.{IsNoGroup, LexesTreesUpTo, ReadsNext, AddsNext, AreReadUpTo}
 use Rattle.rl_tokens.proofs.LexLaws.{one_list}
 use Rattle.rust_literals.proofs.LitLemmas.{read_truth}

@@ -21,7 +21,7 @@ ghost use Rattle.std.specs.Str.{chars};
 ghost use Rattle.rl_syntax.specs.Reading.{HasReading, HasNoReading};
 ghost use Rattle.rust_literals.specs.Literals.{IsReadFrom};
 ghost use Rattle.rust_literals.specs.Parsing.{AreRead};
-ghost use Rattle.rl_lenient.specs.NextLiterals.{HasNoNextLiteral};
+ghost use Rattle.rl_cursors.specs.NextLiterals.{HasNoNextLiteral};
 ghost use Rattle.rust_literals.specs.Flat.{ReadsNext, AddsNext, AreBegun};
 
 use crate::lit::Lit;

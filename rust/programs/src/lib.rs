@@ -12,7 +12,8 @@ mod proved;
 pub mod rattle_std;
 
 use navyspindle::rendered::{
-    rl_flaws, rl_lenient, rl_lexer, rl_settings, rl_strict, rl_style, rl_syntax, rl_writing,
+    rl_cursors, rl_flaws, rl_lenient, rl_lexer, rl_settings, rl_strict, rl_style, rl_syntax,
+    rl_writing,
 };
 #[cfg(not(feature = "__rendered"))]
 use proved::{

@@ -1,6 +1,7 @@
 // Rendered from crates.txt by tools/render: change that file, and render again.
 //! The crates of the core as `tools/render` writes them: their functions without the contracts.
 
+pub mod rl_cursors;
 #[cfg(feature = "flaws")]
 pub mod rl_flaws;
 pub mod rl_lenient;

@@ -9,7 +9,8 @@ pub mod texts;
 include!(concat!(env!("OUT_DIR"), "/modules.rs"));
 
 use navyspindle::rendered::{
-    rl_lenient, rl_lexer, rl_recovery, rl_settings, rl_strict, rl_style, rl_syntax, rl_writing,
+    rl_cursors, rl_lenient, rl_lexer, rl_recovery, rl_settings, rl_strict, rl_style, rl_syntax,
+    rl_writing,
 };
 use navyspindle_programs::{
     rattle_std, rl_attributes, rl_commands, rl_grammar, rl_program, rl_quoted, rl_sources,

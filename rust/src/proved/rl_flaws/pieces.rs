@@ -4,8 +4,8 @@
 use crate::rl_flaws::flaws::{Left, next_flaw, next_flaw_inside};
 use crate::rl_flaws::invalid_piece::InvalidPiece;
 use crate::rl_flaws::walks::split_opening_delimiter;
+use crate::rl_cursors::{Segment, split_segment};
 use crate::rl_lenient::quoted_forms::QuotedForm;
-use crate::rl_lenient::{Segment, split_segment};
 use crate::rl_strict::LineEnds;
 use crate::rl_syntax::Kind;
 

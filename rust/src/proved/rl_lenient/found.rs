@@ -194,7 +194,7 @@ pub fn parse_with_added_minus(text: &str) -> Option<Found> {
 
 /// Parses the text as a boolean literal. Returns `None` if it is neither `true` nor `false`.
 #[inline]
-pub(crate) fn parse_bool_literal(text: &str) -> Option<Found> {
+pub fn parse_bool_literal(text: &str) -> Option<Found> {
     let truth = bool_of(text)?;
     Some(Found {
         kind: Kind::Bool,

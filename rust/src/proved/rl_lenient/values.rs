@@ -4,7 +4,6 @@
 use crate::rl_lenient::contents::decode_str_into;
 use crate::rl_lenient::digit_runs::is_negative;
 use crate::rl_lenient::found::Found;
-use crate::rl_lenient::next_literals::NextLiteral;
 use crate::rl_syntax::Kind;
 use crate::rl_syntax::slice_writer::put;
 
@@ -33,7 +32,7 @@ fn number_of(magnitude: u128, negative: bool) -> Option<i128> {
 
 /// Returns the value of a parsed integer literal, negative if `negative` is `true`. Returns `None` if the literal isn't
 /// an integer, or its value doesn't fit an `i128`.
-fn number_found(found: &Found, negative: bool) -> Option<i128> {
+pub fn number_found(found: &Found, negative: bool) -> Option<i128> {
     if found.kind != Kind::Int {
         return None;
     }
@@ -61,51 +60,5 @@ impl Found {
     /// literal, and for an integer that doesn't fit an `i128`. `text` must be the literal's text, which was parsed.
     pub fn signed(&self, text: &str) -> Option<i128> {
         number_found(self, is_negative(text))
-    }
-}
-
-/// Whether the byte offset `at` is the end of a literal. `text` is the literal's token without its minus. If `minus_at`
-/// is `Some`, a minus precedes the token, and `at` counts from the minus.
-fn ends_at(text: &str, minus_at: Option<usize>, at: usize) -> bool {
-    match minus_at {
-        Some(_) => at == text.len() + 1,
-        None => at == text.len(),
-    }
-}
-
-impl NextLiteral<'_> {
-    /// Whether the literal is a number after a minus.
-    fn is_minus(&self) -> bool {
-        match self.minus_at {
-            Some(_) => true,
-            None => is_negative(self.token.text),
-        }
-    }
-
-    /// Returns `true` if the literal has a suffix. For a literal token without a parse result, which is invalid, it
-    /// returns `false`.
-    pub fn has_suffix(&self) -> bool {
-        match self.found {
-            Some(found) => !ends_at(self.token.text, self.minus_at, found.body.suffix_at),
-            None => false,
-        }
-    }
-
-    /// Returns the value of an integer literal with its sign, whatever its suffix. Returns `None` for any other
-    /// literal, and for an integer that doesn't fit an `i128`.
-    pub fn signed(&self) -> Option<i128> {
-        match self.found {
-            Some(found) => number_found(&found, self.is_minus()),
-            None => None,
-        }
-    }
-
-    /// Returns the value of an integer literal without a suffix, with its sign. Returns `None` for any other literal,
-    /// and for an integer that doesn't fit an `i128`.
-    pub fn value_if_unsuffixed(&self) -> Option<i128> {
-        if self.has_suffix() {
-            return None;
-        }
-        self.signed()
     }
 }

@@ -3,7 +3,8 @@
 
 use crate::rl_recovery::lines::lines_after;
 use crate::rl_recovery::unclosed::Unclosed;
-use crate::rl_lenient::{SourceStep, parse_literal};
+use crate::rl_cursors::SourceStep;
+use crate::rl_lenient::parse_literal;
 use crate::rl_lexer::{LexError, SourceToken, Sources, source_error_kind};
 
 /// Consumes tokens up to the next literal and returns it, as [`Sources::next_literal`] does. Returns `None` if the end or the

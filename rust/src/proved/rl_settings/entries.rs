@@ -3,7 +3,7 @@
 
 use crate::rl_settings::settings::{is_mark, missed, take_literal, take_mark, take_name};
 use crate::rl_settings::syntax_error::{Part, SyntaxError};
-use crate::rl_lenient::NextLiteral;
+use crate::rl_cursors::NextLiteral;
 use crate::rl_lexer::{Lexeme, Tokens};
 
 /// The name of a configuration entry: an identifier, or several identifiers with dots between them, as `server.port`. Neither

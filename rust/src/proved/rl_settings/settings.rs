@@ -2,7 +2,7 @@
 //! Reads the next setting of a text, or the error at its position.
 
 use crate::rl_settings::syntax_error::{Part, SyntaxError, SyntaxErrorKind, lexer_error};
-use crate::rl_lenient::{NextLiteral, next_literal};
+use crate::rl_cursors::{NextLiteral, next_literal};
 use crate::rl_lexer::{Form, Lexeme, Tokens};
 
 /// A setting that was consumed from a text: a name, `=` and a literal.

@@ -1,7 +1,7 @@
 // Rendered from crates/rl_settings/src/syntax_error.rt by tools/render, which erases contracts: change that file, and render again.
 //! The errors of a text of literals, of settings, or of a source.
 
-use crate::rl_lenient::RejectionKind;
+use crate::rl_cursors::RejectionKind;
 use crate::rl_lexer::LexKind;
 use core::fmt;
 

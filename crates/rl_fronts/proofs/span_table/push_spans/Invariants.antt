@@ -1,6 +1,6 @@
 use Rattle.rl_syntax.proofs.Common.{◌≡◌, ℕ, ◌+◌, ◌<◌, length, get_or}
 use Rattle.rl_syntax.specs.Spans.{nowhere}
-use Rattle.rl_lenient.specs.Segments.{segment_end, segment_place, span_from}
+use Rattle.rl_cursors.specs.Segments.{segment_end, segment_place, span_from}
 use Rattle.rl_fronts.proofs.span_table.push_spans.Given as goal
 
 abbrev pub invariant-loop-i : goal.invariant-loop-i

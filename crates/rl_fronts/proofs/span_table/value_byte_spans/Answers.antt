@@ -1,6 +1,6 @@
 use Rattle.rl_syntax.proofs.Common.{◌≡◌, ◌<◌, ◌∙◌, [], ◌∷◌, ◌++◌, ap, arith, rules}
-use Rattle.rl_lenient.specs.Segments.{SegmentsState, span_from}
-use Rattle.rl_lenient.proofs.SegmentLemmas.{place_below, segment_fits, tabled_all, tabled_more}
+use Rattle.rl_cursors.specs.Segments.{SegmentsState, span_from}
+use Rattle.rl_cursors.proofs.SegmentLemmas.{place_below, segment_fits, tabled_all, tabled_more}
 use Rattle.rl_fronts.proofs.span_table.value_byte_spans.Goals as goal
 
 pub push_spans-requires-clause-within : goal.push_spans-requires-clause-within

@@ -1,5 +1,5 @@
 use Rattle.rl_syntax.proofs.Common.{length}
-use Rattle.rl_lenient.proofs.SegmentLemmas.{IsTabled}
+use Rattle.rl_cursors.proofs.SegmentLemmas.{IsTabled}
 use Rattle.rl_fronts.proofs.span_table.value_byte_spans.Given as goal
 
 abbrev pub invariant-loop-segment : goal.invariant-loop-segment

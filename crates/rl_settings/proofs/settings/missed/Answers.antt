@@ -1,5 +1,5 @@
 use Rattle.rl_syntax.proofs.Common.{chars}
-use Rattle.rl_lenient.proofs.NextLiteralLemmas.{nothing_else}
+use Rattle.rl_cursors.proofs.NextLiteralLemmas.{nothing_else}
 use Rattle.rl_settings.proofs.SettingLemmas.{no_memory, some_rest}
 use Rattle.rl_settings.proofs.settings.missed.Goals as goal
 

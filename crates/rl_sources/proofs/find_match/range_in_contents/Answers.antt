@@ -1,5 +1,5 @@
 use Rattle.rl_syntax.proofs.Common.{chars}
-use Rattle.rl_lenient.proofs.SegmentLawLemmas.{end_in_text}
+use Rattle.rl_cursors.proofs.SegmentLawLemmas.{end_in_text}
 use Rattle.rl_sources.proofs.HeldLemmas.{holds_none}
 use Rattle.rl_sources.proofs.HeldPlaces.{held_cut}
 use Rattle.rl_output.proofs.SearchLemmas.{match_fits}

@@ -1,5 +1,5 @@
 use Rattle.rl_syntax.proofs.Common.{arith, common_steps, subst}
-use Rattle.rl_lenient.specs.NextLiterals.{HasNoNextLiteral}
+use Rattle.rl_cursors.specs.NextLiterals.{HasNoNextLiteral}
 use Rattle.rust_literals.proofs.FlatLemmas.{no_some}
 use Rattle.rust_literals.proofs.flat.push_leading_literal.Goals as goal
 

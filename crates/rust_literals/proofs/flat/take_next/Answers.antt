@@ -5,7 +5,7 @@ use Rattle.rl_lexer.specs.Lexemes.{MarkForm}
 use Rattle.rust_literals.specs.declared.lit.Lit.TheVariants.{Bool as BoolLit}
 use Rattle.rust_literals.specs.Literals.{IsReadFrom}
 use Rattle.rust_literals.proofs.FlatLemmas.{literal_next, truth_next, joined_at, read_negative, none_number, none_word, no_some, the_some, when_some}
-use Rattle.rl_lenient.proofs.NextLiteralLemmas.{no_number, other_form}
+use Rattle.rl_cursors.proofs.NextLiteralLemmas.{no_number, other_form}
 use Rattle.rust_literals.proofs.flat.take_next.Goals as goal
 
 pub returns-in_default-form-2 : goal.returns-in_default-form-2

@@ -6,6 +6,7 @@ use navyspindle_programs::rattle_std::alloc::Global;
 use navyspindle_programs::rl_grammar::{next_literal, parse_literal};
 use navyspindle_programs::rl_tokens::{parse_all, ParseBuffer, Span, Tokens};
 use navyspindle_programs::rust_literals::read_all;
+use navyspindle_rows::rl_uses::callers::cursors::skip_literal;
 use navyspindle_rows::rl_uses::callers::grammar::string_lit_value;
 use navyspindle_rows::rl_uses::callers::lenient::integer_literal_value;
 use navyspindle_rows::rl_uses::callers::literals::literal_count;
@@ -319,6 +320,8 @@ fn examples() {
             string_lit_value(Global, "5");
             integer_literal_value("-0x1F");
             integer_literal_value("1u8");
+            skip_literal(&mut Tokens::new("-1, a"));
+            skip_literal(&mut Tokens::new("a 1"));
             literal_count(Global, "1 \"a\" // two");
             literal_at_start("1.5, 2");
             literal_at_start("a");

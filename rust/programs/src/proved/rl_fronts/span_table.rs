@@ -2,7 +2,7 @@
 //! A table of the spans from which the bytes of a quoted literal's decoded value come.
 
 use crate::rattle_std::prelude::{Vec};
-use crate::rl_lenient::{Segment, Segments};
+use crate::rl_cursors::{Segment, Segments};
 use crate::rl_tokens::Span;
 use crate::rattle_std::alloc::{AllocError, Allocator};
 

@@ -3,8 +3,9 @@
 //! of the parts of its text.
 
 use crate::rl_quoted::written::written_body;
+use crate::rl_cursors::{Segments, text_range};
 use crate::rl_fronts::{begins_with_kind, take_literal_of_kind};
-use crate::rl_lenient::{Body, Found, Segments, byte_of_body, char_of_body, parse_literal, text_range};
+use crate::rl_lenient::{Body, Found, byte_of_body, char_of_body, parse_literal};
 use crate::rl_syntax::Kind;
 use crate::rl_tokens::{
     Error, Literal, Parse, ParseBuffer, Span, ToTokens, Token, TokenStream, append_literal,
@@ -105,7 +106,7 @@ impl<K: QuotedKind, A: Allocator> Quoted<K, A> {
     /// characters, one escape, one escaped line end, or one line end of two characters. It has a position in the
     /// literal's text, and a decoded value. Nothing is allocated.
     pub fn segments(&self) -> Segments<'_> {
-        self.body.segments_in(K::KIND, self.token.text())
+        Segments::of_body(K::KIND, self.token.text(), &self.body)
     }
 
     /// Returns the byte offset in the literal's text from which the byte at the offset `at` of the decoded value comes:

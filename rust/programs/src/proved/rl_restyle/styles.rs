@@ -5,7 +5,7 @@ use crate::rl_restyle::rule::{expected_of, rule_of};
 use crate::rl_restyle::style_error::{StyleError, StyleErrorKind};
 use crate::rl_restyle::value::value_of;
 use crate::rl_restyle::values::Values;
-use crate::rl_lenient::NextLiteral;
+use crate::rl_cursors::NextLiteral;
 use crate::rl_lexer::Tokens;
 use crate::rl_settings::{DottedName, EntryRejection, EntryStep, NextEntry, next_config_entry};
 use crate::rl_style::{Case, Style};

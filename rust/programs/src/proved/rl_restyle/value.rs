@@ -2,7 +2,7 @@
 //! Converts a literal of a configuration to the value of a rule.
 
 use crate::rl_restyle::style_error::Expected;
-use crate::rl_lenient::NextLiteral;
+use crate::rl_cursors::NextLiteral;
 use crate::rl_style::{Case, Separator};
 use crate::rl_syntax::Kind;
 

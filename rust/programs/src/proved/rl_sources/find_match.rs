@@ -2,6 +2,7 @@
 //! Finds the byte range of a literal that encodes a match in the literal's value.
 
 use crate::rattle_std::prelude::{String, Vec};
+use crate::rl_cursors::Segments;
 use crate::rl_fronts::{bytes_of_body, str_of_body};
 use crate::rl_lenient::Found;
 use crate::rl_output::{Matching, first_in};
@@ -78,11 +79,8 @@ fn borrowed_contents<'t>(text: &'t str, found: &Found) -> Option<&'t [u8]> {
 /// Returns the byte range of the quoted literal `text` that encodes the bytes from `first` to `last`, inclusive, of its value.
 /// `found` is the parse result of `text`.
 fn matched_range(text: &str, found: &Found, first: usize, last: usize) -> (usize, usize) {
-    let lo = found.body.segments_in(found.kind, text).text_offset(first);
-    let hi = found
-        .body
-        .segments_in(found.kind, text)
-        .text_offset_after(last);
+    let lo = Segments::of_body(found.kind, text, &found.body).text_offset(first);
+    let hi = Segments::of_body(found.kind, text, &found.body).text_offset_after(last);
     (lo, hi)
 }
 

@@ -1,5 +1,5 @@
 use Rattle.rl_flaws.proofs.Names.{refl}
-use Rattle.rl_lenient.proofs.SegmentLemmas.{takes_segment}
+use Rattle.rl_cursors.proofs.SegmentLemmas.{takes_segment}
 use Rattle.rl_flaws.proofs.PieceLemmas.{pieces_left}
 use Rattle.rl_flaws.proofs.pieces.Pieces.next.Goals as goal
 

@@ -1,6 +1,6 @@
 use Rattle.std.proofs.Common.{ap, arith, subst, sym}
 use Rattle.rl_syntax.specs.declared.span.Span.{Span}
-use Rattle.rl_lenient.specs.Segments.{IsSpanTable}
+use Rattle.rl_cursors.specs.Segments.{IsSpanTable}
 use Rattle.rl_quoted.proofs.PlacedLemmas.{moved_by_table, moved_elsewhere}
 use Rattle.rl_quoted.proofs.inside.LitStr+A.move_trees.Goals as goal
 

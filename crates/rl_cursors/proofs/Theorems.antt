@@ -1,0 +1,20 @@
+-- The laws of src/laws.rt, as lemmas that callers can cite.
+use Rattle.rl_cursors.specs.Laws.{SegmentsMakeTheLiteral, ASegmentHasOneValue, ThePlacesOfBytesAreInOrder, TheOffsetsOfBytesAreInTheBody, ATakenLiteralIsRead}
+use Rattle.rl_cursors.proofs.SegmentLawLemmas.{all_make, keep_order, stands_in}
+use Rattle.rl_cursors.proofs.SegmentValues.{one_segment}
+use Rattle.rl_cursors.proofs.NextValueLemmas.{taken_read}
+
+pub segments_make_the_literal : SegmentsMakeTheLiteral
+segments_make_the_literal = all_make
+
+pub a_segment_has_one_value : ASegmentHasOneValue
+a_segment_has_one_value = one_segment
+
+pub the_places_of_bytes_are_in_order : ThePlacesOfBytesAreInOrder
+the_places_of_bytes_are_in_order = keep_order
+
+pub the_offsets_of_bytes_are_in_the_body : TheOffsetsOfBytesAreInTheBody
+the_offsets_of_bytes_are_in_the_body = stands_in
+
+pub a_taken_literal_is_read : ATakenLiteralIsRead
+a_taken_literal_is_read = taken_read

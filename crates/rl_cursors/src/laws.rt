@@ -1,0 +1,35 @@
+//! Laws of the segments of literals, and of the literals of lists. Each function does nothing, and its contract is the law.
+
+ghost use Rattle.rl_cursors.specs.Laws.{SegmentsMakeTheLiteral, ASegmentHasOneValue, ThePlacesOfBytesAreInOrder, TheOffsetsOfBytesAreInTheBody, ATakenLiteralIsRead};
+
+/// The segments that [`Segments`](crate::Segments) returns for a literal fill the text between its quotes. Each segment
+/// begins where the one before it ends. The values of all segments, joined, are the literal's value.
+pub fn segments_join_to_the_literal()
+    ensures { SegmentsMakeTheLiteral }
+{}
+
+/// A segment of a literal has one value. Plain characters have a text as their value. An escaped line end has no
+/// value. The value of `\u{..}` is a character. The value of any other escape, and of a line end CR LF, is a character
+/// if the literal is a `Str` or a `Char`, and otherwise a byte.
+pub fn a_segment_has_one_value()
+    ensures { ASegmentHasOneValue }
+{}
+
+/// Each byte of a literal's value is encoded by one range of the literal's text, which begins no later than it ends.
+/// The ranges are in the order of the bytes: the range of a later byte neither begins nor ends before the range of an
+/// earlier byte.
+pub fn text_offsets_keep_the_order_of_bytes()
+    ensures { ThePlacesOfBytesAreInOrder }
+{}
+
+/// Each byte of a quoted literal's value is encoded by a range of the literal's text that is within the body. An
+/// offset at or after the value's end is mapped to the closing quote. If the body is its own value, each byte of the
+/// body encodes the value's byte at the same offset.
+pub fn text_offsets_are_in_the_body()
+    ensures { TheOffsetsOfBytesAreInTheBody }
+{}
+
+/// The parse result of a literal that [`next_literal`](crate::next_literal) returns is that of the literal's text.
+pub fn a_next_literal_is_parsed_as_its_text()
+    ensures { ATakenLiteralIsRead }
+{}

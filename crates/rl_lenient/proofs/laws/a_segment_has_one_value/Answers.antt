@@ -1,5 +1,0 @@
-use Rattle.rl_lenient.proofs.Theorems.{a_segment_has_one_value}
-use Rattle.rl_lenient.proofs.laws.a_segment_has_one_value.Goals as goal
-
-pub returns : goal.returns
-returns c = a_segment_has_one_value

@@ -1,5 +1,0 @@
-use Rattle.rl_lenient.proofs.Theorems.{segments_make_the_literal}
-use Rattle.rl_lenient.proofs.laws.segments_join_to_the_literal.Goals as goal
-
-pub returns : goal.returns
-returns c = segments_make_the_literal

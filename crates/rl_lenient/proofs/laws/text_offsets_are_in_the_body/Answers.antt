@@ -1,5 +1,0 @@
-use Rattle.rl_lenient.proofs.Theorems.{the_offsets_of_bytes_are_in_the_body}
-use Rattle.rl_lenient.proofs.laws.text_offsets_are_in_the_body.Goals as goal
-
-pub returns : goal.returns
-returns c = the_offsets_of_bytes_are_in_the_body

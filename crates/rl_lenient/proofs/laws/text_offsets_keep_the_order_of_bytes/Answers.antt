@@ -1,5 +1,0 @@
-use Rattle.rl_lenient.proofs.Theorems.{the_places_of_bytes_are_in_order}
-use Rattle.rl_lenient.proofs.laws.text_offsets_keep_the_order_of_bytes.Goals as goal
-
-pub returns : goal.returns
-returns c = the_places_of_bytes_are_in_order

@@ -1,0 +1,240 @@
+// Rendered from crates/rl_cursors/src/segments.rt by tools/render, which erases contracts: change that file, and render again.
+//! The segments of a quoted literal: the parts of the text between its quotes, each with its range and its value.
+
+use crate::rl_lenient::units::{Piece, is_plain_char, parse_char_or_escape, split_plain};
+use crate::rl_lenient::Body;
+#[cfg(feature = "__rendered")]
+use crate::rl_lenient::parse_literal;
+use crate::rl_syntax::Kind;
+use crate::rl_syntax::text::{before, split_char};
+
+/// The value of a segment, which is a part of the text between a literal's quotes.
+#[derive(Clone, Copy)]
+pub enum SegmentValue<'t> {
+    /// Plain characters, which are their own value. The sequence is as long as possible.
+    Text(&'t str),
+    /// In a literal of characters, the character of an escape, or the LF of a line end CR LF. In a literal of bytes,
+    /// only the character of an escape `\u{..}`.
+    Char(char),
+    /// In a literal of bytes, the byte of any escape except `\u{..}`, or the LF of a line end CR LF.
+    Byte(u8),
+    /// The empty value of an escaped line end: of a backslash, a line end and the white space after it.
+    Nothing,
+}
+
+/// A part of the text between a literal's quotes: its range and its value.
+#[derive(Clone, Copy)]
+pub struct Segment<'t> {
+    /// The byte offset in the literal's text where the segment begins.
+    pub lo: usize,
+    /// The byte offset in the literal's text after the segment's last byte.
+    pub hi: usize,
+    /// The segment's decoded value.
+    pub value: SegmentValue<'t>,
+}
+
+/// An iterator over the segments of a quoted literal, from its opening to its closing quote. Each segment is a sequence
+/// of plain characters or one escape, with its range and its value.
+///
+/// The body of a raw literal is one segment. All offsets are in bytes of the literal's text. Nothing is allocated.
+pub struct Segments<'t> {
+    kind: Kind,
+    plain: bool,
+    // The byte offset of the closing quote in the literal's text.
+    end: usize,
+    rest: &'t str,
+}
+
+impl<'t> SegmentValue<'t> {
+    /// Returns the length in bytes of the segment's value. Characters count as their UTF-8 bytes.
+    #[inline(always)]
+    pub fn len(self) -> usize {
+        match self {
+            SegmentValue::Text(run) => run.len(),
+            SegmentValue::Char(c) => c.len_utf8(),
+            SegmentValue::Byte(_) => 1,
+            SegmentValue::Nothing => 0,
+        }
+    }
+}
+
+/// Splits the text after the plain characters at its start. In a character or byte literal, at most one character is
+/// split off.
+#[inline(always)]
+fn split_run(kind: Kind, text: &str) -> (&str, &str) {
+    if kind.is_string() {
+        return split_plain(kind, text);
+    }
+    match split_char(text) {
+        Some((c, rest)) if is_plain_char(kind, c) => (before(text, rest), rest),
+        _ => ("", text),
+    }
+}
+
+/// Returns the value of an escape or a line end CR LF as the value of a segment, in a literal of the kind. In a literal
+/// of characters, a byte becomes a character.
+#[inline(always)]
+fn value_of<'t>(kind: Kind, piece: Piece) -> SegmentValue<'t> {
+    match piece {
+        Piece::Character(c) => SegmentValue::Char(c),
+        Piece::Byte(b) if kind.decodes_to_chars() => SegmentValue::Char(b as char),
+        Piece::Byte(b) => SegmentValue::Byte(b),
+        Piece::Nothing => SegmentValue::Nothing,
+    }
+}
+
+/// Returns the value of the first segment of `text`, and the text after that segment. `text` is the end of a literal's
+/// body, from the start of a segment on. If `plain` is `true`, the body is its own value, and `text` is one segment.
+#[cfg_attr(debug_assertions, inline)]
+#[cfg_attr(not(debug_assertions), inline(always))]
+pub fn split_segment(kind: Kind, plain: bool, text: &str) -> (SegmentValue<'_>, &str) {
+    if plain {
+        return (SegmentValue::Text(text), "");
+    }
+    let (run, following) = split_run(kind, text);
+    if !run.is_empty() {
+        return (SegmentValue::Text(run), following);
+    }
+    let Some((piece, after)) = parse_char_or_escape(kind, text) else {
+        unreachable!()
+    };
+    (value_of(kind, piece), after)
+}
+
+impl<'t> Segment<'t> {
+    /// Returns the start of the range of the literal's text that encodes the byte `at` of the segment's value. In a
+    /// segment of plain characters, each byte encodes itself. Any other segment encodes its value as a whole.
+    #[inline(always)]
+    pub fn text_offset(self, at: usize) -> usize {
+        match self.value {
+            SegmentValue::Text(_) => self.lo + at,
+            _ => self.lo,
+        }
+    }
+
+    /// Returns the end of the range of the literal's text that encodes the byte `at` of the segment's value. In a
+    /// segment of plain characters, each byte encodes itself. Any other segment encodes its value as a whole.
+    #[inline(always)]
+    pub fn text_offset_after(self, at: usize) -> usize {
+        match self.value {
+            SegmentValue::Text(_) => self.text_offset(at) + 1,
+            _ => self.hi,
+        }
+    }
+}
+
+impl<'t> Segments<'t> {
+    /// Returns the segments of the quoted literal `text` of the kind, where `body` contains the byte offsets of its
+    /// parts, as [`parse_literal`] returns them. The text isn't parsed again.
+    #[inline(always)]
+    pub fn of_body(kind: Kind, text: &'t str, body: &Body) -> Segments<'t> {
+        Segments {
+            kind,
+            plain: body.plain,
+            end: body.hi,
+            rest: &text[body.lo..body.hi],
+        }
+    }
+
+    /// Returns the segments of the quoted literal `text`, or `None` if the text isn't a quoted literal.
+    #[cfg(feature = "__rendered")]
+    #[inline]
+    pub fn of(text: &'t str) -> Option<Segments<'t>> {
+        let found = parse_literal(text)?;
+        if !is_quoted(found.kind) {
+            return None;
+        }
+        Some(Segments::of_body(found.kind, text, &found.body))
+    }
+
+    /// Returns the next segment, or `None` at the closing quote.
+    #[inline(always)]
+    pub fn next(&mut self) -> Option<Segment<'t>> {
+        if self.rest.is_empty() {
+            return None;
+        }
+        let lo = self.end - self.rest.len();
+        let (value, after) = split_segment(self.kind, self.plain, self.rest);
+        let hi = self.end - after.len();
+        self.rest = after;
+        Some(Segment { lo, hi, value })
+    }
+
+    /// Returns the byte offset in the literal's text where the next segment begins, or that of the closing quote if no
+    /// segment is left.
+    #[inline]
+    pub fn next_offset(&self) -> usize {
+        self.end - self.rest.len()
+    }
+
+    /// Returns the segment whose value contains the byte `at` of the literal's value, and the byte's offset in the
+    /// segment's value. `at` counts from the start of the next segment's value. Returns `None` if the literal's value
+    /// has no byte `at`.
+    #[cfg_attr(debug_assertions, inline)]
+    #[cfg_attr(not(debug_assertions), inline(always))]
+    fn giving(mut self, at: usize) -> Option<(Segment<'t>, usize)> {
+        let mut left = at;
+        while let Some(segment) = self.next() {
+            let len = segment.value.len();
+            if left < len {
+                return Some((segment, left));
+            }
+            left -= len;
+        }
+        None
+    }
+
+    /// Returns the start of the range of the literal's text that encodes the byte `at` of the literal's value. A byte
+    /// of a plain character encodes itself, and an escape as a whole encodes its value.
+    ///
+    /// `at` counts from the start of the next segment's value. At the end of the value, and beyond it, the result is
+    /// the offset of the closing quote.
+    #[inline]
+    pub fn text_offset(self, at: usize) -> usize {
+        let end = self.end;
+        match self.giving(at) {
+            Some((segment, within)) => segment.text_offset(within),
+            None => end,
+        }
+    }
+
+    /// Returns the end of the range of the literal's text that encodes the byte `at` of the literal's value. A byte of
+    /// a plain character encodes itself, and an escape as a whole encodes its value. An escaped line end after the
+    /// range isn't included.
+    ///
+    /// `at` counts from the start of the next segment's value. At the end of the value, and beyond it, the result is
+    /// the offset of the closing quote.
+    #[inline]
+    pub fn text_offset_after(self, at: usize) -> usize {
+        let end = self.end;
+        match self.giving(at) {
+            Some((segment, within)) => segment.text_offset_after(within),
+            None => end,
+        }
+    }
+}
+
+/// Yields the segments of the literal up to its closing quote.
+impl<'t> Iterator for Segments<'t> {
+    type Item = Segment<'t>;
+
+    #[inline(always)]
+    fn next(&mut self) -> Option<Segment<'t>> {
+        Segments::next(self)
+    }
+}
+
+/// Whether literals of the kind have quotes: strings, byte strings, C strings, bytes and characters.
+#[cfg(feature = "__rendered")]
+#[inline]
+fn is_quoted(kind: Kind) -> bool {
+    !matches!(kind, Kind::Int | Kind::Float | Kind::Bool)
+}
+
+/// Returns the start of the range of the quoted literal `text` that encodes the byte `at` of its decoded value.
+/// Returns `None` if the text isn't a quoted literal. [`Segments::text_offset`] describes the result.
+#[cfg(feature = "__rendered")]
+#[inline]
+pub fn text_offset(text: &str, at: usize) -> Option<usize> {
+    Some(Segments::of(text)?.text_offset(at))
+}
