@@ -46,11 +46,6 @@ def printed_of(program, glob, folder):
     return {it for it in lines([*words, '.'], folder) if not it.startswith(b'.git/')}
 
 
-def is_odd(glob):
-    """Whether two asterisks are in a longer part of a path."""
-    return any('**' in part and part != '**' for part in glob.split('/'))
-
-
 def compare_on(asked, report, globs, folder):
     """Compares the globs on the files of a folder."""
     every = lines(['git', 'ls-files', '-z', '--others'], folder)
@@ -60,7 +55,8 @@ def compare_on(asked, report, globs, folder):
         report.agreeing['globs', 'rejected'] += ours is None
         ours = every if ours is None else ours
         report.agreeing['globs', 'leaving something out'] += git != every
-        report.judge('globs', glob.encode(), sorted(git), sorted(ours), 'two asterisks in a longer part of a path' if is_odd(glob) else None)
+        is_odd = any('**' in part and part != '**' for part in glob.split('/'))
+        report.judge('globs', glob.encode(), sorted(git), sorted(ours), 'two asterisks in a longer part of a path' if is_odd else None)
 
 
 def compare(asked, report):

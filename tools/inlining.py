@@ -3,12 +3,7 @@ that a build of the package doesn't compile what no caller uses.
 
 rustc obeys `#[inline(always)]` in unoptimized builds too, and copies the function into each of its callers. A copy of a small
 function takes little more space than a call of it, and less time. A large function is always inlined only if debug assertions are
-off, as in release builds. tools/inlining.txt lists the large functions whose inlining is left to the compiler, where that is
-faster.
-
-rustc generates the machine code of a function with `#[inline]` in the crates that call it, and that of other functions in every
-build of the package. tools/inlining.txt also lists functions and files that get `#[inline]` for this reason. No expression is
-changed.
+off, as in release builds. tools/inlining.txt lists the functions that get `#[inline]`, and the reasons. No expression is changed.
 """
 
 import re

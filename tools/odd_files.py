@@ -1,6 +1,7 @@
 """Creates a tree of unusual files for rl_scan: unusual names, links, files that aren't text, and sources of every kind."""
 import os
 import stat
+from pathlib import Path
 
 import source_texts
 import texts
@@ -86,10 +87,9 @@ def make_tree(top, source):
     """Creates the tree in a folder. Returns its files by path."""
     made = contents(source)
     for path, data in made.items():
-        whole = os.path.join(os.fsencode(top), path)
-        os.makedirs(os.path.dirname(whole), exist_ok=True)
-        with open(whole, 'wb') as file:
-            file.write(data)
+        whole = Path(top, os.fsdecode(path))
+        whole.parent.mkdir(parents=True, exist_ok=True)
+        whole.write_bytes(data)
     for name, to in LINKS.items():
         os.symlink(to, os.path.join(top, name))
     os.mkdir(os.path.join(top, EMPTY))
