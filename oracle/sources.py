@@ -39,29 +39,6 @@ WORDS = (('--lines',), ('--lines', '--no-stray', '--only', 'int,FLOAT,Verbatim')
 OLDER = '2018'
 
 
-class Model:
-    """The model's results: how it lexes a source, and for each literal's text the line of `syn`'s parsing code."""
-
-    def __init__(self, path):
-        self.path, self.known = path, {}
-
-    def cuts(self, datas):
-        """Returns how each source is lexed, or None for a source that isn't UTF-8. Asks syn's code about new literals."""
-        cuts = [None if text is None else cut_source(text) for text in map(frame.text_of, datas)]
-        new = dict.fromkeys(token.text for cut in cuts if cut for token in cut.literals() if token.text not in self.known)
-        self.known.update({text: listed.verbatim(text) for text in new if listed.is_long_past(text)})
-        asked = [text for text in new if text not in self.known]
-        self.known.update(zip(asked, syn(self.path, 'text', [text.encode() for text in asked]) if asked else []))
-        return cuts
-
-    def lines(self, cut):
-        """Returns the lines of a source."""
-        if cut is None:
-            return [NOT_TEXT]
-        out = [b'%d..%d %s' % (token.lo, token.hi, listed.visible(self.known[token.text])) for token in cut.literals()]
-        return out + [b'error at %d..%d: %s' % (it.at, it.at, it.kind.encode()) for it in [cut.error] if it]
-
-
 def front_of(data):
     """Returns the number of bytes of a source's start, which isn't passed to rustc."""
     text = data.decode()
@@ -157,7 +134,9 @@ class Sides:
 
     def __init__(self, asked, report, older):
         """`older` is the number of rejected sources that are lexed again in an older edition."""
-        self.asked, self.report, self.model, self.sources = asked, report, Model(asked.path), 0
+        self.asked, self.report, self.sources = asked, report, 0
+        # For each literal's text, the line of `syn`'s parsing code.
+        self.known = {}
         self.lexer, self.older = rustc.Lexer(), older
         self.before = rustc.Lexer(OLDER, self.lexer.library)
 
@@ -182,6 +161,22 @@ class Sides:
         with concurrent.futures.ThreadPoolExecutor(self.asked.jobs) as pool:
             return list(pool.map(functools.partial(scanned, self.asked.rl_scan, words), datas))
 
+    def cuts(self, datas):
+        """Returns how the model lexes each source, or None for a source that isn't UTF-8. Asks syn's code about new literals."""
+        cuts = [None if text is None else cut_source(text) for text in map(frame.text_of, datas)]
+        new = dict.fromkeys(token.text for cut in cuts if cut for token in cut.literals() if token.text not in self.known)
+        self.known.update({text: listed.verbatim(text) for text in new if listed.is_long_past(text)})
+        asked = [text for text in new if text not in self.known]
+        self.known.update(zip(asked, syn(self.asked.path, 'text', [text.encode() for text in asked]) if asked else []))
+        return cuts
+
+    def lines(self, cut):
+        """Returns the model's lines of a source."""
+        if cut is None:
+            return [NOT_TEXT]
+        out = [b'%d..%d %s' % (token.lo, token.hi, listed.visible(self.known[token.text])) for token in cut.literals()]
+        return out + [b'error at %d..%d: %s' % (it.at, it.at, it.kind.encode()) for it in [cut.error] if it]
+
     def ours(self, datas, each):
         """Returns the results of rl_scan, or of rl_answers."""
         if each:
@@ -205,12 +200,12 @@ class Sides:
 
     def compare(self, datas, names, each=False, rustc=True):
         """Compares the results for these sources, with a process of rl_scan for each, or in bulk."""
-        cuts = self.model.cuts(datas)
+        cuts = self.cuts(datas)
         our = self.ours(datas, each)
         newer = lambda data, applies=True: listed.NEWER if applies and listed.newer(data.decode(errors='replace')) else None
         for name, data, cut, answer in zip(names, datas, cuts, our):
             self.sources, self.report.compared = self.sources + 1, self.report.compared + sum(line[:1].isdigit() for line in answer)
-            self.judge('model', name, data, self.model.lines(cut), answer, lambda: newer(data))
+            self.judge('model', name, data, self.lines(cut), answer, lambda: newer(data))
         for words in WORDS if each else ():
             side, wide = 'rl_scan ' + ' '.join(words), '--no-stray' in words
             for name, data, cut, answer, lines in zip(names, datas, cuts, our, self.scanned(datas, *words)):
@@ -238,7 +233,7 @@ def compare_files(asked, report):
     sides = Sides(asked, report, len(found))
     for batch in frame.batches(found, *AT_ONCE):
         sides.compare(batch, [found[data] for data in batch], each=True)
-    literals = [text.encode() for text in sides.model.known]
+    literals = [text.encode() for text in sides.known]
     print('%d files, %d lines; %d different literals' % (sides.sources, report.compared, len(literals)), flush=True)
     for batch, command in itertools.product(frame.batches(literals), ('text', 'int', 'float', 'value', 'strict')):
         theirs = sides.lexer.answers(command, batch) if command == 'strict' else syn(asked.path, command, batch)
@@ -261,7 +256,7 @@ def compare_generated(asked, report):
     seen = set()
     for batch in frame.batches(source_texts.soups(asked.seed, asked.count), *AT_ONCE):
         fresh = frame.fresh(batch, seen)
-        sides.model.known.clear()
+        sides.known.clear()
         sides.compare(fresh, itertools.repeat(''))
     print(f'{len(seen)} soups', flush=True)
     return sides.sources

@@ -6,7 +6,8 @@ import re
 import textwrap
 
 from .items import (
-    blanked, closing, code_files, core, given_by, holders, items_of, paths, public_items, read, root_of, signature_end)
+    blanked, code_files, core, given_by, holders, items_of, paths, public_items, read, root_of, signature_end)
+from .snippets import BRACES, closing
 
 HEAD = '## Contracts\n'
 INTRODUCTION = """
@@ -63,7 +64,7 @@ def clauses_of(path, item):
     head = re.compile(r'\s*(requires|ensures)\s*(\w*)\s*\{')
     found, end = [], signature_end(code, item.at)
     while it := head.match(code, end):
-        end = closing(code, it.end() - 1)
+        end = closing(code, it.end() - 1, BRACES)
         found.append((it[1], it[2], ' '.join(re.sub(r'//[^\n]*', '', text[it.end():end - 1]).split())))
     return found
 

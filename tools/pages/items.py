@@ -5,7 +5,7 @@ import os
 import re
 from typing import NamedTuple
 
-from .snippets import EXAMPLE, PARTS, bare, blanked
+from .snippets import EXAMPLE, bare, blanked, closing
 
 TOP = os.path.dirname(os.path.dirname(os.path.dirname(os.path.abspath(__file__))))
 # The crates whose items are for callers.
@@ -63,16 +63,6 @@ class Item(NamedTuple):
 
     def returns_result(self):
         return self.kind == 'fn' and re.search(r'->\s*(?:[\w:]+::)?Result<', self.head) is not None
-
-
-def closing(code, at):
-    """Returns the position after the brace that closes the one at `at`. Strings and characters are skipped."""
-    depth = 0
-    for it in re.compile(PARTS.pattern + '|[{}]', re.S).finditer(code, at):
-        depth += {'{': 1, '}': -1}.get(it[0], 0)
-        if depth == 0 and it[0] == '}':
-            return it.end()
-    return len(code)
 
 
 def on_a_line(code):

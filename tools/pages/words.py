@@ -5,14 +5,9 @@ from .items import read
 
 PAGE = 'docs/ERRORS.md'
 # The files with the messages of each type of error, and with the identifiers that `rl_scan` prints.
-MESSAGES = {
-    'FlawKind': 'crates/rl_strict/src/flaws.rt', 'TypeError': 'crates/rl_flaws/src/type_errors.rt',
-    'LexKind': 'crates/rl_lexer/src/lex_error.rt', 'SyntaxErrorKind': 'crates/rl_settings/src/syntax_error.rt',
-}
-IDENTIFIERS = {
-    'FlawKind': 'crates/rl_strict/src/flaws.rt', 'TypeError': 'crates/rl_flaws/src/type_errors.rt',
-    'LexKind': 'crates/rl_output/src/error_id.rt',
-}
+BOTH = {'FlawKind': 'crates/rl_strict/src/flaws.rt', 'TypeError': 'crates/rl_flaws/src/type_errors.rt'}
+MESSAGES = BOTH | {'LexKind': 'crates/rl_lexer/src/lex_error.rt', 'SyntaxErrorKind': 'crates/rl_settings/src/syntax_error.rt'}
+IDENTIFIERS = BOTH | {'LexKind': 'crates/rl_output/src/error_id.rt'}
 # The errors of a whole source that `rl_scan` prints.
 PRINTED = ('UnclosedQuote', 'UnclosedComment', 'StrayCharacter')
 # The errors at which reading ends, so that `--allow` can't leave them out.
