@@ -144,16 +144,14 @@ def render_itself():
     return module
 
 
-@contextlib.contextmanager
 def changed(file, old, new):
-    """A context in which reading the file returns its text with one change."""
+    """Returns a context in which reading the file returns its text with one change."""
     read, path = pathlib.Path.read_text, TOP / file
     text = path.read_text()
     if old not in text:
         sys.exit(f'rejects: {file} has no {old}')
     text = text.replace(old, new, 1)
-    with mock.patch.object(pathlib.Path, 'read_text', lambda it, *words, **more: text if it == path else read(it, *words, **more)):
-        yield
+    return mock.patch.object(pathlib.Path, 'read_text', lambda it, *words, **more: text if it == path else read(it, *words, **more))
 
 
 def said_of(call, *words):

@@ -36,8 +36,8 @@ class Entry(NamedTuple):
     is_left_out: bool
 
 
-def fail(what):
-    sys.exit(f"render: tools/uncalled.txt: {what}")
+def fail(what, path=LIST):
+    sys.exit(f"render: tools/{path.name}: {what}")
 
 
 def features():

@@ -44,7 +44,7 @@ def check_items(tell):
         for path, item in items:
             lacks = {
                 'has no documentation': not item.docs.strip(),
-                'returns a Result and has no `# Errors`': item.returns_result() and not item.has_errors(),
+                'returns a Result and has no `# Errors`': item.lacks_errors(),
                 'has no example': item.name in wanted and not item.examples() and item.named_example() not in shown,
                 'has an example without a value': not all(VALUE.search(it) for it in item.examples()),
                 'has an example that is too long': any(it.count('\n') > 30 for it in item.examples()),

@@ -58,16 +58,10 @@ class Item(NamedTuple):
         found = re.search(r'example of\s+\[`([\w:]+)`\]', self.docs)
         return found[1] if found else None
 
-    def has_errors(self):
-        return re.search(r'# Errors\n+\S', self.docs) is not None
-
-    def returns_result(self):
-        return self.kind == 'fn' and re.search(r'->\s*(?:[\w:]+::)?Result<', self.head) is not None
-
-
-def on_a_line(code):
-    line = re.sub(r'\s+', ' ', code).strip()
-    return re.sub(r',? ([)\]])', r'\1', re.sub(r'([(\[]) ', r'\1', line)).rstrip(',')
+    def lacks_errors(self):
+        """Whether the item returns a `Result`, and its documentation has no `# Errors`."""
+        returns = self.kind == 'fn' and re.search(r'->\s*(?:[\w:]+::)?Result<', self.head)
+        return bool(returns) and not re.search(r'# Errors\n+\S', self.docs)
 
 
 def docs_before(text, at):
@@ -108,7 +102,10 @@ def items_of(path):
             continue
         end = signature_end(code, it.end())
         name = f'{within.name}::{it[4]}' if within else it[4]
-        found.append(Item(it[3], name, docs_before(text, it.start()), on_a_line(code[it.start(3):end]), it.start()))
+        # The signature in one line.
+        head = re.sub(r'([(\[]) ', r'\1', ' '.join(code[it.start(3):end].split()))
+        head = re.sub(r',? ([)\]])', r'\1', head).rstrip(',')
+        found.append(Item(it[3], name, docs_before(text, it.start()), head, it.start()))
         if it[3] in ('struct', 'enum') and code[end] == '{':
             found += parts_of(text, code, end, it[4])
     return found
