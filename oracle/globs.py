@@ -56,7 +56,8 @@ def compare_on(asked, report, globs, folder):
         ours = every if ours is None else ours
         report.agreeing['globs', 'leaving something out'] += git != every
         is_odd = any('**' in part and part != '**' for part in glob.split('/'))
-        report.judge('globs', glob.encode(), sorted(git), sorted(ours), 'two asterisks in a longer part of a path' if is_odd else None)
+        known = 'two asterisks in a longer part of a path' if is_odd else None
+        report.judge('globs', glob.encode(), sorted(git), sorted(ours), known)
 
 
 def compare(asked, report):

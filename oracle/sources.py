@@ -184,8 +184,8 @@ class Sides:
         return [answer.split(b'\n') if answer else [] for answer in frame.of_rows(self.asked.rl_answers, 'source', datas)]
 
     def theirs(self, datas):
-        """Returns the results of rustc's own lexer: for each source its lines and the edition that accepted it, or None and the start
-        of rustc's first message."""
+        """Returns the results of rustc's own lexer: for each source its lines and the edition that accepted it, or None and the
+        start of rustc's first message."""
         answers = [(None, 'not UTF-8')] * len(datas)
         asked = [at for at, data in enumerate(datas) if frame.text_of(data) is not None]
         fronts = {at: front_of(datas[at]) for at in asked}

@@ -146,7 +146,8 @@ def makers_of_texts(source):
     makers = {name: family.__next__ for name, family in made.items()}
     return makers | {
         'worked': lambda: source.choice(texts.WORKED), 'long': lambda: source.choice(LONG), 'framed': lambda: framed(source),
-        'trivia': lambda: ''.join(source.choice('/*!\n\r a') for _ in range(source.randint(1, 7))), 'characters': lambda: character(source)}
+        'trivia': lambda: ''.join(source.choice('/*!\n\r a') for _ in range(source.randint(1, 7))),
+        'characters': lambda: character(source)}
 
 
 def tool_input(source, makers, command):

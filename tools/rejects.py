@@ -201,8 +201,7 @@ def report_of(render):
 
 def try_folders(render):
     """Tests copies of the two folders, each with one change."""
-    with contextlib.redirect_stdout(io.StringIO()):
-        both = [render.core_files(), render.program_files()]
+    both = [render.core_files(), render.program_files()]
     render.core_files, render.program_files = (lambda: both[0]), (lambda: both[1])
     sys.argv = ['render', '--check']
     for at, (change, word) in enumerate(FOLDERS):

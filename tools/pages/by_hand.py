@@ -54,13 +54,6 @@ def rows_of_errors():
             yield row
 
 
-def answers_of(rows):
-    """Returns the results of rl_rows for commands and texts."""
-    given = ''.join(f'{command} {text.encode().hex()}\n{MARK} {b"===".hex()}\n' for command, text, _ in rows)
-    ran = subprocess.run([programs.cargos('rl_rows')], input=given, capture_output=True, encoding='utf-8', check=False)
-    return ran.stdout.split(LINE)
-
-
 def stored_answer(call, text):
     """Returns the result that the table of a call has for a text, or nothing if it has no such row."""
     table, heading = STORED[call]
@@ -76,8 +69,10 @@ def errors():
     """Iterates over the calls of docs/ERRORS.md, each with whether its result has the message of the page, and its result."""
     shown = list(rows_of_errors())
     rows = [it for it in shown if it[0] in COMMANDS]
+    given = ''.join(f'{command} {text.encode().hex()}\n{MARK} {b"===".hex()}\n' for command, text, _ in rows)
+    ran = subprocess.run([programs.cargos('rl_rows')], input=given, capture_output=True, encoding='utf-8', check=False)
     stored = [(it, stored_answer(*it[:2])) for it in shown if it[0] in STORED]
-    for (call, text, message), found in [*stored, *zip(rows, answers_of(rows))]:
+    for (call, text, message), found in [*stored, *zip(rows, ran.stdout.split(LINE))]:
         yield f'{call} {text[:60]}', message in found, found
 
 
