@@ -13,6 +13,7 @@ import os
 import random
 import subprocess
 import tempfile
+from pathlib import Path
 
 import frame
 
@@ -25,8 +26,7 @@ GLOBS = 100
 def grow(folder, dice, depth=0):
     """Creates random files and folders."""
     for name in dice.sample(NAMES, 5):
-        with open(f'{folder}/{name}.rs', 'w', encoding='utf-8'):
-            pass
+        Path(folder, f'{name}.rs').touch()
         if depth < 3 and dice.random() < .6:
             os.mkdir(f'{folder}/{name}')
             grow(f'{folder}/{name}', dice, depth + 1)

@@ -1,4 +1,5 @@
 """Creates a tree of unusual files for rl_scan: unusual names, links, files that aren't text, and sources of every kind."""
+import itertools
 import os
 import stat
 from pathlib import Path
@@ -64,12 +65,8 @@ OTHER_PATHS = [
 
 def whole_soups(source, count):
     """Returns soups joined with lines between them, each of which is a whole source by itself."""
-    found = []
-    while len(found) < count:
-        soup = source_texts.sound(source)
-        if not cut_source(soup).error:
-            found.append(soup)
-    return '\n'.join(found)
+    every = (source_texts.sound(source) for _ in itertools.count())
+    return '\n'.join(itertools.islice((it for it in every if not cut_source(it).error), count))
 
 
 def contents(source):
