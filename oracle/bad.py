@@ -65,12 +65,6 @@ def literal(source):
     return number_near(source, BITS[suffix]) + suffix
 
 
-def literals_of(program, paths):
-    """Returns the texts of all literals in the files at these paths, except `true` and `false`."""
-    found = (line['text'] for line in frame.scanned(program, b'', *paths)) if paths else ()
-    return [text for text in found if text not in ('true', 'false')]
-
-
 def errors_in(texts):
     """Returns rustc's errors in each literal. An error about the inferred type of a literal without a suffix is left out."""
     found, _ = rustc.placed(texts, 'let _ = ', ' ;\n', 'fn main() {\n', '}\n', primary=False)
@@ -131,7 +125,8 @@ def compare(asked, report):
     made = dict.fromkeys(literal(source) for _ in range(asked.count))
     # Only texts that rl_scan lexes as one token are compared.
     made = [text for text in made if [it.get('text') for it in frame.scanned(program, f'{text} ;\n'.encode(), '-')] == [text]]
-    texts = list(dict.fromkeys(made + literals_of(program, asked.paths)))
+    found = [line['text'] for line in frame.scanned(program, b'', *asked.paths)] if asked.paths else []
+    texts = list(dict.fromkeys(made + [text for text in found if text not in ('true', 'false')]))
     source = ''.join(text + ' ;\n' for text in texts).encode()
     ours = {line['text'] for line in frame.scanned(program, source, '--bad', '-') if 'text' in line}
     theirs = {text for chunk in frame.batches(texts, CHUNK) for text in rustc.rejected(chunk, errors_in)}

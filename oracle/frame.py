@@ -14,6 +14,7 @@ import struct
 import subprocess
 import sys
 import time
+from pathlib import Path
 
 TOP = os.path.dirname(os.path.dirname(os.path.abspath(__file__)))
 HERE = os.path.join(TOP, 'oracle')
@@ -98,11 +99,6 @@ def with_lengths(texts):
     return b''.join(struct.pack('<I', len(text)) + text for text in texts)
 
 
-def by_length(command, texts, is_pointed=False):
-    """Returns the results of a program that reads texts, each after its length."""
-    return answers_of(command, with_lengths(texts), texts, is_pointed)
-
-
 def batches(texts, count=BATCH, size=sys.maxsize):
     """Divides the texts into batches of at most `count` texts. A batch ends with the text that reaches `size` characters or bytes."""
     batch, room = [], size
@@ -163,16 +159,10 @@ class Report:
 
 
 def sources_below(folders, endings=('.rs', '.rt')):
-    """Returns the files with these endings below the folders, each once."""
-    return sorted({os.path.realpath(os.path.join(at, name)) for folder in folders for at, _, names in os.walk(folder)
-                   if not {'target', 'out', '.git'} & set(at.split('/')) for name in names if name.endswith(endings)})
-
-
-def contents(paths):
-    """Returns the existing files by their contents: each contents once, with a path."""
+    """Returns the files with these endings below the folders by their contents: each contents once, with a path."""
+    paths = {os.path.realpath(os.path.join(at, name)) for folder in folders for at, _, names in os.walk(folder)
+             if not {'target', 'out', '.git'} & set(at.split('/')) for name in names if name.endswith(endings)}
     found = {}
-    for path in paths:
-        if os.path.isfile(path):
-            with open(path, 'rb') as file:
-                found.setdefault(file.read(), path)
+    for path in filter(os.path.isfile, sorted(paths)):
+        found.setdefault(Path(path).read_bytes(), path)
     return found

@@ -13,6 +13,7 @@ import os
 import random
 import subprocess
 import tempfile
+from pathlib import Path
 
 import frame
 
@@ -25,8 +26,7 @@ GLOBS = 100
 def grow(folder, dice, depth=0):
     """Creates random files and folders."""
     for name in dice.sample(NAMES, 5):
-        with open(f'{folder}/{name}.rs', 'w', encoding='utf-8'):
-            pass
+        Path(folder, f'{name}.rs').touch()
         if depth < 3 and dice.random() < .6:
             os.mkdir(f'{folder}/{name}')
             grow(f'{folder}/{name}', dice, depth + 1)
@@ -46,11 +46,6 @@ def printed_of(program, glob, folder):
     return {it for it in lines([*words, '.'], folder) if not it.startswith(b'.git/')}
 
 
-def is_odd(glob):
-    """Whether two asterisks are in a longer part of a path."""
-    return any('**' in part and part != '**' for part in glob.split('/'))
-
-
 def compare_on(asked, report, globs, folder):
     """Compares the globs on the files of a folder."""
     every = lines(['git', 'ls-files', '-z', '--others'], folder)
@@ -60,7 +55,9 @@ def compare_on(asked, report, globs, folder):
         report.agreeing['globs', 'rejected'] += ours is None
         ours = every if ours is None else ours
         report.agreeing['globs', 'leaving something out'] += git != every
-        report.judge('globs', glob.encode(), sorted(git), sorted(ours), 'two asterisks in a longer part of a path' if is_odd(glob) else None)
+        is_odd = any('**' in part and part != '**' for part in glob.split('/'))
+        known = 'two asterisks in a longer part of a path' if is_odd else None
+        report.judge('globs', glob.encode(), sorted(git), sorted(ours), known)
 
 
 def compare(asked, report):

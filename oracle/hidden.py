@@ -35,11 +35,6 @@ def hiding():
     return frozenset(map(chr, codes(HIDING) - set(SELECTORS) - LAYOUT | set(ANNOTATIONS)))
 
 
-def line_of(character, turning):
-    """Returns the line about a character, after its position."""
-    return f'U+{ord(character):04X}' + (f' {unicodedata.name(character)}' if ord(character) in turning else '')
-
-
 def found_by(program, every):
     """Returns the characters that the program finds, each with its line. A letter follows each character in the source."""
     places, at = {}, 0
@@ -54,7 +49,8 @@ def found_by(program, every):
 
 def compare(asked, report):
     every, turning = [chr(code) for code in (*range(0xd800), *range(0xe000, 0x110000))], codes(TURNING)
-    wanted = {character: line_of(character, turning) for character in hiding() | set(map(chr, SELECTORS))}
+    names = {code: f' {unicodedata.name(chr(code))}' for code in turning}
+    wanted = {it: f'U+{ord(it):04X}{names.get(ord(it), "")}' for it in hiding() | set(map(chr, SELECTORS))}
     found = found_by(asked.rl_scan, every)
     for it in every:
         report.judge('hidden', it.encode(), wanted.get(it), found.get(it))

@@ -42,12 +42,6 @@ def verbatim(text):
     return ('Verbatim %s -' % written(text)).encode()
 
 
-def unwritten(line):
-    """Returns the text of a line of our program that begins with `Verbatim`, or None."""
-    told = re.fullmatch(r'Verbatim "(.*)" -', line.decode(), re.S)
-    return told and unescaped(told[1]).decode()
-
-
 def parts_of(line):
     """Returns the kind, the value and the suffix of a line about a literal."""
     kind, rest = line.decode().split(' ', 1)
@@ -126,7 +120,8 @@ def is_loose(text):
 def is_tightened(their, our):
     """Whether a line of syn's is about a byte literal or byte string, and our line says `Verbatim`, because the stricter rule
     rejects the text."""
-    return their.startswith((b'Byte ', b'ByteStr ')) and our.startswith(b'Verbatim ') and is_loose(unwritten(our))
+    told = re.fullmatch(r'Verbatim "(.*)" -', our.decode(), re.S)
+    return their.startswith((b'Byte ', b'ByteStr ')) and told is not None and is_loose(unescaped(told[1]).decode())
 
 
 def continues_only(c):

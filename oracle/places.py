@@ -22,7 +22,6 @@ import json
 import os
 import random
 import re
-import subprocess
 import sys
 
 import frame
@@ -91,9 +90,7 @@ def format_string(source):
 
 def answers_of(program, every):
     """Returns the lines that the example `lines` prints for the command `places`. Without a program, Cargo builds the example."""
-    if not program:
-        folder, program = os.path.join(frame.TOP, 'rust'), os.path.join(frame.TOP, 'rust/target/release/examples/lines')
-        subprocess.run(['cargo', 'build', '--quiet', '--release', '--offline', '--example', 'lines'], cwd=folder, check=True)
+    program = program or os.path.join(frame.helper('../rust', '--example', 'lines'), 'examples/lines')
     return list(map(json.loads, frame.of_rows(program, 'places', [text.encode() for text in every])))
 
 

@@ -26,7 +26,8 @@ def syn(path, command, data, is_package=False):
     """Returns the lines that syn's parsing code prints for a command. For `read`, the path is that of `reader`."""
     if command == 'value':
         return [listed.value_line(text, line, is_package) for text, line in zip(data, syn(path, 'text', data))]
-    return frame.by_length([path, '--len'] + ([] if command == 'text' else [f'--{command}']), data, command == 'read')
+    words = [path, '--len', *([] if command == 'text' else [f'--{command}'])]
+    return frame.answers_of(words, frame.with_lengths(data), data, command == 'read')
 
 
 def other(asked, command):

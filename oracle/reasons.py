@@ -10,8 +10,8 @@ errors to ours. Other options: frame.py.
 """
 import collections
 import itertools
-import os
 import re
+from pathlib import Path
 
 import frame
 import listed
@@ -67,11 +67,6 @@ def rustc_errors(texts):
     return [[it for it in errors if it[0] <= len(text.encode())] for text, errors in zip(texts, found)]
 
 
-def is_gap(text):
-    """Whether the text is white space and comments."""
-    return after_trivia(text, 0) == len(text)
-
-
 def cut_before(text, flaw):
     """Returns the end of rustc's first token, if this token is all the text before the flaw, or all except its dot. Otherwise
     returns None."""
@@ -113,7 +108,8 @@ def rustc_reason(text, flaw, error):
     end_of_first = cut_before(text, flaw)
     if end_of_first is not None and error and begin >= end_of_first:
         return 'comes later: one token is whole, and others follow'
-    if end_of_first is not None and not error and is_gap(text.encode()[end_of_first:].decode()):
+    rest = text.encode()[end_of_first:].decode()
+    if end_of_first is not None and not error and after_trivia(rest, 0) == len(rest):
         return 'none: white space and comments follow one token'
     if end_of_first is not None and not error and re.search(r'[(){}\[\]]', text):
         return 'stands elsewhere: one token is whole, and a delimiter without another follows'
@@ -169,8 +165,7 @@ def stored_texts():
     """Returns the texts with stored results. The rows of rl_rows contain their texts as hexadecimal digits."""
     yield from (text for pairs in families.STORED.values() for text, _ in pairs)
     yield from families.of_tables('flaws', 'sources')
-    with open(os.path.join(frame.TOP, 'crates/rl_rows/stdin'), 'rb') as file:
-        words = re.findall(rb'(?<![0-9a-f])(?:[0-9a-f]{2})+(?![0-9a-f])', file.read())
+    words = re.findall(rb'(?<![0-9a-f])(?:[0-9a-f]{2})+(?![0-9a-f])', Path(frame.TOP, 'crates/rl_rows/stdin').read_bytes())
     yield from (text for word in words if (text := frame.text_of(bytes.fromhex(word.decode()))) is not None)
 
 

@@ -122,7 +122,7 @@ def compare_batch(report, program, library, style, texts):
 def compare_files(asked, report, program, room):
     """Compares whole files, and the pairs of literals, each once. Returns the number of different files that are UTF-8."""
     library, literals = library_of('2021', room), set()
-    datas = frame.contents(frame.sources_below(asked.folders, ('.rs',)))
+    datas = frame.sources_below(asked.folders, ('.rs',))
     texts = [text for text in map(frame.text_of, datas) if text is not None]
     for style, batch in itertools.product(WHOLE, frame.batches(texts, *FILES)):
         literals |= compare_batch(report, program, library, style, batch)

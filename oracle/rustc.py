@@ -6,20 +6,18 @@ import os
 import re
 import subprocess
 import tempfile
+from pathlib import Path
 
 from frame import helper, up_to_points, with_lengths
 
-HEAD = ('--crate-type', 'lib', '--emit', 'metadata')
+# rustc reads a source from standard input, where it names it `<anon>`, and writes its metadata to standard output.
+HEAD = ('--crate-type', 'lib', '--emit', 'metadata', '-o', '-')
 
 
 def errors(source, edition='2021'):
     """Returns rustc's errors in a source of bytes, as its JSON objects."""
-    with tempfile.TemporaryDirectory() as folder:
-        path = os.path.join(folder, 'texts.rs')
-        with open(path, 'wb') as file:
-            file.write(source)
-        command = ['rustc', '--edition', edition, *HEAD, '--error-format=json', '-Awarnings', '-o', os.path.join(folder, 'out'), path]
-        told = subprocess.run(command, capture_output=True, check=False).stderr
+    command = ['rustc', '--edition', edition, *HEAD, '--error-format=json', '-Awarnings', '-']
+    told = subprocess.run(command, input=source, capture_output=True, check=False).stderr
     return [it for it in map(json.loads, told.splitlines()) if it.get('level') == 'error']
 
 
@@ -55,19 +53,14 @@ def rejected(texts, errors_in):
 def by_macros(library, source, given, *words):
     """Expands a source with rustc that calls the macros of a library. Returns the bytes that the macros write for the given bytes,
     or None if they write nothing, and rustc's output."""
+    crate = os.path.basename(library).removeprefix('lib').removesuffix('.so')
+    command = ['rustc', *words, *HEAD, '--cap-lints', 'allow', '--extern', f'{crate}={library}', '-']
     with tempfile.TemporaryDirectory() as folder:
-        path = {name: os.path.join(folder, name) for name in ('call.rs', 'texts', 'out', 'made')}
-        for name, data in ('call.rs', source), ('texts', given):
-            with open(path[name], 'wb') as file:
-                file.write(data)
-        names = dict(os.environ, ANSWERS_TEXTS=path['texts'], ANSWERS_OUT=path['out'], RUSTC_BOOTSTRAP='1', RUSTC_ICE='0')
-        crate = os.path.basename(library).removeprefix('lib').removesuffix('.so')
-        command = ['rustc', *words, *HEAD, '--cap-lints', 'allow', '-o', path['made'], '--extern', f'{crate}={library}', path['call.rs']]
-        printed = subprocess.run(command, env=names, capture_output=True, check=False).stderr
-        if not os.path.exists(path['out']):
-            return None, printed
-        with open(path['out'], 'rb') as file:
-            return file.read(), printed
+        texts, out = Path(folder, 'texts'), Path(folder, 'out')
+        texts.write_bytes(given)
+        names = {**os.environ, 'ANSWERS_TEXTS': texts, 'ANSWERS_OUT': out, 'RUSTC_BOOTSTRAP': '1', 'RUSTC_ICE': '0'}
+        printed = subprocess.run(command, input=source, env=names, capture_output=True, check=False).stderr
+        return out.read_bytes() if out.exists() else None, printed
 
 
 class Lexer:
@@ -80,7 +73,7 @@ class Lexer:
         """Returns the results that the macros of the source write, and rustc's first error at each line of the source."""
         out, printed = by_macros(self.library, source, with_lengths(texts), '--edition', self.edition, '--error-format', 'short')
         told = {}
-        for line, words in re.findall(rb'/call\.rs:(\d+):\d+: error[^:]*: (.*)', printed):
+        for line, words in re.findall(rb'<anon>:(\d+):\d+: error[^:]*: (.*)', printed):
             told.setdefault(int(line), words.decode(errors='replace'))
         return out or b'', told
 

@@ -13,6 +13,7 @@ frame.py.
 The result for a source is a list of lines on either side: the lines of its literals, and last the line of an error, if there is
 one.
 """
+import bisect
 import collections
 import concurrent.futures
 import functools
@@ -36,52 +37,6 @@ PLACED = re.compile(rb'(\d+)\.\.(\d+) (.*)', re.S)
 WORDS = (('--lines',), ('--lines', '--no-stray', '--only', 'int,FLOAT,Verbatim'), ('--only', 'verbatim'))
 # The edition for sources with prefixes that later editions reserve.
 OLDER = '2018'
-
-
-class Model:
-    """The model's results: how it lexes a source, and for each literal's text the line of `syn`'s parsing code."""
-
-    def __init__(self, path):
-        self.path, self.known = path, {}
-
-    def cuts(self, datas):
-        """Returns how each source is lexed, or None for a source that isn't UTF-8. Asks syn's code about new literals."""
-        cuts = [None if text is None else cut_source(text) for text in map(frame.text_of, datas)]
-        new = dict.fromkeys(token.text for cut in cuts if cut for token in cut.literals() if token.text not in self.known)
-        self.known.update({text: listed.verbatim(text) for text in new if listed.is_long_past(text)})
-        asked = [text for text in new if text not in self.known]
-        self.known.update(zip(asked, syn(self.path, 'text', [text.encode() for text in asked]) if asked else []))
-        return cuts
-
-    def lines(self, cut):
-        """Returns the lines of a source."""
-        if cut is None:
-            return [NOT_TEXT]
-        out = [b'%d..%d %s' % (token.lo, token.hi, listed.visible(self.known[token.text])) for token in cut.literals()]
-        return out + [b'error at %d..%d: %s' % (it.at, it.at, it.kind.encode()) for it in [cut.error] if it]
-
-
-class Theirs:
-    """The results of rustc's own lexer."""
-
-    def __init__(self, older):
-        """Sets the number of rejected sources that are lexed again in an older edition."""
-        self.lexer = rustc.Lexer()
-        self.before, self.older = rustc.Lexer(OLDER, self.lexer.library), older
-
-    def answers(self, datas):
-        """Returns, for each source, its lines and the edition that accepted it, or None and the start of rustc's first message."""
-        answers = [(None, 'not UTF-8')] * len(datas)
-        asked = [at for at, data in enumerate(datas) if frame.text_of(data) is not None]
-        fronts = {at: front_of(datas[at]) for at in asked}
-        told = self.lexer.literals([datas[at][fronts[at]:] for at in asked])
-        for at, (lines, words) in zip(asked, told):
-            edition = '2021'
-            if lines == b'unlexed' and self.older and 'prefix' in words:
-                self.older, edition = self.older - 1, OLDER
-                lines = self.before.told('sources', [datas[at][fronts[at]:]])[0][0]
-            answers[at] = (None, words) if lines == b'unlexed' else (moved(lines, fronts[at]), edition)
-        return answers
 
 
 def front_of(data):
@@ -111,19 +66,13 @@ def scanned(program, words, data):
 def line_places(data, lines):
     """Returns the lines with each position as a line and a column, from 1, counted in characters. A byte order mark at the start
     has no column."""
-    mark = '\ufeff'.encode()
-    out, line, begin, last = [], 1, len(mark) if data.startswith(mark) else 0, 0
-    for told in lines:
-        placed = re.fullmatch(rb'(error at |)(\d+)\.\.\d+(.*)', told, re.S)
-        if placed:
-            at = int(placed[2])
-            ends = data.count(b'\n', last, at)
-            if ends:
-                line, begin = line + ends, data.rindex(b'\n', last, at) + 1
-            last = at
-            told = b'%s%d:%d%s' % (placed[1], line, len(data[begin:at].decode()) + 1, placed[3])
-        out.append(told)
-    return out
+    begins, mark = [0, *(it.end() for it in re.finditer(b'\n', data))], '\ufeff'.encode()
+
+    def placed(it):
+        line = bisect.bisect_right(begins, int(it[2]))
+        before = data[begins[line - 1]:int(it[2])].removeprefix(mark if line == 1 else b'')
+        return b'%s%d:%d' % (it[1], line, len(before.decode()) + 1)
+    return [re.sub(rb'\A(error at |)(\d+)\.\.\d+', placed, told) for told in lines]
 
 
 def under(words, data, lines, cut):
@@ -184,8 +133,12 @@ class Sides:
     """The three sides of the comparison, and the report. The report counts sources that agree, and lines that differ."""
 
     def __init__(self, asked, report, older):
-        self.asked, self.report, self.model, self.rustc = asked, report, Model(asked.path), Theirs(older)
-        self.sources = 0
+        """`older` is the number of rejected sources that are lexed again in an older edition."""
+        self.asked, self.report, self.sources = asked, report, 0
+        # For each literal's text, the line of `syn`'s parsing code.
+        self.known = {}
+        self.lexer, self.older = rustc.Lexer(), older
+        self.before = rustc.Lexer(OLDER, self.lexer.library)
 
     def judge(self, side, name, data, their, our, known, by_line=True):
         """Counts a source whose lines are the same, or differ by listed differences: by those of lines, with `by_line`, or as a whole
@@ -208,25 +161,56 @@ class Sides:
         with concurrent.futures.ThreadPoolExecutor(self.asked.jobs) as pool:
             return list(pool.map(functools.partial(scanned, self.asked.rl_scan, words), datas))
 
+    def cuts(self, datas):
+        """Returns how the model lexes each source, or None for a source that isn't UTF-8. Asks syn's code about new literals."""
+        cuts = [None if text is None else cut_source(text) for text in map(frame.text_of, datas)]
+        new = dict.fromkeys(token.text for cut in cuts if cut for token in cut.literals() if token.text not in self.known)
+        self.known.update({text: listed.verbatim(text) for text in new if listed.is_long_past(text)})
+        asked = [text for text in new if text not in self.known]
+        self.known.update(zip(asked, syn(self.asked.path, 'text', [text.encode() for text in asked]) if asked else []))
+        return cuts
+
+    def lines(self, cut):
+        """Returns the model's lines of a source."""
+        if cut is None:
+            return [NOT_TEXT]
+        out = [b'%d..%d %s' % (token.lo, token.hi, listed.visible(self.known[token.text])) for token in cut.literals()]
+        return out + [b'error at %d..%d: %s' % (it.at, it.at, it.kind.encode()) for it in [cut.error] if it]
+
     def ours(self, datas, each):
         """Returns the results of rl_scan, or of rl_answers."""
         if each:
             return self.scanned(datas)
         return [answer.split(b'\n') if answer else [] for answer in frame.of_rows(self.asked.rl_answers, 'source', datas)]
 
+    def theirs(self, datas):
+        """Returns the results of rustc's own lexer: for each source its lines and the edition that accepted it, or None and the
+        start of rustc's first message."""
+        answers = [(None, 'not UTF-8')] * len(datas)
+        asked = [at for at, data in enumerate(datas) if frame.text_of(data) is not None]
+        fronts = {at: front_of(datas[at]) for at in asked}
+        told = self.lexer.literals([datas[at][fronts[at]:] for at in asked])
+        for at, (lines, words) in zip(asked, told):
+            edition = '2021'
+            if lines == b'unlexed' and self.older and 'prefix' in words:
+                self.older, edition = self.older - 1, OLDER
+                lines = self.before.told('sources', [datas[at][fronts[at]:]])[0][0]
+            answers[at] = (None, words) if lines == b'unlexed' else (moved(lines, fronts[at]), edition)
+        return answers
+
     def compare(self, datas, names, each=False, rustc=True):
         """Compares the results for these sources, with a process of rl_scan for each, or in bulk."""
-        cuts = self.model.cuts(datas)
+        cuts = self.cuts(datas)
         our = self.ours(datas, each)
         newer = lambda data, applies=True: listed.NEWER if applies and listed.newer(data.decode(errors='replace')) else None
         for name, data, cut, answer in zip(names, datas, cuts, our):
             self.sources, self.report.compared = self.sources + 1, self.report.compared + sum(line[:1].isdigit() for line in answer)
-            self.judge('model', name, data, self.model.lines(cut), answer, lambda: newer(data))
+            self.judge('model', name, data, self.lines(cut), answer, lambda: newer(data))
         for words in WORDS if each else ():
             side, wide = 'rl_scan ' + ' '.join(words), '--no-stray' in words
             for name, data, cut, answer, lines in zip(names, datas, cuts, our, self.scanned(datas, *words)):
                 self.judge(side, name, data, under(words, data, answer, cut), lines, lambda: newer(data, wide), by_line=False)
-        for name, data, (their, edition), answer in zip(names, datas, self.rustc.answers(datas) if rustc else (), our):
+        for name, data, (their, edition), answer in zip(names, datas, self.theirs(datas) if rustc else (), our):
             if their is None:
                 self.report.agreeing['rustc', 'rejected: ' + told_words(edition)] += 1
             else:
@@ -237,22 +221,22 @@ class Sides:
         crate and with it the macro, so that there is no result."""
         is_line = front_of(text.encode()) > len('\ufeff'.encode()) * text.startswith('\ufeff')
         first = text.partition('\n')[0] if is_line else text
-        told = self.rustc.lexer.expanded((first + '\nanswers::judged!(lexes);').encode(), [b'1'])[0]
+        told = self.lexer.expanded((first + '\nanswers::judged!(lexes);').encode(), [b'1'])[0]
         known = 'white space that the Reference has not' if any(c in text for c in listed.OTHER_WHITE) else None
         self.report.judge('fronts', text.encode(), told == b'true\n', is_line, known)
 
 
 def compare_files(asked, report):
     """Compares the results for every source below the folders, and for their literals, each once."""
-    found = frame.contents(frame.sources_below(asked.folders))
+    found = frame.sources_below(asked.folders)
     print('%d different files, %d bytes' % (len(found), sum(map(len, found))), flush=True)
     sides = Sides(asked, report, len(found))
     for batch in frame.batches(found, *AT_ONCE):
         sides.compare(batch, [found[data] for data in batch], each=True)
-    literals = [text.encode() for text in sides.model.known]
+    literals = [text.encode() for text in sides.known]
     print('%d files, %d lines; %d different literals' % (sides.sources, report.compared, len(literals)), flush=True)
     for batch, command in itertools.product(frame.batches(literals), ('text', 'int', 'float', 'value', 'strict')):
-        theirs = sides.rustc.lexer.answers(command, batch) if command == 'strict' else syn(asked.path, command, batch)
+        theirs = sides.lexer.answers(command, batch) if command == 'strict' else syn(asked.path, command, batch)
         listed.compare(report, command, batch, theirs, frame.of_rows(asked.rl_rows, command, batch))
     return sides.sources
 
@@ -272,7 +256,7 @@ def compare_generated(asked, report):
     seen = set()
     for batch in frame.batches(source_texts.soups(asked.seed, asked.count), *AT_ONCE):
         fresh = frame.fresh(batch, seen)
-        sides.model.known.clear()
+        sides.known.clear()
         sides.compare(fresh, itertools.repeat(''))
     print(f'{len(seen)} soups', flush=True)
     return sides.sources

@@ -18,7 +18,7 @@ FILES = 2_000, 8_000_000
 
 def compare(asked, report):
     library = os.path.join(frame.helper('syn'), 'libtrees.so')
-    texts = [data for data in frame.contents(frame.sources_below(asked.folders, ('.rs',))) if frame.text_of(data) is not None]
+    texts = [data for data in frame.sources_below(asked.folders, ('.rs',)) if frame.text_of(data) is not None]
     for batch in frame.batches(texts, *FILES):
         for macro in 'attributes', 'literals':
             out, printed = rustc.by_macros(library, f'trees::{macro}!();'.encode(), frame.with_lengths(batch), '--edition', '2018')

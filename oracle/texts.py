@@ -1,9 +1,9 @@
 """The texts on which literals, lists, settings and tokens are compared, in families, and the literals of files."""
 import ast
 import itertools
-import os
 import random
 import re
+from pathlib import Path
 
 import frame
 from model.sources import cut_source
@@ -25,10 +25,10 @@ FRAMES = [
     ('1e1', ''), ('1_', ''), ('0xe', ''), ('0b1e', ''), ('tru', ''), ('true', ''), ('-0', ''),
 ]
 
-with open(os.path.join(frame.TOP, 'rust/programs/tests/stored/texts.rs'), encoding='utf-8', newline='') as file:
-    # For each command of rl_tool, texts with the lines that it must print, by `syn` and an independent model. The tests of Cargo
-    # include this file too, so it is a tuple of lists of pairs both in Rust and in Python.
-    STORED = dict(zip(('text', 'read', 'attr'), ast.literal_eval(file.read())))
+# For each command of rl_tool, texts with the lines that it must print, by `syn` and an independent model. The tests of Cargo
+# include the file too, so it is a tuple of lists of pairs both in Rust and in Python.
+RESULTS = Path(frame.TOP, 'rust/programs/tests/stored/texts.rs')
+STORED = dict(zip(('text', 'read', 'attr'), ast.literal_eval(RESULTS.read_bytes().decode())))
 WORKED = [text for text, _ in STORED['text']] + [
     str(LIMIT + 1) + 'f64', '-' + str(LIMIT + 1) + '_f32', str(LIMIT + 1) + 'f16', '-' + str(LIMIT + 1) + 'f644', hex(LIMIT + 1) + 'f64',
     '"' + 'a' * 5000 + '"', 'b"' + '\\xFF' * 700 + '"', '"' + '\\u{1F600}' * 300 + '"',
@@ -223,8 +223,8 @@ PICTURES = {0x240A: '\n', 0x240D: '\r', 0x2409: '\t', 0x2400: '\0'}
 def rows():
     """Returns the texts of the stored rows of rl_rows: each start of the text of a row `cut`, and the long texts of the rows `long`,
     each of which has pieces of text after their numbers of repetitions."""
-    with open(os.path.join(frame.TOP, 'crates/rl_rows/stdin'), encoding='utf-8', errors='replace', newline='') as file:
-        plain = [line.partition(' ')[2] for line in file.read().split('\n') if line.startswith('plain ')]
+    lines = Path(frame.TOP, 'crates/rl_rows/stdin').read_bytes().decode(errors='replace').split('\n')
+    plain = [line.partition(' ')[2] for line in lines if line.startswith('plain ')]
     for kind, _, row in (it.partition(' ') for it in plain):
         if kind == 'cut':
             yield from (row.translate(PICTURES)[:end] for end in range(len(row) + 1))
@@ -235,9 +235,7 @@ def rows():
 def of_tables(*names):
     """Returns the given texts of tables of rust/programs/rows/tests/calls. A number in `⟨..⟩` represents a character."""
     for name in names:
-        with open(os.path.join(frame.TOP, f'rust/programs/rows/tests/calls/{name}.rows'), encoding='utf-8', newline='') as file:
-            blocks = file.read().split('\n\n')
-        for block in blocks:
+        for block in Path(frame.TOP, f'rust/programs/rows/tests/calls/{name}.rows').read_bytes().decode().split('\n\n'):
             given = [line[2:] for line in block.split('\n') if line.startswith('<')]
             if given:
                 yield re.sub('⟨(.*?)⟩', lambda it: chr(int(it[1], 16)), '\n'.join(given))
@@ -274,5 +272,5 @@ def fresh_batches(asked, names):
 
 def literals_of(folders):
     """Returns the texts of the literals in the files below the folders, each once, as the model lexes them."""
-    cuts = (cut_source(data.decode(errors='ignore')) for data in frame.contents(frame.sources_below(folders)))
+    cuts = (cut_source(data.decode(errors='ignore')) for data in frame.sources_below(folders))
     return list(dict.fromkeys(token.text for cut in cuts for token in cut.literals()))

@@ -15,6 +15,11 @@ pub fn split(data: &[u8]) -> impl Iterator<Item = &str> {
     })
 }
 
+/// Encodes the bytes of a text in hexadecimal.
+pub fn hex(text: &str) -> String {
+    text.bytes().map(|byte| format!("{byte:02x}")).collect()
+}
+
 /// Iterates over the texts of the file that the environment variable `ANSWERS_TEXTS` names.
 pub fn given() -> impl Iterator<Item = &'static str> {
     split(fs::read(env::var("ANSWERS_TEXTS").expect("a path")).expect("texts").leak())

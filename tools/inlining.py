@@ -3,17 +3,13 @@ that a build of the package doesn't compile what no caller uses.
 
 rustc obeys `#[inline(always)]` in unoptimized builds too, and copies the function into each of its callers. A copy of a small
 function takes little more space than a call of it, and less time. A large function is always inlined only if debug assertions are
-off, as in release builds. tools/inlining.txt lists the large functions whose inlining is left to the compiler, where that is
-faster.
-
-rustc generates the machine code of a function with `#[inline]` in the crates that call it, and that of other functions in every
-build of the package. tools/inlining.txt also lists functions and files that get `#[inline]` for this reason. No expression is
-changed.
+off, as in release builds. tools/inlining.txt lists the functions that get `#[inline]`, and the reasons. No expression is changed.
 """
 
 import re
-import sys
 from pathlib import Path
+
+from uncalled import fail
 
 LIST = Path(__file__).resolve().parent / "inlining.txt"
 ENTRY = re.compile(r"(\+ )?(\S+) ((?:\w+|\*)(?:, \w+)*): \S.*")
@@ -28,15 +24,11 @@ WHERE_RELEASED = "{0}#[cfg_attr(debug_assertions, inline)]\n{0}#[cfg_attr(not(de
 BY_ITSELF = "{0}#[inline]\n"
 
 
-def fail(what):
-    sys.exit(f"render: tools/inlining.txt: {what}")
-
-
 def listed():
     """Returns the functions that are left to the compiler, and those that are compiled by their callers, each as its file and its
     name. For all functions of a file, the name is `*`."""
     lines = [line for line in LIST.read_text().split("\n") if line and not line.startswith("#")]
-    entries = [ENTRY.fullmatch(line) or fail(f"no entry: {line}") for line in lines]
+    entries = [ENTRY.fullmatch(line) or fail(f"no entry: {line}", LIST) for line in lines]
     return [{(entry[2], name) for entry in entries if bool(entry[1]) == by_callers for name in entry[3].split(", ")}
             for by_callers in (False, True)]
 
@@ -87,7 +79,7 @@ class Inlining:
         for name, function in sorted(self.by_callers):
             inside = {path: text for path, text in files.items() if path == name or name.endswith("/") and path.startswith(name)}
             changed = {path: new for path, text in inside.items() if (new := compiled_by_callers(text, function))}
-            files.update(changed or fail(f"{name} has no function {function} that its callers can compile"))
+            files.update(changed or fail(f"{name} has no function {function} that its callers can compile", LIST))
         for name, function in sorted(self.left):
-            fail(f"{name} has no function {function} that is always inlined")
+            fail(f"{name} has no function {function} that is always inlined", LIST)
         return files

@@ -131,10 +131,6 @@ def framed(source):
     return opener + ''.join(source.choice(texts.ALPHABET) for _ in range(source.randint(0, 4))) + closer
 
 
-def trivia(source):
-    return ''.join(source.choice('/*!\n\r a') for _ in range(source.randint(1, 7)))
-
-
 def character(source):
     """Returns any character except a surrogate, after a digit, or as a literal and in its suffix."""
     code = source.randrange(source.choice((0x80, 0x3000, 0x110000)))
@@ -150,7 +146,8 @@ def makers_of_texts(source):
     makers = {name: family.__next__ for name, family in made.items()}
     return makers | {
         'worked': lambda: source.choice(texts.WORKED), 'long': lambda: source.choice(LONG), 'framed': lambda: framed(source),
-        'trivia': lambda: trivia(source), 'characters': lambda: character(source)}
+        'trivia': lambda: ''.join(source.choice('/*!\n\r a') for _ in range(source.randint(1, 7))),
+        'characters': lambda: character(source)}
 
 
 def tool_input(source, makers, command):

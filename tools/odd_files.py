@@ -1,6 +1,8 @@
 """Creates a tree of unusual files for rl_scan: unusual names, links, files that aren't text, and sources of every kind."""
+import itertools
 import os
 import stat
+from pathlib import Path
 
 import source_texts
 import texts
@@ -63,12 +65,8 @@ OTHER_PATHS = [
 
 def whole_soups(source, count):
     """Returns soups joined with lines between them, each of which is a whole source by itself."""
-    found = []
-    while len(found) < count:
-        soup = source_texts.sound(source)
-        if not cut_source(soup).error:
-            found.append(soup)
-    return '\n'.join(found)
+    every = (source_texts.sound(source) for _ in itertools.count())
+    return '\n'.join(itertools.islice((it for it in every if not cut_source(it).error), count))
 
 
 def contents(source):
@@ -86,10 +84,9 @@ def make_tree(top, source):
     """Creates the tree in a folder. Returns its files by path."""
     made = contents(source)
     for path, data in made.items():
-        whole = os.path.join(os.fsencode(top), path)
-        os.makedirs(os.path.dirname(whole), exist_ok=True)
-        with open(whole, 'wb') as file:
-            file.write(data)
+        whole = Path(top, os.fsdecode(path))
+        whole.parent.mkdir(parents=True, exist_ok=True)
+        whole.write_bytes(data)
     for name, to in LINKS.items():
         os.symlink(to, os.path.join(top, name))
     os.mkdir(os.path.join(top, EMPTY))

@@ -144,16 +144,14 @@ def render_itself():
     return module
 
 
-@contextlib.contextmanager
 def changed(file, old, new):
-    """A context in which reading the file returns its text with one change."""
+    """Returns a context in which reading the file returns its text with one change."""
     read, path = pathlib.Path.read_text, TOP / file
     text = path.read_text()
     if old not in text:
         sys.exit(f'rejects: {file} has no {old}')
     text = text.replace(old, new, 1)
-    with mock.patch.object(pathlib.Path, 'read_text', lambda it, *words, **more: text if it == path else read(it, *words, **more)):
-        yield
+    return mock.patch.object(pathlib.Path, 'read_text', lambda it, *words, **more: text if it == path else read(it, *words, **more))
 
 
 def said_of(call, *words):
@@ -203,8 +201,7 @@ def report_of(render):
 
 def try_folders(render):
     """Tests copies of the two folders, each with one change."""
-    with contextlib.redirect_stdout(io.StringIO()):
-        both = [render.core_files(), render.program_files()]
+    both = [render.core_files(), render.program_files()]
     render.core_files, render.program_files = (lambda: both[0]), (lambda: both[1])
     sys.argv = ['render', '--check']
     for at, (change, word) in enumerate(FOLDERS):

@@ -1,9 +1,5 @@
-"""Marks the items of the rendered core that the package `navyspindle` doesn't call in each set of features, as tools/uncalled.txt
-lists them.
-
-A listed item gets an attribute that compiles it only with the features of its line, or only for the programs. The imports of the
-item, and those that only such items need, get it too. For an enum, an attribute tells rustc which variants are never created. An
-item that nothing calls is left out. No expression is changed.
+"""Marks the items of the rendered core that the package `navyspindle` doesn't call in each set of features, or leaves them out.
+tools/uncalled.txt lists these items, and states what each line of the list changes. No expression is changed.
 """
 
 import re
@@ -40,8 +36,8 @@ class Entry(NamedTuple):
     is_left_out: bool
 
 
-def fail(what):
-    sys.exit(f"render: tools/uncalled.txt: {what}")
+def fail(what, path=LIST):
+    sys.exit(f"render: tools/{path.name}: {what}")
 
 
 def features():

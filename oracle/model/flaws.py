@@ -81,14 +81,10 @@ def numbers():
     ]
 
 
-def plain_tokens():
-    """Returns the expression of all tokens except raw strings."""
-    units = {kind: '(?:[^%s]|%s)' % (REJECTED[kind], escape(kind)) + '*' * (kind in COOKED) for kind in REJECTED}
-    quoted = [opener + units[kind] + opener[-1] + SUFFIX for kind, opener in {**COOKED, **SINGLE}.items()]
-    return regex.compile('|'.join([*quoted, *numbers(), 'true', 'false']))
-
-
-PLAIN = plain_tokens()
+# The forms of quoted literals, and the expression of all tokens except raw strings.
+BODIES = {kind: '(?:[^%s]|%s)' % (REJECTED[kind], escape(kind)) + '*' * (kind in COOKED) for kind in REJECTED}
+QUOTED = [opener + BODIES[kind] + opener[-1] + SUFFIX for kind, opener in {**COOKED, **SINGLE}.items()]
+PLAIN = regex.compile('|'.join([*QUOTED, *numbers(), 'true', 'false']))
 
 
 @functools.lru_cache(maxsize=None)

@@ -1,4 +1,5 @@
 """Lexes whole Rust sources. It is written only from the section of docs/GRAMMAR.md about whole sources."""
+import functools
 import itertools
 import re
 import sys
@@ -19,11 +20,7 @@ CONTINUE = '[0-9A-Z_a-z%s]' % character_class(lambda c: ('a' + c).isidentifier()
 WORD = START + CONTINUE + '*+'
 SUFFIX = '(?:%s)?+' % WORD
 
-
-def compiled(form):
-    return re.compile(form, re.S)
-
-
+compiled = functools.partial(re.compile, flags=re.S)
 # White space and comments that are skipped between tokens, except block comments.
 SPACE = compiled('(?:[%s]++|//(?![!/])[^\n]*+\n?|////[^\n]*+\n?)++' % WHITE)
 BLOCK_EDGE = compiled(r'/\*|\*/')

@@ -23,10 +23,7 @@ fn push_words(stream: TokenStream, out: &mut String) {
             }
             TokenTree::Ident(ident) => format!("I{ident} "),
             TokenTree::Punct(punct) => format!("P{}{:?} ", punct.as_char(), punct.spacing()),
-            TokenTree::Literal(literal) => {
-                let digits: String = literal.to_string().bytes().map(|byte| format!("{byte:02x}")).collect();
-                format!("L{digits} ")
-            }
+            TokenTree::Literal(literal) => format!("L{} ", texts::hex(&literal.to_string())),
         };
         out.push_str(&word);
     }

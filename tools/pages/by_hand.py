@@ -1,4 +1,5 @@
 """Runs the commands and the texts that the pages show. tools/docs calls it with --run."""
+import itertools
 import os
 import re
 import subprocess
@@ -8,8 +9,9 @@ import programs
 from .items import TOP, read
 
 
-def run_commands(tell):
-    """Runs the calls of programs that the pages show. Each call is a line after `$`, with its output below it."""
+def commands():
+    """Runs the calls of programs that the pages show. Each call is a line after `$`, with its output below it. Iterates over the
+    calls, each with whether its output is as shown, and its output."""
     found_first = dict(os.environ, PATH=f'{programs.cargo_folder()}:{os.environ["PATH"]}')
     shown = read('README.md') + read('docs/PROGRAMS.md')
     for block in re.findall(r'```sh\n(\$.*?)```', shown, re.S):
@@ -19,9 +21,7 @@ def run_commands(tell):
                 ['bash', '-c', command], cwd=TOP, env=found_first, capture_output=True, check=False)
             told = re.sub(r'^rl_\w+: .*\n', '', ran.stderr.decode(), flags=re.M)
             found = ran.stdout.decode() + told
-            print(f'{"as shown" if found == wanted else "OTHER"}: {command}', flush=True)
-            if found != wanted:
-                tell(f'{command} writes {found!r}')
+            yield command, found == wanted, found
 
 
 # The calls of docs/ERRORS.md that are commands of rl_rows.
@@ -54,13 +54,6 @@ def rows_of_errors():
             yield row
 
 
-def answers_of(rows):
-    """Returns the results of rl_rows for commands and texts."""
-    given = ''.join(f'{command} {text.encode().hex()}\n{MARK} {b"===".hex()}\n' for command, text, _ in rows)
-    ran = subprocess.run([programs.cargos('rl_rows')], input=given, capture_output=True, encoding='utf-8', check=False)
-    return ran.stdout.split(LINE)
-
-
 def stored_answer(call, text):
     """Returns the result that the table of a call has for a text, or nothing if it has no such row."""
     table, heading = STORED[call]
@@ -72,13 +65,22 @@ def stored_answer(call, text):
     return ''
 
 
-def run_errors(tell):
+def errors():
+    """Iterates over the calls of docs/ERRORS.md, each with whether its result has the message of the page, and its result."""
     shown = list(rows_of_errors())
-    for call, text, message in shown:
-        if call in STORED and message not in stored_answer(call, text):
-            tell(f'docs/ERRORS.md: no row of rust/programs/rows/tests/calls has {message} for {call} of {text}')
     rows = [it for it in shown if it[0] in COMMANDS]
-    for (call, text, message), found in zip(rows, answers_of(rows)):
-        print(f'{"as shown" if message in found else "OTHER"}: {call} {text[:60]}', flush=True)
-        if message not in found:
-            tell(f'docs/ERRORS.md: {call} of {text} tells {found!r}')
+    given = ''.join(f'{command} {text.encode().hex()}\n{MARK} {b"===".hex()}\n' for command, text, _ in rows)
+    ran = subprocess.run([programs.cargos('rl_rows')], input=given, capture_output=True, encoding='utf-8', check=False)
+    stored = [(it, stored_answer(*it[:2])) for it in shown if it[0] in STORED]
+    for (call, text, message), found in [*stored, *zip(rows, ran.stdout.split(LINE))]:
+        yield f'{call} {text[:60]}', message in found, found
+
+
+def run_all():
+    """Runs the commands and calls of the pages. Returns the exit status: 1 if a result differs."""
+    different = 0
+    for call, is_shown, found in itertools.chain(commands(), errors()):
+        different += not is_shown
+        print(f'as shown: {call}' if is_shown else f'OTHER: {call}: {found!r}', flush=True)
+    print(f'{different} differences')
+    return int(different > 0)

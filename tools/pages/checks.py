@@ -44,7 +44,7 @@ def check_items(tell):
         for path, item in items:
             lacks = {
                 'has no documentation': not item.docs.strip(),
-                'returns a Result and has no `# Errors`': item.returns_result() and not item.has_errors(),
+                'returns a Result and has no `# Errors`': item.lacks_errors(),
                 'has no example': item.name in wanted and not item.examples() and item.named_example() not in shown,
                 'has an example without a value': not all(VALUE.search(it) for it in item.examples()),
                 'has an example that is too long': any(it.count('\n') > 30 for it in item.examples()),
@@ -267,16 +267,6 @@ def check_rules(tell):
         tell(f'docs/PROGRAMS.md: {name} is a rule in only one of the manual and rule.rt')
 
 
-# Files of the repository that the package has a copy of, since Cargo packs no file from outside its folder.
-COPIES = {'rust/' + name: name for name in ('CHANGELOG.md', 'LICENSE-APACHE', 'LICENSE-MIT')}
-
-
-def check_copies(tell):
-    for copy, original in COPIES.items():
-        if read(copy) != read(original):
-            tell(f'{copy}: it is not {original}: run tools/docs --write')
-
-
 def check_diagrams(tell):
     """Checks that each diagram shows a definition that is in a source and on a page, and that the diagram of the crates is up to
     date."""
@@ -296,4 +286,4 @@ def check_diagrams(tell):
 
 OF_PAGES = (
     check_core, check_paths, check_snippets, check_definitions, check_names, check_words, check_owners,
-    check_errors, check_diagrams, check_copies, check_limits, check_options, check_rules, check_habits, check_public_names)
+    check_errors, check_diagrams, check_limits, check_options, check_rules, check_habits, check_public_names)

@@ -1,4 +1,4 @@
-"""Writes and checks the sections `## Contracts` of the pages CALLING.md: the public functions of a library with their clauses,
+"""The sections `## Contracts` of the pages CALLING.md: the public functions of a library with their clauses,
 as in the sources."""
 import functools
 import itertools
@@ -6,7 +6,8 @@ import re
 import textwrap
 
 from .items import (
-    blanked, closing, code_files, core, given_by, holders, items_of, paths, public_items, read, root_of, signature_end)
+    blanked, code_files, core, given_by, holders, items_of, paths, public_items, read, root_of, signature_end)
+from .snippets import BRACES, closing
 
 HEAD = '## Contracts\n'
 INTRODUCTION = """
@@ -63,7 +64,7 @@ def clauses_of(path, item):
     head = re.compile(r'\s*(requires|ensures)\s*(\w*)\s*\{')
     found, end = [], signature_end(code, item.at)
     while it := head.match(code, end):
-        end = closing(code, it.end() - 1)
+        end = closing(code, it.end() - 1, BRACES)
         found.append((it[1], it[2], ' '.join(re.sub(r'//[^\n]*', '', text[it.end():end - 1]).split())))
     return found
 
@@ -126,11 +127,6 @@ def section(crate):
     return '\n'.join([HEAD + INTRODUCTION, '```text', *lines, '```', '', names, '', '```text', *uses, '```', ''])
 
 
-def with_contracts(crate, page):
-    """Returns a page with its section as in the sources, at the end."""
-    return read(page).partition(HEAD)[0].rstrip('\n') + '\n\n' + section(crate)
-
-
 # The page of the laws, the heading of its section, and the subject of each crate's laws.
 LAWS_PAGE, LAWS = 'docs/RATTLE.md', '## Laws and lemmas\n'
 SUBJECTS = {
@@ -155,11 +151,6 @@ def comment_of(crate, name):
     return []
 
 
-def lemma_of(name):
-    """Returns the lemma that proves a statement, which has the statement's name."""
-    return re.sub(r'(?<!^)(?=[A-Z])', '_', name.split(' ')[0]).lower()
-
-
 def lemmas_of(crate):
     """Returns the lemmas of a crate's theorems, each with its module."""
     return {name: path.removeprefix('crates/').removesuffix('.antt').replace('/', '.')
@@ -173,7 +164,8 @@ def laws_section(crate):
         names = [said for _, _, said in clauses_of(path, item)]
         for name in names:
             lines += paragraph(item.docs) if len(names) == 1 else comment_of(crate, name.split(' ')[0])
-            lemma = lemma_of(name)
+            # The lemma that proves a statement has its name.
+            lemma = re.sub(r'(?<!^)(?=[A-Z])', '_', name.split(' ')[0]).lower()
             uses.setdefault(modules[lemma], []).append(lemma)
             lines += [f'{lemma} : {name}', f'    = {statement(name)}']
     used = ''.join(f'use Rattle.{module}.{{{", ".join(sorted(names))}}}\n' for module, names in uses.items())
@@ -191,11 +183,4 @@ def as_they_are():
     """Iterates over the pages with such a section, each with its text as in the sources."""
     yield LAWS_PAGE, with_laws()
     for crate, page in calling_pages().items():
-        yield page, with_contracts(crate, page)
-
-
-def check_contracts(tell):
-    """Checks that each section is equal to the sources, and that each law has a lemma of its name."""
-    for page, text in as_they_are():
-        if text != read(page):
-            tell(f'{page}: the contracts or laws are not those of the sources: run tools/docs --write')
+        yield page, read(page).partition(HEAD)[0].rstrip('\n') + '\n\n' + section(crate)

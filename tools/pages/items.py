@@ -5,7 +5,7 @@ import os
 import re
 from typing import NamedTuple
 
-from .snippets import EXAMPLE, PARTS, bare, blanked
+from .snippets import EXAMPLE, bare, blanked, closing
 
 TOP = os.path.dirname(os.path.dirname(os.path.dirname(os.path.abspath(__file__))))
 # The crates whose items are for callers.
@@ -58,26 +58,10 @@ class Item(NamedTuple):
         found = re.search(r'example of\s+\[`([\w:]+)`\]', self.docs)
         return found[1] if found else None
 
-    def has_errors(self):
-        return re.search(r'# Errors\n+\S', self.docs) is not None
-
-    def returns_result(self):
-        return self.kind == 'fn' and re.search(r'->\s*(?:[\w:]+::)?Result<', self.head) is not None
-
-
-def closing(code, at):
-    """Returns the position after the brace that closes the one at `at`. Strings and characters are skipped."""
-    depth = 0
-    for it in re.compile(PARTS.pattern + '|[{}]', re.S).finditer(code, at):
-        depth += {'{': 1, '}': -1}.get(it[0], 0)
-        if depth == 0 and it[0] == '}':
-            return it.end()
-    return len(code)
-
-
-def on_a_line(code):
-    line = re.sub(r'\s+', ' ', code).strip()
-    return re.sub(r',? ([)\]])', r'\1', re.sub(r'([(\[]) ', r'\1', line)).rstrip(',')
+    def lacks_errors(self):
+        """Whether the item returns a `Result`, and its documentation has no `# Errors`."""
+        returns = self.kind == 'fn' and re.search(r'->\s*(?:[\w:]+::)?Result<', self.head)
+        return bool(returns) and not re.search(r'# Errors\n+\S', self.docs)
 
 
 def docs_before(text, at):
@@ -118,7 +102,10 @@ def items_of(path):
             continue
         end = signature_end(code, it.end())
         name = f'{within.name}::{it[4]}' if within else it[4]
-        found.append(Item(it[3], name, docs_before(text, it.start()), on_a_line(code[it.start(3):end]), it.start()))
+        # The signature in one line.
+        head = re.sub(r'([(\[]) ', r'\1', ' '.join(code[it.start(3):end].split()))
+        head = re.sub(r',? ([)\]])', r'\1', head).rstrip(',')
+        found.append(Item(it[3], name, docs_before(text, it.start()), head, it.start()))
         if it[3] in ('struct', 'enum') and code[end] == '{':
             found += parts_of(text, code, end, it[4])
     return found

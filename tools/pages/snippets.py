@@ -2,9 +2,20 @@
 pasted."""
 import functools
 import re
+import sys
 
-# A string, a character, or a comment up to the line's end.
-PARTS = re.compile(r'"(?:\\.|[^"\\])*"|\'(?:\\.|[^\'\\])\'|//[^\n]*', re.S)
+# Parts without code: comments, texts and characters. A lifetime is matched too, so that its quote doesn't begin a character.
+NO_CODE = re.compile(
+    r"""//[^\n]*|/\*.*?\*/
+    |(?<!\w)b?r(?P<hashes>\#*)".*?"(?P=hashes)|(?:(?<!\w)b)?"(?:[^"\\]|\\.)*"
+    |(?:(?<!\w)b)?'(?:[^'\\\n]|\\(?:x..|u\{[^}]*\}|.))'
+    |(?P<life>'[A-Za-z_]\w*)""",
+    re.S | re.X,
+)
+# The brackets of code, and the braces of a clause, in whose terms quotes are parts of names.
+BRACKETS = re.compile(NO_CODE.pattern + r"|[()\[\]{}]", re.S | re.X)
+OPENING, CLOSING = set("([{"), set(")]}")
+BRACES = re.compile(r'"(?:[^"\\]|\\.)*"|[{}]')
 # The start of an item, in column 0.
 ITEM_HEAD = re.compile(
     r'#!?\[|(?:pub(?:\(crate\))? )?(?:(?:ghost )?use|unsafe|const|static|fn|struct|enum|trait|type|impl|mod)\b')
@@ -18,16 +29,26 @@ EXAMPLE = re.compile(r'```(?:rust)?\n(.*?)```', re.S)
 VALUE = re.compile(r'^ *// (.* == .*)$', re.M)
 
 
+def closing(text, at, marks=BRACKETS):
+    """Returns the position after the bracket that closes the one at `at`. Strings and comments are skipped."""
+    depth = 0
+    for it in marks.finditer(text, at):
+        depth += (it[0] in OPENING) - (it[0] in CLOSING)
+        if depth == 0:
+            return it.end()
+    sys.exit(f'not closed: {text[at:at + 60]}')
+
+
 def bare(code):
     """Returns the code without comments and white space."""
-    kept = PARTS.sub(lambda it: '' if it[0].startswith('//') else it[0], code)
+    kept = NO_CODE.sub(lambda it: '' if it[0].startswith('//') else it[0], code)
     return re.sub(r'\s+', '', kept)
 
 
 @functools.cache
 def blanked(code):
     """Returns the code with spaces in place of comments, so that positions stay the same."""
-    return PARTS.sub(lambda it: ' ' * len(it[0]) if it[0].startswith('//') else it[0], code)
+    return NO_CODE.sub(lambda it: ' ' * len(it[0]) if it[0].startswith('//') else it[0], code)
 
 
 def whole_items(code):

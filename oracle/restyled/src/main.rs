@@ -24,10 +24,6 @@ fn written<'t>(front: &str, text: &'t str, style: Style) -> Result<Cow<'t, str>,
     }
 }
 
-fn digits_of(text: &str) -> String {
-    text.bytes().map(|byte| format!("{byte:02x}")).collect()
-}
-
 /// Returns the output line for a row.
 fn row(front: &str, text: &str, style: Style) -> String {
     let answer = written(front, text, style);
@@ -38,7 +34,7 @@ fn row(front: &str, text: &str, style: Style) -> String {
         Err(_) => "!".to_owned(),
         Ok(Cow::Borrowed(_)) => "=".to_owned(),
         Ok(Cow::Owned(new)) if !matches!(written(front, &new, style), Ok(Cow::Borrowed(_))) => "~".to_owned(),
-        Ok(Cow::Owned(new)) => digits_of(&new),
+        Ok(Cow::Owned(new)) => texts::hex(&new),
     }
 }
 
@@ -46,7 +42,7 @@ fn main() -> io::Result<()> {
     if let Some(letters) = std::env::args().nth(1) {
         return texts::print(|text| {
             let new = rewrite_source(text, style_of(&letters)).apply();
-            digits_of(new.as_deref().unwrap_or(text)) + "\n"
+            texts::hex(new.as_deref().unwrap_or(text)) + "\n"
         });
     }
     for line in io::stdin().lines() {
