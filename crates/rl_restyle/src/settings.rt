@@ -1,6 +1,7 @@
 //! Converts the values of `--rule` to the text of a style file.
 
 ghost use Rattle.std.specs.Prelude.{◌≡◌, ◌++◌, option_map, string_bytes, IfOk, OnOk};
+ghost use Rattle.std.specs.List.{list_all};
 ghost use Rattle.rl_files.specs.Globs.{borrowed_texts};
 ghost use Rattle.rl_restyle.specs.Settings.{is_bare_string as bare_string, is_word_byte as word_byte, setting_line, settings_text as text_for, value_part as part_after};
 
@@ -24,12 +25,18 @@ fn is_word_byte(byte: u8) -> bool
     byte.is_ascii_alphabetic() || byte == b'_'
 }
 
+/// Whether all bytes are ASCII letters or `_`.
+fn are_word_bytes(bytes: &[u8]) -> bool
+    ensures { result ≡ list_all word_byte bytes.now }
+{
+    bytes.iter().all(|byte| is_word_byte(*byte))
+}
+
 /// Whether a value is a word in place of a string: it consists of letters and `_`, and isn't `true` or `false`. It may be empty.
 fn is_bare_string(value: &str) -> bool
     ensures { result ≡ bare_string value.now }
 {
-    let bytes = value.as_bytes();
-    bytes.iter().all(|byte| is_word_byte(*byte)) && value != "true" && value != "false"
+    are_word_bytes(value.as_bytes()) && value != "true" && value != "false"
 }
 
 /// Appends the line of a style file that a value of `--rule` represents.

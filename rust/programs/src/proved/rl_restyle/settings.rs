@@ -18,10 +18,14 @@ fn is_word_byte(byte: u8) -> bool {
     byte.is_ascii_alphabetic() || byte == b'_'
 }
 
+/// Whether all bytes are ASCII letters or `_`.
+fn are_word_bytes(bytes: &[u8]) -> bool {
+    bytes.iter().all(|byte| is_word_byte(*byte))
+}
+
 /// Whether a value is a word in place of a string: it consists of letters and `_`, and isn't `true` or `false`. It may be empty.
 fn is_bare_string(value: &str) -> bool {
-    let bytes = value.as_bytes();
-    bytes.iter().all(|byte| is_word_byte(*byte)) && value != "true" && value != "false"
+    are_word_bytes(value.as_bytes()) && value != "true" && value != "false"
 }
 
 /// Appends the line of a style file that a value of `--rule` represents.
