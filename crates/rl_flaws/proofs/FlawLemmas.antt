@@ -22,8 +22,8 @@ open_left how o rest len piece (Whole t) r f = absurd f
 open_left how o rest len piece Nothing r f = absurd f
 open_left how o rest len piece (Closed k t) r f = absurd f
 open_left how o rest len piece (Inside p after) r f = record {
-  rest_in = step_in how (chars rest.now) (chars piece) (chars after.now) r f.1.rest_in;
-  reads = f.1.reads;
+  rest_in = step_in how (chars rest.now) (chars piece) (chars after.now) r f.2;
+  reads = f.1;
   same_kind = ap (λ (z : Opened). Some z.kind) f.0;
   same_front = ap opened_front f.0;
   some_left = refl;
@@ -133,7 +133,7 @@ inside_left how o rest len piece true single closed (Whole w) l t s after = absu
 inside_left how o rest len piece true single closed (Closed k r) l t s after = absurd after
 inside_left how o rest len piece true single closed Nothing l t s after = absurd after
 inside_left how o rest len piece true single closed (Inside p r) l t s f =
-    let tail = f.1.following in
+    let tail = f.3 in
     let b : length piece ≡ length tail.front + length r.now = ap length tail.text_is ∙ length-append tail.front r.now in
     let same : byte_len (opened_front p) ≡ byte_len (opened_front o) = ap (λ (z : Opened). byte_len (opened_front z))
     f.0 in (
@@ -176,5 +176,5 @@ inside_less how o rest len piece s u d left t some after = go (s && u) d left re
     go true d (Closed k r) e h = absurd h
     go true d Nothing e h = absurd h
     go true d (Inside p r) e h =
-        let less = less_after how (closer o.kind) piece r.now (some (and_parts s u e).1) h.1.reads h.1.following in
+        let less = less_after how (closer o.kind) piece r.now (some (and_parts s u e).1) h.1 h.3 in
         omega (arith, less, t)

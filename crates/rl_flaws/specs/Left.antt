@@ -32,15 +32,12 @@ IsLeft len (Closed kind rest) =
     IsTrue (is_single kind) × IsTrue (first_passes is_apostrophe (chars rest.now)) × (length rest.now ≤ len) × IsUtf8 rest.now
 IsLeft len Nothing = ⊤
 
--- The text `piece` begins with an invalid character or escape. The unchecked text begins after this character or escape.
-pub record IsAfterPiece (ends : LineEnds) (o : Opened) (piece rest : List ℕ) : Type 0 where
-  pub reads : read_of ends (chars rest) ≡ after_bad_piece (closer o.kind) (read_of ends (chars piece))
-  pub rest_in : IsRestOf ends (chars piece) (chars rest)
-  pub following : IsTail piece rest
-
--- The literal is still open, and the unchecked text begins after the invalid character or escape.
+-- The literal is still open. The text `piece` begins with an invalid character or escape, and the unchecked text begins after
+-- this character or escape.
 abbrev pub FollowsPiece : LineEnds → Opened → List ℕ → Left → Type 0
-FollowsPiece ends o piece (Inside p rest) = (p ≡ o) × IsAfterPiece ends o piece rest.now
+FollowsPiece ends o piece (Inside p rest) =
+    (p ≡ o) × (read_of ends (chars rest.now) ≡ after_bad_piece (closer o.kind) (read_of ends (chars piece)))
+    × IsRestOf ends (chars piece) (chars rest.now) × IsTail piece rest.now
 FollowsPiece ends o piece left = ⊥
 
 -- The unchecked text begins at the closing quote of the character or byte literal. Without a closing quote, no text is left

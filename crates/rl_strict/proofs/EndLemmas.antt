@@ -1,5 +1,5 @@
 -- Lemmas on texts as they are read: with CR LF read as LF in a file, and unchanged outside files.
-use Rattle.rl_strict.proofs.Names.{◌≡◌, ℕ, Bool, true, List, [], ◌++◌, Option, Some, None, refl, sym, ap, ◌∙◌, append_assoc, option_map, replicate, Kind, first_passes, is_single, is_string, begins, has_form, QuotedForm, is_some_text, unit_rest, ClosesForm, FlawKind, LineEnds, Text, File, StopsBefore, IsFileRest, IsRestOf, read_of, strict_unit_flaw_at, suffix_read_at, FoundFlaw, end_flaw_at}
+use Rattle.rl_strict.proofs.Names.{◌≡◌, ℕ, Bool, true, List, [], ◌++◌, Option, Some, None, refl, sym, ap, ◌∙◌, append_assoc, option_map, replicate, Kind, first_passes, is_single, is_string, begins, has_form, QuotedForm, is_some_text, unit_rest, ClosesForm, FlawKind, LineEnds, Text, File, StopsBefore, IsRestOf, read_of, strict_unit_flaw_at, suffix_read_at, FoundFlaw, end_flaw_at}
 use Rattle.rl_strict.proofs.FileEscapes.{unit_flaw_read}
 use Rattle.rl_strict.proofs.FileSuffixes.{end_flaw_read, first_read, suffix_place, suffix_read}
 use Rattle.rl_strict.proofs.FileTextLemmas.{form_rest, free_text, lacks_cr, rest_free, rest_self, rest_step}
@@ -8,7 +8,7 @@ use Rattle.rl_strict.proofs.FileUnits.{closer_read, single_in, single_read, stuc
 -- ---- ends of texts, which don't begin between a CR and an LF in a file
 
 -- An end of a text in a file, which doesn't begin between a CR and its LF, is also an end of the text outside files.
-pub loose : (t rest : List ℕ) → IsFileRest t rest → IsRestOf Text t rest
+pub loose : (t rest : List ℕ) → IsRestOf File t rest → IsRestOf Text t rest
 loose t rest r = record { front = r.front; text_is = r.text_is; seam = refl }
 
 pub self_in : (how : LineEnds) (t : List ℕ) → IsRestOf how t t

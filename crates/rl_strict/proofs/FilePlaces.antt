@@ -1,5 +1,5 @@
 -- Byte offsets in a text as written, and in the text with CR LF read as LF.
-use Rattle.rl_strict.proofs.Names.{◌≡◌, ℕ, ◌+◌, ◌-◌, ◌≤◌, Bool, true, false, cond, List, [], ◌∷◌, ◌++◌, length, refl, sym, ap, subst, ◌∙◌, arith, and_from, and_parts, append-nil, append_assoc, append_cancel_right, drop, encode_utf8, encode_utf8_all, encodes-chars, chars_from_encodes, scalar, IsUtf8, byte_len, chars, scalars-chars, IsTail, byte_len-append, tail_chars, Flaw, FlawKind, LineEnds, Text, File, first_len, IsPlaceInFile, IsFileRest, IsRestOf, is_dropped, lf_text, read_of, ExplainsOf, IsFlawOf, IsPlaceAfter, IsRestPlace, SaysOf, lf_bytes}
+use Rattle.rl_strict.proofs.Names.{◌≡◌, ℕ, ◌+◌, ◌-◌, ◌≤◌, Bool, true, false, cond, List, [], ◌∷◌, ◌++◌, length, refl, sym, ap, subst, ◌∙◌, arith, and_from, and_parts, append-nil, append_assoc, append_cancel_right, drop, encode_utf8, encode_utf8_all, encodes-chars, chars_from_encodes, scalar, IsUtf8, byte_len, chars, scalars-chars, IsTail, byte_len-append, tail_chars, Flaw, FlawKind, LineEnds, Text, File, first_len, IsPlaceInFile, IsRestOf, is_dropped, lf_text, read_of, ExplainsOf, IsFlawOf, IsPlaceAfter, IsRestPlace, SaysOf, lf_bytes}
 use Rattle.std.proofs.Math.Utf8.{scalars}
 use Rattle.rl_strict.proofs.FileTextLemmas.{rest_text}
 use Rattle.rl_strict.proofs.StrictExplainLemmas.{cut_bytes}
@@ -28,7 +28,7 @@ lf_same t u e = ap encode_utf8_all e ∙ encodes-chars t u
 
 -- ---- ends of a text
 
-pub rest_bytes : (t rest : List ℕ) → IsUtf8 t → IsUtf8 rest → (r : IsFileRest (chars t) (chars rest)) → length t
+pub rest_bytes : (t rest : List ℕ) → IsUtf8 t → IsUtf8 rest → (r : IsRestOf File (chars t) (chars rest)) → length t
     ≡ byte_len r.front + length rest
 rest_bytes t rest ut ur r = cut_bytes t rest r.front ut ur r.text_is
 
@@ -38,17 +38,17 @@ rest_length how t rest ut ur r = cut_bytes t rest r.front ut ur r.text_is
 
 -- Let `rest` be an end of a text that doesn't begin between a CR and its LF. The whole text with CR LF read as LF consists
 -- of two parts: the text before `rest`, and `rest`, each with CR LF read as LF.
-lf_cut : (t rest : List ℕ) → IsUtf8 t → IsUtf8 rest → (r : IsFileRest (chars t) (chars rest)) → chars (lf_bytes t)
+lf_cut : (t rest : List ℕ) → IsUtf8 t → IsUtf8 rest → (r : IsRestOf File (chars t) (chars rest)) → chars (lf_bytes t)
     ≡ lf_text r.front ++ chars (lf_bytes rest)
 lf_cut t rest ut ur r = lf_chars t ut ∙ rest_text (chars t) (chars rest) r
     ∙ ap (λ z. lf_text r.front ++ z) (sym (lf_chars rest ur))
 
-pub lf_tail : (t rest : List ℕ) → IsUtf8 t → IsUtf8 rest → IsFileRest (chars t) (chars rest)
+pub lf_tail : (t rest : List ℕ) → IsUtf8 t → IsUtf8 rest → IsRestOf File (chars t) (chars rest)
     → IsTail (lf_bytes t) (lf_bytes rest)
 lf_tail t rest ut ur r =
     tail_chars (lf_bytes t) (lf_bytes rest) (lf_text r.front) (lf_utf8 t ut) (lf_utf8 rest ur) (lf_cut t rest ut ur r)
 
-pub lf_place : (t rest : List ℕ) (at : ℕ) → IsUtf8 t → IsUtf8 rest → (r : IsFileRest (chars t) (chars rest)) → at +
+pub lf_place : (t rest : List ℕ) (at : ℕ) → IsUtf8 t → IsUtf8 rest → (r : IsRestOf File (chars t) (chars rest)) → at +
     length rest ≡ length t → IsPlaceInFile (chars t) (length (lf_bytes t) - length (lf_bytes rest)) at
 lf_place t rest at ut ur r e =
     let read = cut_bytes (lf_bytes t) (lf_bytes rest) (lf_text r.front) (lf_utf8 t ut) (lf_utf8 rest ur)

@@ -1,6 +1,6 @@
 -- The parse result of a literal's text. In a file, a string parses as the text with CR LF read as LF. Any other literal
 -- parses as written.
-use Rattle.rl_strict.proofs.Names.{◌≡◌, ℕ, ◌+◌, ◌-◌, ◌≤◌, ◌==◌, Bool, true, false, not, List, ◌∷◌, ◌++◌, length, list_all, refl, sym, ap, subst, ◌∙◌, inl, inr, arith, drop, take, encodes-chars, replicate, IsUtf8, Kind, byte_len, is_plain, is_string, chars, IsTail, tail_length, word_without, IsStrictSuffix, length-drop, Body, CookedForm, RawForm, IsQuotedAt, IsBodyWithin, body_in, suffix_in, found_opener, opener_at, BeginsStrictUnits, front_sound, body_text, placed, LineEnds, Text, File, Reading, AText, Unit, Truth, Number, AnInteger, AFloatNumber, IsFileRest, IsRestOf, lf_text, read_of, is_strict_suffix, raw_stop, IsReadingInFile, IsReadingOf, lf_bytes, plain_of, IsSignedToken, IsNumberRead, suffix_of, IsStrictReading, placed_in, IsToken}
+use Rattle.rl_strict.proofs.Names.{◌≡◌, ℕ, ◌+◌, ◌-◌, ◌≤◌, ◌==◌, Bool, true, false, not, List, ◌∷◌, ◌++◌, length, list_all, refl, sym, ap, subst, ◌∙◌, inl, inr, arith, drop, take, encodes-chars, replicate, IsUtf8, Kind, byte_len, is_plain, is_string, chars, IsTail, tail_length, word_without, IsStrictSuffix, length-drop, Body, CookedForm, RawForm, IsQuotedAt, IsBodyWithin, body_in, suffix_in, found_opener, opener_at, BeginsStrictUnits, front_sound, body_text, placed, LineEnds, Text, File, Reading, AText, Unit, Truth, Number, AnInteger, AFloatNumber, IsRestOf, lf_text, read_of, is_strict_suffix, raw_stop, IsReadingInFile, IsReadingOf, lf_bytes, plain_of, IsSignedToken, IsNumberRead, suffix_of, IsStrictReading, placed_in, IsToken}
 use Rattle.rl_lenient.proofs.FoundLemmas.{body_long}
 use Rattle.rl_strict.proofs.FilePlaces.{lf_chars, lf_place, lf_same, lf_tail, lf_utf8}
 use Rattle.rl_strict.proofs.FileTextLemmas.{lacks_cr, rest_step, same_text, token_free, token_same}
@@ -95,9 +95,9 @@ pub record InFile (t opened closing suffix : List ℕ) (body : Body) : Type 0 wh
   pub opened_utf8 : IsUtf8 opened
   pub closing_utf8 : IsUtf8 closing
   pub suffix_utf8 : IsUtf8 suffix
-  pub opened_in : IsFileRest (chars t) (chars opened)
-  pub closing_in : IsFileRest (chars opened) (chars closing)
-  pub suffix_in_closing : IsFileRest (chars closing) (chars suffix)
+  pub opened_in : IsRestOf File (chars t) (chars opened)
+  pub closing_in : IsRestOf File (chars opened) (chars closing)
+  pub suffix_in_closing : IsRestOf File (chars closing) (chars suffix)
   pub strict : is_strict_suffix (lf_text (chars suffix)) ≡ true
   pub stands : IsBodyWithin t body
   pub body_is : chars opened ≡ chars (body_in t body) ++ chars closing

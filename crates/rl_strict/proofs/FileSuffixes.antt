@@ -1,6 +1,6 @@
 -- In a file, three results of the code don't change if CR LF is read as LF: the flaw of a suffix, the flaw of a text that
 -- begins neither as a number nor as a quoted literal, and the opening delimiter.
-use Rattle.rl_strict.proofs.Names.{◌≡◌, ℕ, Bool, true, false, not, ◌==◌, ◌&&◌, ◌||◌, cond, List, [], ◌∷◌, Option, Some, None, refl, sym, ap, subst, ◌∙◌, arith, and_parts, not-true, is_xid_continue, is_xid_continue-ascii, is_xid_start, is_xid_start-ascii, list_all, option_map, ByteStr, CStr, Kind, Str, after_run, first_passes, truth_text, and_left, is_continue, is_start, is_white, all_weaker, apart, run, FoundOpener, byte_opener_at, opener_at, string_opener_at, is_some_text, QuotedForm, CookedForm, RawForm, SingleForm, run_all, run_join, and_from, FlawKind, BadSuffix, TextAfterQuote, ExtraHash, NotALiteral, UnderscoreSuffix, UnexpectedEnd, is_dropped, lf_text, IsFileRest, form_quote, is_raw_form, begins_hash, suffix_end_flaw_at, suffix_rest, is_lone_underscore, suffix_end_read, suffix_read_at, FoundFlaw, found_flaw, after_letters, end_flaw_at, word_flaw_at}
+use Rattle.rl_strict.proofs.Names.{◌≡◌, ℕ, Bool, true, false, not, ◌==◌, ◌&&◌, ◌||◌, cond, List, [], ◌∷◌, Option, Some, None, refl, sym, ap, subst, ◌∙◌, arith, and_parts, not-true, is_xid_continue, is_xid_continue-ascii, is_xid_start, is_xid_start-ascii, list_all, option_map, ByteStr, CStr, Kind, Str, after_run, first_passes, truth_text, and_left, is_continue, is_start, is_white, all_weaker, apart, run, FoundOpener, byte_opener_at, opener_at, string_opener_at, is_some_text, QuotedForm, CookedForm, RawForm, SingleForm, run_all, run_join, and_from, FlawKind, BadSuffix, TextAfterQuote, ExtraHash, NotALiteral, UnderscoreSuffix, UnexpectedEnd, is_dropped, lf_text, IsRestOf, File, form_quote, is_raw_form, begins_hash, suffix_end_flaw_at, suffix_rest, is_lone_underscore, suffix_end_read, suffix_read_at, FoundFlaw, found_flaw, after_letters, end_flaw_at, word_flaw_at}
 use Rattle.rl_strict.proofs.FileTextLemmas.{by_first, lacks_cr, line_of, rest_free, rest_self, when_kept}
 
 -- ---- a function applied to both cases of a condition
@@ -63,7 +63,7 @@ front_read test r l (c ∷ cs) = go (front_read test r l cs) (is_dropped c cs) r
     go ih false h = ap (run test) (when_kept c cs h) ∙ ap (λ z. cond (test c) (c ∷ z) []) ih
 
 -- If a test fails for CR, the text after the first characters that pass the test doesn't begin between a CR and its LF.
-pub run_rest : (test : ℕ → Bool) → test 13 ≡ false → (t : List ℕ) → IsFileRest t (after_run test t)
+pub run_rest : (test : ℕ → Bool) → test 13 ≡ false → (t : List ℕ) → IsRestOf File t (after_run test t)
 run_rest test r t = rest_free t (run test t) (after_run test t) (run_join test t)
     (all_weaker test (λ c. not (c == 13)) (λ c h. ap not (apart test c 13 h r)) (run test t) (run_all test t))
 
@@ -94,7 +94,7 @@ suffix_rest_read t = by_first (λ z r. suffix_rest r ≡ lf_text (suffix_rest z)
     kept c cs e = both lf_text (is_start c) (after_run is_continue cs) (c ∷ cs) (after_run is_continue (lf_text cs))
         (c ∷ lf_text cs) (run_read is_continue cr_continue lf_continue cs) (sym e)
 
-pub suffix_in : (t : List ℕ) → IsFileRest t (suffix_rest t)
+pub suffix_in : (t : List ℕ) → IsRestOf File t (suffix_rest t)
 unfolding suffix_rest
 suffix_in [] = rest_self []
 suffix_in (c ∷ cs) = go (is_start c) refl
@@ -104,7 +104,7 @@ suffix_in (c ∷ cs) = go (is_start c) refl
         (all_weaker is_continue (λ d. not (d == 13)) (λ d k. ap not (apart is_continue d 13 k cr_continue))
         (run is_continue cs) (run_all is_continue cs))
 
-    go : (b : Bool) → is_start c ≡ b → IsFileRest (c ∷ cs) (cond b (after_run is_continue cs) (c ∷ cs))
+    go : (b : Bool) → is_start c ≡ b → IsRestOf File (c ∷ cs) (cond b (after_run is_continue cs) (c ∷ cs))
     go true h = rest_free (c ∷ cs) (c ∷ run is_continue cs) (after_run is_continue cs)
         (ap (λ z. c ∷ z) (run_join is_continue cs)) (word h)
     go false h = rest_self (c ∷ cs)
@@ -172,16 +172,16 @@ end_place form t (c ∷ cs) f h = go (c == form_quote form) h
     go true e = let same : found_flaw TextAfterQuote (c ∷ cs) ≡ f = cc in ap (λ z. z.1) (sym same)
     go false e = let same : found_flaw BadSuffix (c ∷ cs) ≡ f = cc in ap (λ z. z.1) (sym same)
 
-pub suffix_place : (form : QuotedForm) (t : List ℕ) (f : FoundFlaw) → Some f ≡ suffix_read_at form t → IsFileRest t f.1
+pub suffix_place : (form : QuotedForm) (t : List ℕ) (f : FoundFlaw) → Some f ≡ suffix_read_at form t → IsRestOf File t f.1
 unfolding suffix_read_at
 suffix_place form t f h = go (begins_hash form t) (sym h)
   where
     go : (b : Bool) → cond b (Some (found_flaw ExtraHash t)) (suffix_end_read form t (suffix_rest t)) ≡ Some f
-        → IsFileRest t f.1
+        → IsRestOf File t f.1
     go true e =
         let same : found_flaw ExtraHash t ≡ f = cc in
-        subst (IsFileRest t) (ap (λ z. z.1) same) (rest_self t)
-    go false e = subst (IsFileRest t) (sym (end_place form t (suffix_rest t) f e)) (suffix_in t)
+        subst (IsRestOf File t) (ap (λ z. z.1) same) (rest_self t)
+    go false e = subst (IsRestOf File t) (sym (end_place form t (suffix_rest t) f e)) (suffix_in t)
 
 -- ---- texts in a file that begin as the words `true` and `false`
 

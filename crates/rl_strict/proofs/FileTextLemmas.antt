@@ -1,5 +1,5 @@
 -- Lemmas on texts with CR LF read as LF: each CR before an LF is dropped.
-use Rattle.rl_strict.proofs.Names.{◌≡◌, ℕ, Bool, true, false, not, ◌==◌, cond, List, [], ◌∷◌, ◌++◌, refl, sym, ap, subst, ◌∙◌, append_assoc, and_parts, both_ways, eqb-true, flat_map, list_all, list_all-append, not-true, Kind, first_passes, is_string, strict_text, and-false, and_left, form_opener, has_form, BeginsStrictUnits, QuotedForm, CookedForm, is_strict_suffix, ClosesForm, IsToken, StopsBefore, is_dropped, lf_text, IsFileRest, is_seam}
+use Rattle.rl_strict.proofs.Names.{◌≡◌, ℕ, Bool, true, false, not, ◌==◌, cond, List, [], ◌∷◌, ◌++◌, refl, sym, ap, subst, ◌∙◌, append_assoc, and_parts, both_ways, eqb-true, flat_map, list_all, list_all-append, not-true, Kind, first_passes, is_string, strict_text, and-false, and_left, form_opener, has_form, BeginsStrictUnits, QuotedForm, CookedForm, is_strict_suffix, ClosesForm, IsToken, StopsBefore, is_dropped, lf_text, IsRestOf, File, is_seam}
 use Rattle.rl_syntax.proofs.StrictReturns.{strict_holds_no_return}
 use Rattle.rl_strict.proofs.StrictLemmas.{close_token}
 use Rattle.rl_strict.proofs.StrictUnitRows.{breaks_to}
@@ -94,10 +94,10 @@ seam_join (c ∷ d ∷ ds) m b p q = seam_join (d ∷ ds) m b p q
 
 -- ---- ends of a text that don't begin between a CR and an LF
 
-pub rest_self : (t : List ℕ) → IsFileRest t t
+pub rest_self : (t : List ℕ) → IsRestOf File t t
 rest_self t = record { front = []; text_is = refl; seam = refl }
 
-pub rest_step : (a b d : List ℕ) → IsFileRest a b → IsFileRest b d → IsFileRest a d
+pub rest_step : (a b d : List ℕ) → IsRestOf File a b → IsRestOf File b d → IsRestOf File a d
 rest_step a b d p q = record {
   front = p.front ++ q.front;
   text_is = p.text_is ∙ ap (λ z. p.front ++ z) q.text_is ∙ sym (append_assoc p.front q.front d);
@@ -105,21 +105,21 @@ rest_step a b d p q = record {
 }
 
 -- The text after a prefix without CR doesn't begin between a CR and its LF.
-pub rest_free : (t front rest : List ℕ) → t ≡ front ++ rest → lacks_cr front ≡ true → IsFileRest t rest
+pub rest_free : (t front rest : List ℕ) → t ≡ front ++ rest → lacks_cr front ≡ true → IsRestOf File t rest
 rest_free t front rest e h = record { front = front; text_is = e; seam = free_seam front rest h }
 
 -- The text after a CR LF doesn't begin between a CR and its LF.
-pub rest_line : (t rest : List ℕ) → t ≡ 13 ∷ 10 ∷ rest → IsFileRest t rest
+pub rest_line : (t rest : List ℕ) → t ≡ 13 ∷ 10 ∷ rest → IsRestOf File t rest
 rest_line t rest e = record { front = 13 ∷ 10 ∷ []; text_is = e; seam = refl }
 
 -- If the first character of a text isn't the CR of a CR LF, the text after this character doesn't begin between a CR and its
 -- LF.
-pub rest_kept : (t rest : List ℕ) (c : ℕ) → t ≡ c ∷ rest → is_dropped c rest ≡ false → IsFileRest t rest
+pub rest_kept : (t rest : List ℕ) (c : ℕ) → t ≡ c ∷ rest → is_dropped c rest ≡ false → IsRestOf File t rest
 rest_kept t rest c e h = record { front = c ∷ []; text_is = e; seam = ap not h }
 
 -- Let `rest` be an end of a text that doesn't begin between a CR and its LF. The whole text with CR LF read as LF consists
 -- of two parts: the text before `rest`, and `rest`, each with CR LF read as LF.
-pub rest_text : (t rest : List ℕ) (r : IsFileRest t rest) → lf_text t ≡ lf_text r.front ++ lf_text rest
+pub rest_text : (t rest : List ℕ) (r : IsRestOf File t rest) → lf_text t ≡ lf_text r.front ++ lf_text rest
 rest_text t rest r = ap lf_text r.text_is ∙ seam_text r.front rest r.seam
 
 -- ---- literal tokens contain no CR
@@ -132,7 +132,7 @@ token_same t y = same_text t (token_free t y)
 
 -- The longest prefix of a text that can be completed to a literal token contains no CR. So the text after this prefix
 -- doesn't begin between a CR and its LF.
-pub stops_rest : (t rest : List ℕ) → StopsBefore IsToken t rest → IsFileRest t rest
+pub stops_rest : (t rest : List ℕ) → StopsBefore IsToken t rest → IsRestOf File t rest
 stops_rest t rest s = rest_free t s.front rest s.text_is
     (front_free s.front s.begins.ending (token_free (s.front ++ s.begins.ending) s.begins.is_taken))
 
@@ -142,7 +142,7 @@ closes_free form k t has c = back_free (form_opener form k) t
     (token_free (form_opener form k ++ t) (close_token form k (form_opener form k ++ t) t has refl c))
 
 pub form_rest : (form : QuotedForm) (k : Kind) (t rest : List ℕ) → has_form form k ≡ true
-    → StopsBefore (ClosesForm form k) t rest → IsFileRest t rest
+    → StopsBefore (ClosesForm form k) t rest → IsRestOf File t rest
 form_rest form k t rest has s = rest_free t s.front rest s.text_is
     (front_free s.front s.begins.ending (closes_free form k (s.front ++ s.begins.ending) has s.begins.is_taken))
 

@@ -1,5 +1,5 @@
 -- The characters and escapes of a quoted literal in a file, where CR LF is read as LF.
-use Rattle.rl_strict.proofs.Names.{◌≡◌, ℕ, zero, suc, Bool, true, false, not, ◌==◌, ◌&&◌, cond, List, [], ◌∷◌, ◌++◌, Option, Some, None, refl, sym, ap, subst, ◌∙◌, append_cancel_right, list_all, option_map, or_from, replicate, Kind, Str, ByteStr, CStr, Byte, Char, after_run, first_passes, is_dropped_blank, is_plain, is_single, is_strict_unit, is_string, strict_text, StrictUnit, Itself, QuoteEscape, PlainEscape, AsciiEscape, ByteEscape, UnicodeEscape, LineBreak, begins, all_weaker, apart, escape_at, unit_at, BeginsStrictUnits, BreakEnds, SingleForm, run_ends, escape_rest, is_inside, is_strict_suffix, unit_rest, is_dropped, lf_text, IsFileRest}
+use Rattle.rl_strict.proofs.Names.{◌≡◌, ℕ, zero, suc, Bool, true, false, not, ◌==◌, ◌&&◌, cond, List, [], ◌∷◌, ◌++◌, Option, Some, None, refl, sym, ap, subst, ◌∙◌, append_cancel_right, list_all, option_map, or_from, replicate, Kind, Str, ByteStr, CStr, Byte, Char, after_run, first_passes, is_dropped_blank, is_plain, is_single, is_strict_unit, is_string, strict_text, StrictUnit, Itself, QuoteEscape, PlainEscape, AsciiEscape, ByteEscape, UnicodeEscape, LineBreak, begins, all_weaker, apart, escape_at, unit_at, BeginsStrictUnits, BreakEnds, SingleForm, run_ends, escape_rest, is_inside, is_strict_suffix, unit_rest, is_dropped, lf_text, IsRestOf, File}
 use Rattle.rl_strict.proofs.StrictRowLemmas.{is_bare, quoted_single, quoted_string}
 use Rattle.rl_strict.proofs.StrictUnitLemmas.{unit_rest_complete, unit_rest_sound}
 use Rattle.rl_strict.proofs.StrictUnitRows.{breaks_to, row_join, row_none, row_unit}
@@ -58,17 +58,17 @@ blanks_end t rest same stops none = go rest stops none ∙ same
         e ∙ sym (ap (after_run is_dropped_blank) e
         ∙ ap (λ b. cond b (after_run is_dropped_blank (lf_text cs)) (c ∷ lf_text cs)) h)
 
-pub blanks_in : (t rest : List ℕ) → rest ≡ after_run is_dropped_blank t → IsFileRest t rest
-blanks_in t rest e = subst (IsFileRest t) (sym e) (run_rest is_dropped_blank refl t)
+pub blanks_in : (t rest : List ℕ) → rest ≡ after_run is_dropped_blank t → IsRestOf File t rest
+blanks_in t rest e = subst (IsRestOf File t) (sym e) (run_rest is_dropped_blank refl t)
 
-pub blanks_more : (t rest after next : List ℕ) → IsFileRest t rest → rest ≡ 13 ∷ 10 ∷ after
-    → next ≡ after_run is_dropped_blank after → IsFileRest t next
+pub blanks_more : (t rest after next : List ℕ) → IsRestOf File t rest → rest ≡ 13 ∷ 10 ∷ after
+    → next ≡ after_run is_dropped_blank after → IsRestOf File t next
 blanks_more t rest after next r e is = rest_step t rest next r
     (rest_step rest after next (rest_line rest after e) (blanks_in after next is))
 
 -- ---- escapes
 
-pub break_in : (t blanks rest : List ℕ) → t ≡ 10 ∷ blanks → IsFileRest blanks rest → IsFileRest (92 ∷ t) rest
+pub break_in : (t blanks rest : List ℕ) → t ≡ 10 ∷ blanks → IsRestOf File blanks rest → IsRestOf File (92 ∷ t) rest
 break_in t blanks rest e r = rest_step (92 ∷ t) blanks rest
     (rest_free (92 ∷ t) (92 ∷ 10 ∷ []) blanks (ap (λ z. 92 ∷ z) e) refl) r
 
@@ -107,14 +107,14 @@ other_none k t cs c e n m is = sym (ap (escape_rest k) (kept_read t cs c e (othe
     ∙ other_read k c cs n m ∙ ap (option_map (λ (p : List ℕ × List ℕ). lf_text p.1)) (sym (is ∙ ap (escape_at k) e)))
 
 -- The text after a character or escape of a string doesn't begin between a CR and its LF.
-pub unit_in : (k : Kind) (t rest : List ℕ) → is_string k ≡ true → unit_rest k t ≡ Some rest → IsFileRest t rest
+pub unit_in : (k : Kind) (t rest : List ℕ) → is_string k ≡ true → unit_rest k t ≡ Some rest → IsRestOf File t rest
 unit_in k t rest s h =
     let found = row_rest k t rest s (row_unit k t t rest (row_none k t) (unit_rest_sound k t rest (quoted_string k s) h))
     in
     rest_free t found.0 rest found.1 found.2
 
 pub other_in : (k : Kind) (t cs v rest : List ℕ) (c : ℕ) → is_string k ≡ true → t ≡ c ∷ cs → (c == 10) ≡ false
-    → (c == 13) ≡ false → Some (v, rest) ≡ escape_at k t → IsFileRest (92 ∷ t) rest
+    → (c == 13) ≡ false → Some (v, rest) ≡ escape_at k t → IsRestOf File (92 ∷ t) rest
 unfolding unit_rest unit_at
 other_in k t cs v rest c s e n m is =
     let line : Option (List ℕ) = cond (is_string k) (Some (after_run is_dropped_blank cs)) None in
@@ -151,7 +151,7 @@ bare_row k t run rest s e h = plain_row k (lf_text t) run (lf_text rest) s
     (ap lf_text e ∙ free_text run rest (plain_free k run s h)) h
 
 pub bare_in : (k : Kind) (t run rest : List ℕ) → is_string k ≡ true → t ≡ run ++ rest → list_all (is_plain k) run ≡ true
-    → IsFileRest t rest
+    → IsRestOf File t rest
 bare_in k t run rest s e h = rest_free t run rest e (plain_free k run s h)
 
 pub units_more : (k : Kind) (t a b c : List ℕ) → is_string k ≡ true → BeginsStrictUnits k t a → Some b ≡ unit_rest k a
@@ -250,7 +250,7 @@ single_read k t s = by_first (λ z r. unit_rest k r ≡ option_map lf_text (unit
     line Char s cs = refl
     line k s cs = absurd (cc)
 
-pub single_in : (k : Kind) (t rest : List ℕ) → is_single k ≡ true → unit_rest k t ≡ Some rest → IsFileRest t rest
+pub single_in : (k : Kind) (t rest : List ℕ) → is_single k ≡ true → unit_rest k t ≡ Some rest → IsRestOf File t rest
 unfolding is_strict_suffix
 single_in k t rest s h =
     let front = unit_rest_sound k t rest (quoted_single k s) h in

@@ -39,7 +39,7 @@ pub use Rattle.rl_strict.specs.FileTexts.{ExplainsInFile, ExplainsSignedInFile, 
 pub use Rattle.rl_strict.specs.FlawKinds.{AfterBrace, AfterDigits, AsItIs, AtBrace, AtSixth, ByDigits, ByLetter, ByNumber, FirstDigit, HasNoCode, IsBraced, IsNoCode, IsUnopened, SecondDigit, UnitFlaw, digit_count, is_quote, number_of}
 pub use Rattle.rl_strict.specs.Flaws.{HasKind, IsCompletable, IsPlaced, StopsBefore, first_len}
 pub use Rattle.rl_strict.specs.Limits.{ExplainsLimit, ExplainsValue, IsFloatBySuffix, IsFloatSuffix, IsLimitFlaw, suffix_at_if_above_128_bits}
-pub use Rattle.rl_strict.specs.LineEnds.{IsFileRest, IsRestOf, StopsAsRead, drops, is_dropped, is_seam, lf_text, read_of}
+pub use Rattle.rl_strict.specs.LineEnds.{IsRestOf, StopsAsRead, StopsIn, drops, is_dropped, is_seam, lf_text, read_of}
 unfoldable pub use Rattle.rl_strict.specs.Mirrors.NumberRead.{based_read_at, digits_end_at, fraction_end_at, number_read_at, power_end_at, suffix_end_at, whole_read_at}
 pub use Rattle.rl_strict.specs.Mirrors.NumberRead.{Ending, NumberRead, as_float, as_integer, ended, number_outcome, stopped}
 unfoldable pub use Rattle.rl_strict.specs.Mirrors.StrictAt.{ends_raw, is_strict_suffix, unit_rest}
@@ -53,7 +53,6 @@ pub use Rattle.rl_strict.specs.Mirrors.UnitFlawAt.{FoundFlaw, character_flaw_of,
 unfoldable pub use Rattle.rl_strict.specs.Mirrors.WordFlawAt.{word_flaw_at}
 pub use Rattle.rl_strict.specs.Mirrors.WordFlawAt.{after_letters, end_flaw_at}
 pub use Rattle.rl_strict.specs.OneFlaw.{HasOneFlaw, IsExplainedOnce}
-pub use Rattle.rl_strict.specs.QuotedRead.{StopsIn}
 pub use Rattle.rl_strict.specs.Readings.{ExplainsOf, ExplainsValueOf, HasValueOf, IsFlawOf, IsPlaceAfter, IsReadingInFile, IsReadingOf, IsRestPlace, IsTokenIf, ReadsOf, SaysOf, lf_bytes, plain_of}
 pub use Rattle.rl_strict.specs.SignedFlaws.{ExplainsSigned, IsMinusFlawOf, IsSignedFlawOf, IsSignedToken, LacksNumber}
 pub use Rattle.rl_strict.specs.StrictFlawKinds.{ClosedFlaw, HasStrictQuotedFlaw, IsClosed, IsOpen, OpenFlaw, StrictCloserFlaw, StrictQuotedFlaw, StrictRawFlaw, StrictUnitFlaw, SuffixFlaw, form_quote, goes_on_with_suffix, is_raw_form, is_suffix_front, suffix_piece}

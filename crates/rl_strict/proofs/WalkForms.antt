@@ -1,5 +1,5 @@
 -- The position where the valid content of a quoted literal ends, and the reason. In a file, CR LF is read as LF.
-use Rattle.rl_strict.proofs.Names.{◌≡◌, ◌≢◌, ℕ, ◌<◌, ◌≤◌, true, false, not, ◌==◌, ◌&&◌, ◌||◌, List, [], ◌∷◌, ◌++◌, Some, None, refl, sym, ap, subst, ◌∙◌, both_ways, list_all, option_map, replicate, is_apostrophe, Kind, first_passes, is_hash, is_plain, is_single, is_string, begins, apart, is_some_text, QuotedForm, CookedForm, RawForm, SingleForm, BeginsStrictUnits, is_inside, is_raw_character, is_strict_suffix, unit_rest, ClosesForm, FlawKind, TextAfterQuote, ExtraHash, NoQuote, TooManyHashes, TwoCharacters, Unclosed, UnexpectedEnd, LineEnds, Text, File, chars, IsRestOf, StopsAsRead, read_of, StopsIn, suffix_piece, raw_character_flaw_of, raw_stop, strict_unit_flaw_at, suffix_read_at, FoundFlaw, found_flaw, end_flaw_at}
+use Rattle.rl_strict.proofs.Names.{◌≡◌, ◌≢◌, ℕ, ◌<◌, ◌≤◌, true, false, not, ◌==◌, ◌&&◌, ◌||◌, List, [], ◌∷◌, ◌++◌, Some, None, refl, sym, ap, subst, ◌∙◌, and_from, begins_front, both_ways, or_from, or_left, or_right, list_all, option_map, replicate, is_apostrophe, Kind, first_passes, is_hash, is_plain, is_single, is_string, begins, apart, is_some_text, QuotedForm, CookedForm, RawForm, SingleForm, BeginsStrictUnits, is_inside, is_raw_character, is_strict_suffix, unit_rest, ClosesForm, FlawKind, TextAfterQuote, ExtraHash, NoQuote, TooManyHashes, TwoCharacters, Unclosed, UnexpectedEnd, LineEnds, Text, File, chars, IsRestOf, StopsAsRead, read_of, StopsIn, suffix_piece, raw_character_flaw_of, raw_stop, strict_unit_flaw_at, suffix_read_at, FoundFlaw, found_flaw, end_flaw_at}
 use Rattle.rl_strict.proofs.StrictUnitRows.{row_join, row_none}
 use Rattle.rl_lenient.proofs.PlainLemmas.{no_run, one_run}
 use Rattle.rl_strict.specs.declared.flaws.FlawAt.{FlawAt}
@@ -8,7 +8,7 @@ use Rattle.rl_strict.proofs.FileUnits.{bare_in, bare_row, hashes_free, inside_fr
 use Rattle.rl_strict.proofs.EndLemmas.{closer_of, end_of, first_of, form_in, free_in, free_of, loose, nil_of, read_flaw, self_in, single_of, some_text_of, step_in, stuck_of, suffix_in, suffix_of, unit_flaw_of, unit_in}
 use Rattle.rl_strict.proofs.ReadQuoted.{cooked_open, cooked_suffix, empty_rest, judged_by, plain_row, raw_ending, raw_going, raw_unopened_none, single_closes, single_open_stops, single_suffix, single_unquoted_stops, not_string}
 use Rattle.rl_strict.proofs.StrictCookedFlaws.{cooked_closes, no_front}
-use Rattle.rl_strict.proofs.StrictRawFlaws.{raw_closed, raw_closes, raw_end_none, raw_ended, raw_many_hashes, raw_no_quote, raw_off, raw_spoiled, raw_unfinished, walk_past}
+use Rattle.rl_strict.proofs.StrictRawFlaws.{raw_closed, raw_closes, raw_end_none, raw_ended, raw_many_hashes, raw_no_quote, raw_off, raw_spoiled, raw_unfinished, walk_halt, walk_on, walk_past}
 use Rattle.rl_strict.proofs.StrictSuffixFlaws.{Judges}
 use Rattle.rl_strict.proofs.StrictRowLemmas.{quote_stops}
 
@@ -413,7 +413,7 @@ no_quote_unit k t closing e none rest other =
 
 -- Reading CR LF as LF in the text after a character doesn't change whether the loop over a raw string's content stops at the
 -- character.
-pub halts_of : (how : LineEnds) (n : ℕ) (k : Kind) (c : ℕ) (hashes after : List ℕ) → hashes ≡ replicate n 35
+halts_of : (how : LineEnds) (n : ℕ) (k : Kind) (c : ℕ) (hashes after : List ℕ) → hashes ≡ replicate n 35
     → ((c == 34 && begins hashes (read_of how after)) || not (is_raw_character k c))
     ≡ ((c == 34 && begins hashes after) || not (is_raw_character k c))
 halts_of how n k c hashes after e = ap (λ b. (c == 34 && b) || not (is_raw_character k c)) (closer_of how n hashes after e)
@@ -426,3 +426,31 @@ inside_past how k hashes t x run s e each same = walk_past k hashes (read_of how
 pub inside_in : (how : LineEnds) (k : Kind) (t x run : List ℕ) → t ≡ run ++ x → list_all (is_inside k) run ≡ true
     → IsRestOf how t x
 inside_in how k t x run e each = free_in how t run x e (inside_free k run each)
+
+-- The loop over a raw string's content stops at the closing delimiter.
+pub stop_closed : (how : LineEnds) (k : Kind) (n c : ℕ) (hashes t closing after suffix : List ℕ) → hashes ≡ replicate n 35
+    → read_of how closing ≡ c ∷ read_of how after → c ≡ 34 → after ≡ hashes ++ suffix
+    → raw_stop k hashes (read_of how closing) ≡ raw_stop k hashes (read_of how t)
+    → read_of how closing ≡ raw_stop k hashes (read_of how t)
+stop_closed how k n c hashes t closing after suffix h is quote text same =
+    let closes = and_from (c == 34) (begins hashes after) (ap (λ z. z == 34) quote)
+    (ap (begins hashes) text ∙ begins_front hashes suffix) in
+    walk_halt k hashes (read_of how closing) (read_of how after) c is (halts_of how n k c hashes after h
+    ∙ or_left (c == 34 && begins hashes after) (not (is_raw_character k c)) closes) ∙ same
+
+-- The loop over a raw string's content stops at a character that the raw string can't contain.
+pub stop_held : (how : LineEnds) (k : Kind) (n c : ℕ) (hashes t closing after : List ℕ) → hashes ≡ replicate n 35
+    → read_of how closing ≡ c ∷ read_of how after → is_raw_character k c ≡ false
+    → raw_stop k hashes (read_of how closing) ≡ raw_stop k hashes (read_of how t)
+    → read_of how closing ≡ raw_stop k hashes (read_of how t)
+stop_held how k n c hashes t closing after h is held same = walk_halt k hashes (read_of how closing) (read_of how after) c is
+    (halts_of how n k c hashes after h ∙ or_right (c == 34 && begins hashes after) (not (is_raw_character k c)) (ap not held))
+    ∙ same
+
+-- The loop over a raw string's content doesn't stop at other characters.
+pub stop_on : (how : LineEnds) (k : Kind) (n c : ℕ) (hashes closing after s : List ℕ) → hashes ≡ replicate n 35
+    → read_of how closing ≡ c ∷ read_of how after → (c == 34 && begins hashes after) ≡ false → is_raw_character k c ≡ true
+    → raw_stop k hashes (read_of how closing) ≡ s → raw_stop k hashes (read_of how after) ≡ s
+stop_on how k n c hashes closing after s h is none allowed same = walk_on k hashes (read_of how closing) (read_of how after) s c is
+    (halts_of how n k c hashes after h ∙ or_from (c == 34 && begins hashes after) (not (is_raw_character k c)) none
+    (ap not allowed)) same

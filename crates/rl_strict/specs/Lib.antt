@@ -11,7 +11,6 @@ pub mod OneFlaw
 pub mod SignedFlaws
 pub mod Limits
 pub mod StrictNumbersRead
-pub mod QuotedRead
 pub mod StrictRead
 pub mod Fronts
 pub mod LineEnds

@@ -15,7 +15,9 @@ use Rattle.rl_lenient.specs.declared.quoted_forms.QuotedForm.{QuotedForm}
 use Rattle.rl_strict.specs.declared.flaws.FlawKind.{FlawKind}
 use Rattle.rl_strict.specs.declared.line_ends.LineEnds.{LineEnds}
 use Rattle.rl_strict.specs.declared.line_ends.LineEnds.TheVariants.{Text, File}
-use Rattle.rl_strict.specs.QuotedRead.{StopsIn}
+use Rattle.rl_strict.specs.Flaws.{StopsBefore}
+use Rattle.rl_strict.specs.StrictFlawKinds.{StrictQuotedFlaw}
+use Rattle.rl_strict.specs.StrictShapes.{ClosesForm}
 
 -- The character `c` is a CR, and the text `following`, which comes after `c`, begins with LF.
 abbrev pub is_dropped : ℕ → List ℕ → Bool
@@ -54,8 +56,13 @@ pub record IsRestOf (ends : LineEnds) (text rest : List ℕ) : Type 0 where
   pub text_is : text ≡ front ++ rest
   pub seam : IsTrue (is_seam_of ends front rest)
 
-abbrev pub IsFileRest : List ℕ → List ℕ → Type 0
-IsFileRest text rest = IsRestOf File text rest
+-- The text after an opening delimiter isn't the end of a literal of the form. (The end of the string `"a"` is `a"`.) The
+-- flaw is at `rest`: the text before `rest` can be completed to the end of a literal, and no longer prefix can. The text to
+-- show for the flaw begins at `piece`. `flaw` is the kind of flaw.
+pub record StopsIn (form : QuotedForm) (kind : Kind) (flaw : FlawKind) (text piece rest : List ℕ) : Type 0 where
+  pub none : ClosesForm form kind text → ⊥
+  pub stops : StopsBefore (ClosesForm form kind) text rest
+  pub has : StrictQuotedFlaw form kind flaw text piece rest
 
 -- The text `whole` after an opening delimiter has a flaw of the kind `flaw`, so `whole` isn't the end of a literal of the
 -- form. The flaw is at `rest`, and the text to show for the flaw begins at `piece`. `piece` and `rest` are ends of `text`,

@@ -11,6 +11,15 @@ use rl_syntax::Kind;
 use rl_syntax::scan::{Marks, split_before_mark};
 use rl_syntax::text::after_prefix;
 
+/// The characters at which the search in a raw string or raw byte string stops: `"`, which may close it, and CR, which it can't
+/// contain.
+const INSIDE_STRING: Marks = Marks {
+    first: b'"',
+    second: b'\r',
+    third: b'\r',
+    fourth: b'\r',
+};
+
 /// The characters at which the search in a raw C string stops: `"`, which may close it, and CR and NUL, which it can't contain.
 const INSIDE_C_STRING: Marks = Marks {
     first: b'"',
@@ -55,8 +64,8 @@ pub fn skip_raw_characters(kind: Kind, text: &str) -> &str
     ensures shorter { length result.now ≤ length text.now }
 {
     match kind {
-        Kind::Str => split_before_mark(Marks::from_two_bytes(b'"', b'\r'), text).1,
-        Kind::ByteStr => split_before_mark_or_non_ascii(Marks::from_two_bytes(b'"', b'\r'), text).1,
+        Kind::Str => split_before_mark(INSIDE_STRING, text).1,
+        Kind::ByteStr => split_before_mark_or_non_ascii(INSIDE_STRING, text).1,
         Kind::CStr => split_before_mark(INSIDE_C_STRING, text).1,
         _ => text,
     }

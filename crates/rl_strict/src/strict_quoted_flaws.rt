@@ -15,7 +15,6 @@ ghost use Rattle.rl_strict.specs.Mirrors.UnitFlawAt.{found_flaw};
 
 use crate::flaws::{FlawAt, FlawKind, make_flaw};
 use crate::quoted_flaws::{character_flaw, escape_flaw};
-use crate::strict::{after_closer, is_raw_character};
 use rl_lenient::quoted_forms::QuotedForm;
 use rl_syntax::Kind;
 use rl_syntax::text::split_char;
@@ -56,14 +55,6 @@ pub fn unit_flaw(kind: Kind, text: &str) -> FlawAt<'_>
     }
 }
 
-/// Returns `true` if a raw string's content ends at the character `c`: `c` begins the closing delimiter, or the raw string
-/// can't contain `c`.
-pub fn ends_raw_content(kind: Kind, hashes: &str, c: char, after: &str) -> bool
-    ensures { result ≡ ((c == code "\"" && begins (chars hashes.now) (chars after.now)) || not (is_raw_character kind c)) }
-{
-    after_closer(hashes, c, after).is_some() || !is_raw_character(kind, c)
-}
-
 /// Returns the flaw of a character that a raw string of the kind `kind` can't contain.
 pub fn raw_character_flaw(kind: Kind, c: char) -> FlawKind
     ensures { result ≡ raw_character_flaw_of kind c }
@@ -75,25 +66,4 @@ pub fn raw_character_flaw(kind: Kind, c: char) -> FlawKind
             _ => FlawKind::NotAscii,
         },
     }
-}
-
-/// Skips at most 255 hashes at the beginning of the text, and returns the text after them.
-pub fn skip_allowed_hashes(text: &str) -> &str
-    ensures hashes { (n : ℕ) × (n ≤ 255) × (chars text.now ≡ replicate n (code "#") ++ chars result.now)
-        × (n < 255 → IsFalse (first_passes is_hash (chars result.now))) }
-    ensures following { IsTail text.now result.now }
-{
-    let mut rest = text;
-    let mut count = 0_u32;
-    while count < 255 {
-        let Some((c, after)) = split_char(rest) else {
-            return rest;
-        };
-        if c != '#' {
-            return rest;
-        }
-        rest = after;
-        count += 1;
-    }
-    rest
 }

@@ -132,32 +132,8 @@ pub(crate) fn unit_at<'t>(
     }
 }
 
-/// Parses a raw string after its opening quote, and returns the byte offsets of its parts, or its flaw. `opened` is the text
-/// after the opening quote, and `hashes` the hashes before that quote.
-fn opened_at<'t>(
-    ends: LineEnds,
-    kind: Kind,
-    text: &'t str,
-    inside: &'t str,
-    hashes: &'t str,
-    opened: &'t str,
-) -> Result<Body, FlawAt<'t>> {
-    let stretch = parse_raw_content(ends, kind, hashes, opened);
-    match stretch.end {
-        Ok(suffix) => Ok(part_offsets(
-            text,
-            opened,
-            stretch.closing,
-            suffix,
-            plain_of(ends, stretch.plain),
-        )),
-        Err(flaw) => Err(flaw),
-    }
-}
-
 /// Parses a raw string, and returns the byte offsets of its parts, or its flaw. `inside` is the text that begins with the
 /// hashes.
-#[inline(always)]
 fn raw_at<'t>(
     ends: LineEnds,
     kind: Kind,
@@ -165,7 +141,19 @@ fn raw_at<'t>(
     inside: &'t str,
 ) -> Result<Body, FlawAt<'t>> {
     match split_raw_opening(kind, inside) {
-        Ok((hashes, opened)) => opened_at(ends, kind, text, inside, hashes, opened),
+        Ok((hashes, opened)) => {
+            let stretch = parse_raw_content(ends, kind, hashes, opened);
+            match stretch.end {
+                Ok(suffix) => Ok(part_offsets(
+                    text,
+                    opened,
+                    stretch.closing,
+                    suffix,
+                    plain_of(ends, stretch.plain),
+                )),
+                Err(flaw) => Err(flaw),
+            }
+        }
         Err(flaw) => Err(flaw),
     }
 }

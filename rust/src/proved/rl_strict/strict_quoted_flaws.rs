@@ -3,7 +3,6 @@
 
 use crate::rl_strict::flaws::{FlawAt, FlawKind, make_flaw};
 use crate::rl_strict::quoted_flaws::{character_flaw, escape_flaw};
-use crate::rl_strict::strict::{after_closer, is_raw_character};
 use crate::rl_lenient::quoted_forms::QuotedForm;
 use crate::rl_syntax::Kind;
 use crate::rl_syntax::text::split_char;
@@ -37,12 +36,6 @@ pub fn unit_flaw(kind: Kind, text: &str) -> FlawAt<'_> {
     }
 }
 
-/// Returns `true` if a raw string's content ends at the character `c`: `c` begins the closing delimiter, or the raw string
-/// can't contain `c`.
-pub fn ends_raw_content(kind: Kind, hashes: &str, c: char, after: &str) -> bool {
-    after_closer(hashes, c, after).is_some() || !is_raw_character(kind, c)
-}
-
 /// Returns the flaw of a character that a raw string of the kind `kind` can't contain.
 pub fn raw_character_flaw(kind: Kind, c: char) -> FlawKind {
     match c {
@@ -52,21 +45,4 @@ pub fn raw_character_flaw(kind: Kind, c: char) -> FlawKind {
             _ => FlawKind::NotAscii,
         },
     }
-}
-
-/// Skips at most 255 hashes at the beginning of the text, and returns the text after them.
-pub fn skip_allowed_hashes(text: &str) -> &str {
-    let mut rest = text;
-    let mut count = 0_u32;
-    while count < 255 {
-        let Some((c, after)) = split_char(rest) else {
-            return rest;
-        };
-        if c != '#' {
-            return rest;
-        }
-        rest = after;
-        count += 1;
-    }
-    rest
 }

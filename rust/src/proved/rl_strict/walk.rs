@@ -5,29 +5,13 @@
 use crate::rl_strict::flaws::{FlawAt, FlawKind, flaw_at_end_or_before, make_flaw};
 use crate::rl_strict::line_ends::LineEnds;
 use crate::rl_strict::read_quoted::{parse_strict_char_or_escape, suffix_flaw};
-use crate::rl_strict::strict::{after_closer, skip_raw_characters};
-use crate::rl_strict::strict_quoted_flaws::{
-    ends_raw_content, raw_character_flaw, skip_allowed_hashes, unit_flaw,
-};
+use crate::rl_strict::strict::{after_closer, is_raw_character, skip_raw_characters};
+use crate::rl_strict::strict_quoted_flaws::{raw_character_flaw, unit_flaw};
 use crate::rl_strict::walk_units::{skip_units, split_first_char};
 use crate::rl_lenient::quoted_forms::{QuotedForm, strip_quote};
 use crate::rl_lenient::units::{Piece, split_plain};
 use crate::rl_syntax::Kind;
 use crate::rl_syntax::text::{before, split_char};
-
-/// Returns the text that begins at a raw string's closing delimiter, or at the first character that a raw string of the kind
-/// `kind` can't contain.
-#[inline(always)]
-fn skip_raw<'t>(ends: LineEnds, kind: Kind, hashes: &str, text: &'t str) -> &'t str {
-    let mut rest = skip_raw_characters(kind, text);
-    while let Some((c, after)) = split_first_char(ends, rest) {
-        if ends_raw_content(kind, hashes, c, after) {
-            return rest;
-        }
-        rest = skip_raw_characters(kind, after);
-    }
-    rest
-}
 
 /// The end of a quoted literal's valid content, and the literal's suffix or flaw.
 #[derive(Clone, Copy)]
@@ -131,32 +115,36 @@ pub fn parse_raw_content<'t>(
     hashes: &str,
     text: &'t str,
 ) -> QuotedContent<'t> {
-    let closing = skip_raw(ends, kind, hashes, text);
-    let Some((c, after)) = split_first_char(ends, closing) else {
-        return QuotedContent {
-            closing,
-            plain: true,
-            end: Err(make_flaw(FlawKind::Unclosed, closing)),
-        };
-    };
-    match after_closer(hashes, c, after) {
-        Some(suffix) => match suffix_flaw(QuotedForm::Raw, closing, suffix) {
-            None => QuotedContent {
+    let plain = true;
+    let mut closing = skip_raw_characters(kind, text);
+    while let Some((c, after)) = split_first_char(ends, closing) {
+        if let Some(suffix) = after_closer(hashes, c, after) {
+            return match suffix_flaw(QuotedForm::Raw, closing, suffix) {
+                None => QuotedContent {
+                    closing,
+                    plain,
+                    end: Ok(suffix),
+                },
+                Some(flaw) => QuotedContent {
+                    closing,
+                    plain,
+                    end: Err(flaw),
+                },
+            };
+        }
+        if !is_raw_character(kind, c) {
+            return QuotedContent {
                 closing,
-                plain: true,
-                end: Ok(suffix),
-            },
-            Some(flaw) => QuotedContent {
-                closing,
-                plain: true,
-                end: Err(flaw),
-            },
-        },
-        None => QuotedContent {
-            closing,
-            plain: true,
-            end: Err(make_flaw(raw_character_flaw(kind, c), closing)),
-        },
+                plain,
+                end: Err(make_flaw(raw_character_flaw(kind, c), closing)),
+            };
+        }
+        closing = skip_raw_characters(kind, after);
+    }
+    QuotedContent {
+        closing,
+        plain,
+        end: Err(make_flaw(FlawKind::Unclosed, closing)),
     }
 }
 
@@ -165,15 +153,20 @@ pub fn parse_raw_content<'t>(
 #[cfg_attr(debug_assertions, inline)]
 #[cfg_attr(not(debug_assertions), inline(always))]
 pub fn split_raw_opening(kind: Kind, inside: &str) -> Result<(&str, &str), FlawAt<'_>> {
-    let rest = skip_allowed_hashes(inside);
-    let Some((first, opened)) = split_char(rest) else {
-        return Err(make_flaw(FlawKind::UnexpectedEnd, rest));
-    };
-    if first == '#' {
-        Err(make_flaw(FlawKind::TooManyHashes, rest).with_piece(inside))
-    } else if first == '"' {
-        Ok((before(inside, rest), opened))
-    } else {
-        Err(make_flaw(FlawKind::NoQuote, rest))
+    let mut rest = inside;
+    let mut count = 0_u32;
+    while let Some((first, after)) = split_char(rest) {
+        if first == '"' {
+            return Ok((before(inside, rest), after));
+        }
+        if first != '#' {
+            return Err(make_flaw(FlawKind::NoQuote, rest));
+        }
+        if count == 255 {
+            return Err(make_flaw(FlawKind::TooManyHashes, rest).with_piece(inside));
+        }
+        rest = after;
+        count += 1;
     }
+    Err(make_flaw(FlawKind::UnexpectedEnd, rest))
 }

@@ -6,7 +6,7 @@ pub returns-in-Str-clause-run : goal.returns-in-Str-clause-run
 returns-in-Str-clause-run c = rw c.in-Str.is (
   _,
   c.split_before_mark.ensures.cut,
-  str_run _ _ c.from_two_bytes.ensures
+  str_run _ (chars c.split_before_mark.result.0.now) refl
       c.split_before_mark.ensures.others,
 )
 
@@ -23,7 +23,7 @@ returns-in-ByteStr-clause-run c = rw c.in-ByteStr.is (
   _,
   c.split_before_mark_or_non_ascii.ensures.cut,
   inside_run _
-      (chars c.split_before_mark_or_non_ascii.result.0.now) c.from_two_bytes-in-ByteStr.ensures c.split_before_mark_or_non_ascii.ensures.run,
+      (chars c.split_before_mark_or_non_ascii.result.0.now) refl c.split_before_mark_or_non_ascii.ensures.run,
 )
 
 pub returns-in_default-clause-run : goal.returns-in_default-clause-run
