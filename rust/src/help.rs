@@ -13,7 +13,7 @@ pub(crate) enum Separators {
 }
 
 const COMMENT: &str = "a comment begins with `//`";
-const STRING: &str = "a string has double quotes";
+pub(crate) const STRING: &str = "a string has double quotes";
 
 /// Returns a hint for the error at the byte offset `at` of a text of settings.
 #[cold]
@@ -39,6 +39,7 @@ pub(crate) fn help_of(
             '‘' | '’' | '“' | '”' | '„' | '«' | '»' | '`' | '\\' => Some(STRING),
             _ => None,
         },
+        SyntaxErrorKind::UnclosedQuote if rest.starts_with('\'') => Some(STRING),
         SyntaxErrorKind::DocComment if rest.starts_with("///") => {
             Some("a comment begins with `//`, not with `///`")
         }

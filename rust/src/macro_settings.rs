@@ -167,9 +167,8 @@ impl MacroInput {
     #[inline]
     #[must_use]
     pub fn error(&self, error: &SettingError) -> MacroError {
-        let mut bytes = error.range();
+        let mut bytes = error.piece();
         if bytes.is_empty() {
-            // The range of an integer above 128 bits is where its digits end.
             bytes.start = bytes.start.saturating_sub(1);
         }
         let (first, last) = self.spans(bytes);

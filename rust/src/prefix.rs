@@ -3,7 +3,11 @@
 use crate::lit::Lit;
 use crate::rl_lexer::{first_source_token, whitespace};
 use crate::rl_recovery::{leading_literal, leading_signed_literal, LeadingLiteral};
+use crate::rl_syntax::classes::skip_white;
+use crate::rl_syntax::lines::split_line;
 use alloc::borrow::Cow;
+use core::iter;
+use core::ops::Range;
 
 /// Returns the literal, and the text after it.
 fn split(leading: LeadingLiteral<'_>) -> (Lit<'_>, &str) {
@@ -119,6 +123,54 @@ impl<'t> Lit<'t> {
 #[must_use]
 pub fn skip_trivia(text: &str) -> &str {
     whitespace::skip(text)
+}
+
+/// Iterates over the comments that [`skip_trivia`] skips, in order. Each item is the byte range of a comment in the text.
+///
+/// A line comment ends before its line feed. A doc comment is a token, which [`skip_token`] skips. If a block comment isn't closed,
+/// the text that `skip_trivia` returns begins with `/*`.
+///
+/// This function returns all comments of a text, such as for a highlighter:
+///
+/// ```
+/// use navyspindle::{leading_comments, skip_token, skip_trivia};
+///
+/// fn comments(text: &str) -> Vec<&str> {
+///     let (mut rest, mut found) = (text, Vec::new());
+///     loop {
+///         found.extend(leading_comments(rest).map(|range| &rest[range]));
+///         rest = skip_trivia(rest);
+///         // A doc comment, or a block comment that isn't closed.
+///         let is_comment = rest.starts_with("//") || rest.starts_with("/*");
+///         let following = skip_token(rest).unwrap_or("");
+///         if is_comment {
+///             found.push(&rest[..rest.len() - following.len()]);
+///         }
+///         if following.is_empty() {
+///             return found;
+///         }
+///         rest = following;
+///     }
+/// }
+///
+/// let text = "/* a */ f(x, \"// b\"); // c\n/// d\nfn g() {} /* e";
+/// assert_eq!(comments(text), ["/* a */", "// c", "/// d", "/* e"]);
+/// ```
+#[inline]
+pub fn leading_comments(text: &str) -> impl Iterator<Item = Range<usize>> + Clone + '_ {
+    let (mut rest, following) = (text, skip_trivia(text));
+    iter::from_fn(move || {
+        rest = skip_white(rest);
+        if rest.len() <= following.len() {
+            return None;
+        }
+        let start = text.len() - rest.len();
+        rest = match rest.strip_prefix("/*") {
+            Some(inside) => whitespace::after_block(inside)?,
+            None => split_line(rest).1,
+        };
+        Some(start..text.len() - rest.len())
+    })
 }
 
 /// Returns the text after its first token, or `None` if the text doesn't begin with a token.

@@ -572,6 +572,10 @@ fn errors_tell_what_other_formats_write() {
         "a = »b«",
         "a = _b",
         "a = Falsehood",
+        "a = ''",
+        "a = '10.0.0.1'",
+        "a = '",
+        "a = '-b'",
     ] {
         let expected = if text.starts_with("a = /") {
             ""
@@ -584,6 +588,13 @@ fn errors_tell_what_other_formats_write() {
         let message = parse_config(text).unwrap_err().to_string();
         assert!(message.contains(string), "{message}");
     }
+    let value_help = |text| {
+        let read = Settings::read_config(text).expect(text);
+        read.string(value("a")).expect_err(text).help()
+    };
+    assert_eq!(value_help("a = 'b'"), Some(string));
+    assert_eq!(value_help("a = 1"), None);
+    assert_eq!(value_help("a = b'c'"), None);
     assert_eq!(help("a = True"), "write `true` or `false`");
     assert_eq!(help("a = FALSE"), "write `true` or `false`");
     assert_eq!(
