@@ -152,8 +152,9 @@ impl MacroInput {
         Settings::read(&self.text).map_err(|error| self.error(&error))
     }
 
-    /// Converts an error of settings that were read from this text. The `MacroError` is at the tokens of the error's range. If the
-    /// range is empty, the `MacroError` is at the token before it.
+    /// Converts an error of settings that were read from this text. The `MacroError` is at the tokens of the error's
+    /// [`piece`](SettingError::piece). If the piece is empty, as for a missing setting, the `MacroError` is at the token before it.
+    /// [`MacroError::at`] moves the error to another token, such as the attribute's name.
     ///
     /// ```no_run
     /// extern crate proc_macro;
