@@ -87,6 +87,13 @@ fn of_literal(rest: &str) -> Option<&'static str> {
         '[' => Some("there are no arrays"),
         '{' => Some("there are no tables"),
         '+' => Some("a number has no `+`"),
+        // Any other number is a literal.
+        '-' if after_first(rest)
+            .trim_start()
+            .starts_with(|c: char| c.is_ascii_digit()) =>
+        {
+            Some("an integer has at most 128 bits")
+        }
         '.' => Some("a float begins with a digit, as in `0.5`"),
         '#' => Some(STRING),
         c if c.is_alphabetic() || c == '_' => {

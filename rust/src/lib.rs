@@ -29,7 +29,7 @@
 //! | Check that a literal has a type | [`Lit::type_error`] | `flaws` |
 //! | Report every error of a literal | [`flaws`](fn@flaws), [`pieces`], [`guess_kind`] | `flaws` |
 //! | Read a list of literals | [`parse_list`] | `sources` |
-//! | Read literals in your own parser | [`Lit::parse_prefix`], [`skip_trivia`], [`skip_token`], [`leading_comments`] | `sources` |
+//! | Read literals in your own parser | [`Lit::parse_next`], [`Lit::parse_prefix`], [`skip_trivia`], [`skip_token`], [`leading_comments`] | `sources` |
 //! | Convert bytes to lines and columns | [`LineIndex`] | `sources` |
 //! | Read `name = literal` settings | [`Settings`], [`Key`]; [`parse_settings`](fn@parse_settings), [`parse_config`](fn@parse_config) | `settings` |
 //! | Write a value as a literal | [`write_str`], [`write_integer`], ..; [`LitStr::new`], [`LitInt::suffixed`], .. | `writers` |

@@ -1,5 +1,7 @@
 //! Parsing of the literal at the start of a text, for parsers that read literals among their own tokens.
 
+use crate::list::parse_list;
+use crate::list_error::ListError;
 use crate::lit::Lit;
 use crate::rl_lexer::{first_source_token, whitespace};
 use crate::rl_recovery::{leading_literal, leading_signed_literal, LeadingLiteral};
@@ -27,18 +29,7 @@ impl<'t> Lit<'t> {
     ///
     /// The token is read as [`Lit::of_text`] reads it, so `0b12` is a float. [`Lit::check`] applies Rust's grammar.
     ///
-    /// For the reason why the result is `None` and its range, call [`parse_list(text).next()`](crate::parse_list) with a text that
-    /// [`skip_trivia`] returned. The item is `Ok` only if a minus and a number begin the text, and `None` only if the text is empty.
-    ///
-    /// ```
-    /// use navyspindle::{parse_list, Lit};
-    ///
-    /// assert!(Lit::parse_prefix("'a + 1").is_none());
-    /// let error = parse_list("'a + 1").next().unwrap().unwrap_err();
-    /// assert_eq!((error.kind().message(), error.range()), ("unexpected lifetime: a string has double quotes", 0..2));
-    /// assert!(Lit::parse_prefix("-1").is_none());
-    /// assert!(parse_list("-1").next().unwrap().is_ok());
-    /// ```
+    /// [`Lit::parse_next`] skips white space and comments, and returns an error if something else follows them.
     ///
     /// A parser reads literals among its own tokens like this:
     ///
@@ -86,6 +77,33 @@ impl<'t> Lit<'t> {
     #[must_use]
     pub fn parse_prefix(text: &'t str) -> Option<(Lit<'t>, &'t str)> {
         leading_literal(text).map(split)
+    }
+
+    /// Skips white space and plain comments, and parses the literal after them like [`Lit::parse_prefix`]. Returns the literal, and the
+    /// text after it.
+    ///
+    /// # Errors
+    ///
+    /// Returns an error if no literal follows. Its kind and range are those of the error of [`parse_list`]. A minus is
+    /// [`NotALiteral`](crate::SyntaxErrorKind::NotALiteral), and the end of the text is
+    /// [`EndOfInput`](crate::SyntaxErrorKind::EndOfInput).
+    ///
+    /// ```
+    /// use navyspindle::Lit;
+    ///
+    /// let (literal, rest) = Lit::parse_next("/* a */ 1u8 + 2")?;
+    /// assert_eq!((literal.text(), rest), ("1u8", " + 2"));
+    /// let error = Lit::parse_next(" x + 1").unwrap_err();
+    /// assert_eq!((error.kind().message(), error.range()), ("not a literal", 1..2));
+    /// # Ok::<(), navyspindle::ListError>(())
+    /// ```
+    #[inline]
+    pub fn parse_next(text: &'t str) -> Result<(Lit<'t>, &'t str), ListError> {
+        let rest = skip_trivia(text);
+        Lit::parse_prefix(rest).ok_or_else(|| match parse_list(text).next() {
+            Some(Err(error)) if !rest.starts_with('-') => error,
+            found => ListError::no_literal(text.len() - rest.len(), found.is_some()),
+        })
     }
 
     /// Parses the literal at the start of the text like [`Lit::parse_prefix`], or a minus and the number directly after it.

@@ -94,6 +94,38 @@ fn one_token_is_passed() {
     }
 }
 
+#[test]
+fn the_next_literal() {
+    for (text, literal, rest) in [
+        ("1 + 2", "1", " + 2"),
+        (" /* a */ // b\n 'x'y", "'x'y", ""),
+        ("\"\"\"\"", "\"\"", "\"\""),
+        ("1.5.0", "1.5", ".0"),
+        ("true)", "true", ")"),
+    ] {
+        let found = Lit::parse_next(text).map(|(literal, rest)| (literal.to_string(), rest));
+        assert_eq!(found, Ok((literal.to_string(), rest)), "{text:?}");
+    }
+    let end = "unexpected end of input, expected literal";
+    for (text, message, range) in [
+        ("", end, 0..0),
+        (" // a", end, 5..5),
+        ("-1", "not a literal", 0..1),
+        (" /**/ - 1", "not a literal", 6..7),
+        ("-a", "not a literal", 0..1),
+        (" word 1", "not a literal", 1..5),
+        ("é", "not a literal", 0..2),
+        ("(1)", "expected literal, found group", 0..1),
+        (" /* a", "unclosed block comment", 1..5),
+        ("\n\"a", "unclosed quote", 1..3),
+        ("/// a\n1", "unexpected doc comment", 0..5),
+    ] {
+        let error = Lit::parse_next(text).expect_err(text);
+        let shown = (error.kind().to_string(), error.range());
+        assert_eq!(shown, (message.to_string(), range), "{text:?}");
+    }
+}
+
 /// Returns the ranges of the plain comments at the start of a text, as the Rust Reference defines comments.
 fn comments_in_model(text: &str) -> Vec<Range<usize>> {
     let (mut found, mut at) = (Vec::new(), 0);
