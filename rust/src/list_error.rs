@@ -40,7 +40,7 @@ impl ListError {
         }
     }
 
-    /// Creates the error that no literal begins at the byte offset `at`, but a minus or the end of the text.
+    /// Creates the error that a minus or the end of the text is at the byte offset `at`, where a literal is expected.
     #[cold]
     #[inline]
     pub(crate) fn no_literal(at: usize, is_minus: bool) -> ListError {

@@ -84,7 +84,7 @@ impl<'t> Lit<'t> {
     ///
     /// # Errors
     ///
-    /// Returns an error if no literal follows. Its kind and range are those of the error of [`parse_list`]. A minus is
+    /// Returns an error if something else follows. Its kind and range are those of the error of [`parse_list`]. A minus is
     /// [`NotALiteral`](crate::SyntaxErrorKind::NotALiteral), and the end of the text is
     /// [`EndOfInput`](crate::SyntaxErrorKind::EndOfInput).
     ///
