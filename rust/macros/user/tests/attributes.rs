@@ -300,11 +300,11 @@ fn errors_of_joined_attributes() {
     let errors: Errors = joined!(
         #[other]
         #[a::opt(name = "a")]
-        #[opt(size = 1)]
+        #[r#opt(size = 1)]
         #[opt(verbose)]
         struct A;
     );
-    assert_eq!(errors, [("missing `name`", "opt", "opt")]);
+    assert_eq!(errors, [("missing `name`", "r#opt", "r#opt")]);
     let errors: Errors = joined!(
         struct A;
     );
