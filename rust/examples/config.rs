@@ -38,7 +38,7 @@ fn config() -> Result<Config, Box<dyn Error>> {
     let name = env::args().nth(1).ok_or("usage: config FILE")?;
     let text = fs::read_to_string(&name).map_err(|error| format!("{name}: {error}"))?;
     read(&text).map_err(|error| {
-        let place = LineIndex::new(&text).line_column(error.range().start);
+        let place = LineIndex::new(&text).line_column(error.piece().start);
         let help = error
             .help()
             .map_or(String::new(), |help| format!(": {help}"));

@@ -70,6 +70,46 @@ impl Attrs {
         Ok(Attrs::of(Meta::parse_all(input)?, None))
     }
 
+    /// Joins the entries of the lists with the name `name` among `metas`, such as those of `#[opt(a = 1)] #[opt(b = 2)]`. Other
+    /// names are ignored. Without a list, the result has no entries.
+    ///
+    /// An error about all entries, such as a missing name, is at the first list's name. Without a list, it is at the macro's call.
+    /// A name that two of the lists set is repeated.
+    ///
+    /// # Errors
+    ///
+    /// Returns an error if an entry with the name `name` isn't a list of entries. The errors of several lists are combined.
+    ///
+    /// ```no_run
+    /// extern crate proc_macro;
+    /// use navyspindle::{next_attributes, Attrs, MacroError};
+    ///
+    /// /// Reads the size of `#[opt(size = 1)] #[opt(verbose)] struct A;`.
+    /// fn size(item: proc_macro::TokenStream) -> Result<u8, MacroError> {
+    ///     let metas = next_attributes(&mut item.into_iter().peekable())?;
+    ///     let attrs = Attrs::join("opt", &metas)?;
+    ///     attrs.check(&["size", "verbose"])?;
+    ///     attrs.number("size")?.ok_or_else(|| attrs.missing_error("size"))
+    /// }
+    /// ```
+    pub fn join<'m>(
+        name: &str,
+        metas: impl IntoIterator<Item = &'m Meta>,
+    ) -> Result<Attrs, MacroError> {
+        let mut joined = Attrs::of(Vec::new(), None);
+        let named = metas.into_iter().filter(|meta| meta.name() == name);
+        let errors = named.filter_map(|meta| match meta.list() {
+            Ok(attrs) => {
+                joined.place = joined.place.or(attrs.place);
+                joined.entries.extend(attrs.entries);
+                None
+            }
+            Err(error) => Some(error),
+        });
+        MacroError::combine_all(errors)?;
+        Ok(joined)
+    }
+
     #[inline]
     pub(crate) fn of(entries: Vec<Meta>, place: Option<(Span, Span)>) -> Attrs {
         Attrs { entries, place }

@@ -13,7 +13,7 @@ pub(crate) enum Separators {
 }
 
 const COMMENT: &str = "a comment begins with `//`";
-const STRING: &str = "a string has double quotes";
+pub(crate) const STRING: &str = "a string has double quotes";
 
 /// Returns a hint for the error at the byte offset `at` of a text of settings.
 #[cold]
@@ -39,6 +39,7 @@ pub(crate) fn help_of(
             '‘' | '’' | '“' | '”' | '„' | '«' | '»' | '`' | '\\' => Some(STRING),
             _ => None,
         },
+        SyntaxErrorKind::UnclosedQuote if rest.starts_with('\'') => Some(STRING),
         SyntaxErrorKind::DocComment if rest.starts_with("///") => {
             Some("a comment begins with `//`, not with `///`")
         }
@@ -86,6 +87,13 @@ fn of_literal(rest: &str) -> Option<&'static str> {
         '[' => Some("there are no arrays"),
         '{' => Some("there are no tables"),
         '+' => Some("a number has no `+`"),
+        // Any other number is a literal.
+        '-' if after_first(rest)
+            .trim_start()
+            .starts_with(|c: char| c.is_ascii_digit()) =>
+        {
+            Some("an integer has at most 128 bits")
+        }
         '.' => Some("a float begins with a digit, as in `0.5`"),
         '#' => Some(STRING),
         c if c.is_alphabetic() || c == '_' => {

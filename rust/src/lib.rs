@@ -29,12 +29,12 @@
 //! | Check that a literal has a type | [`Lit::type_error`] | `flaws` |
 //! | Report every error of a literal | [`flaws`](fn@flaws), [`pieces`], [`guess_kind`] | `flaws` |
 //! | Read a list of literals | [`parse_list`] | `sources` |
-//! | Read literals in your own parser | [`Lit::parse_prefix`], [`skip_trivia`], [`skip_token`] | `sources` |
+//! | Read literals in your own parser | [`Lit::parse_next`], [`Lit::parse_prefix`], [`skip_trivia`], [`skip_token`], [`leading_comments`] | `sources` |
 //! | Convert bytes to lines and columns | [`LineIndex`] | `sources` |
 //! | Read `name = literal` settings | [`Settings`], [`Key`]; [`parse_settings`](fn@parse_settings), [`parse_config`](fn@parse_config) | `settings` |
 //! | Write a value as a literal | [`write_str`], [`write_integer`], ..; [`LitStr::new`], [`LitInt::suffixed`], .. | `writers` |
 //! | Rewrite literals in a style | [`rewrite`], [`Style`]; with `sources` [`rewrite_source`](fn@rewrite_source) | `style` |
-//! | Read an attribute in a procedural macro | [`Attrs`], [`Meta`]; [`MacroError`], [`AtSpan`] | `proc-macro` |
+//! | Read attributes in a procedural macro | [`Attrs`], [`Meta`], [`next_attributes`]; [`MacroError`], [`AtSpan`] | `proc-macro` |
 //! | Read literals in a procedural macro | [`next_literal_of`], [`only_literal_of`], [`next_literal`](fn@next_literal), [`next_value`]; with `settings` [`MacroInput`] | `proc-macro` |
 //!
 //! Ranges and offsets count bytes. All features except `proc-macro` are on by default.
@@ -199,11 +199,11 @@ pub use macro_error::{AtSpan, MacroError};
 #[cfg(all(feature = "proc-macro", feature = "settings"))]
 pub use macro_settings::{parse_macro_settings, MacroEntry, MacroInput};
 #[cfg(feature = "proc-macro")]
-pub use meta::{next_value, Meta};
+pub use meta::{next_attributes, next_value, Meta};
 pub use numbers::{Base, LitFloat, LitInt, NumberType};
 pub use parse_error::{FlawKind, ParseError, ParseErrorKind};
 #[cfg(feature = "sources")]
-pub use prefix::{skip_token, skip_trivia};
+pub use prefix::{leading_comments, skip_token, skip_trivia};
 #[cfg(feature = "proc-macro")]
 pub use proc_macros::{next_literal, next_literal_of, only_literal_of, LitOfKind};
 #[cfg(all(feature = "sources", feature = "style"))]

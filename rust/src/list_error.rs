@@ -1,7 +1,7 @@
 //! The error type of lists and sources.
 
 use crate::common::shifted;
-use crate::error::{range_at, SyntaxErrorKind};
+use crate::error::{range_at, Part, SyntaxErrorKind};
 use crate::rl_cursors::Rejection;
 use crate::rl_lexer::LexError;
 use crate::rl_settings::{lexer_error, list_error};
@@ -37,6 +37,21 @@ impl ListError {
         ListError {
             kind: lexer_error(error.kind),
             range: error.at..text.len(),
+        }
+    }
+
+    /// Creates the error that a minus or the end of the text is at the byte offset `at`, where a literal is expected.
+    #[cold]
+    #[inline]
+    pub(crate) fn no_literal(at: usize, is_minus: bool) -> ListError {
+        let (kind, len) = if is_minus {
+            (SyntaxErrorKind::NotALiteral, 1)
+        } else {
+            (SyntaxErrorKind::EndOfInput(Part::Literal), 0)
+        };
+        ListError {
+            kind,
+            range: at..at + len,
         }
     }
 

@@ -27,8 +27,8 @@ use core::str::FromStr;
 /// [`Lit::parse`] accepts Rust's literals, with an optional minus before a number. [`Lit::of_text`] accepts any text, and reads it
 /// as `syn` reads a token. Some texts that Rust rejects are literals to `syn`.
 ///
-/// Some methods need a feature: [`check`](Lit::check) `sources` or `settings`; [`parse_prefix`](Lit::parse_prefix) and
-/// [`parse_prefix_signed`](Lit::parse_prefix_signed) `sources`; [`type_error`](Lit::type_error) and
+/// Some methods need a feature: [`check`](Lit::check) `sources` or `settings`; [`parse_prefix`](Lit::parse_prefix),
+/// [`parse_prefix_signed`](Lit::parse_prefix_signed) and [`parse_next`](Lit::parse_next) `sources`; [`type_error`](Lit::type_error) and
 /// [`type_error_negated`](Lit::type_error_negated) `flaws`; `to_token_stream`, and `TryFrom` of tokens, `proc-macro`. Constructors
 /// that write a value as a literal, such as [`LitStr::new`] and [`LitInt::suffixed`], need `writers`.
 ///

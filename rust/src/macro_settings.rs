@@ -152,8 +152,9 @@ impl MacroInput {
         Settings::read(&self.text).map_err(|error| self.error(&error))
     }
 
-    /// Converts an error of settings that were read from this text. The `MacroError` is at the tokens of the error's range. If the
-    /// range is empty, the `MacroError` is at the token before it.
+    /// Converts an error of settings that were read from this text. The `MacroError` is at the tokens of the error's
+    /// [`piece`](SettingError::piece). If the piece is empty, as for a missing setting, the `MacroError` is at the token before it.
+    /// [`MacroError::at`] moves the error to another token, such as the attribute's name.
     ///
     /// ```no_run
     /// extern crate proc_macro;
@@ -167,9 +168,8 @@ impl MacroInput {
     #[inline]
     #[must_use]
     pub fn error(&self, error: &SettingError) -> MacroError {
-        let mut bytes = error.range();
+        let mut bytes = error.piece();
         if bytes.is_empty() {
-            // The range of an integer above 128 bits is where its digits end.
             bytes.start = bytes.start.saturating_sub(1);
         }
         let (first, last) = self.spans(bytes);

@@ -564,6 +564,44 @@ fn next_name(trees: &mut Trees) -> Result<(String, Span, Span), MacroError> {
     }
 }
 
+/// Consumes the attributes `#[..]` before an item, a field or a variant, and returns an entry for each attribute, in order.
+///
+/// A doc comment is an entry with the name `doc`. [`Attrs::join`] joins the entries of attributes with the same name.
+///
+/// # Errors
+///
+/// Returns an error if no `[..]` follows a `#`, or if the tokens inside aren't one entry.
+///
+/// ```no_run
+/// extern crate proc_macro;
+/// use navyspindle::{next_attributes, Attrs, MacroError};
+/// use proc_macro::TokenStream;
+///
+/// /// The flag `#[opt(skip)]` of a struct, and the tokens after the attributes, such as `pub struct A;`.
+/// fn skipped(item: TokenStream) -> Result<(bool, TokenStream), MacroError> {
+///     let mut tokens = item.into_iter().peekable();
+///     let metas = next_attributes(&mut tokens)?;
+///     Ok((Attrs::join("opt", &metas)?.flag("skip")?, tokens.collect()))
+/// }
+/// ```
+pub fn next_attributes(
+    tokens: &mut Peekable<impl Iterator<Item = TokenTree>>,
+) -> Result<Vec<Meta>, MacroError> {
+    let mut metas = Vec::new();
+    while let Some(hash) = tokens.next_if(|tree| is_mark(tree, '#')) {
+        match tokens.next() {
+            Some(TokenTree::Group(group)) if group.delimiter() == Delimiter::Bracket => {
+                metas.push(Meta::parse(group.stream())?);
+            }
+            other => {
+                let span = other.map_or_else(|| hash.span(), |tree| tree.span());
+                return Err(MacroError::new("expected `[`", span));
+            }
+        }
+    }
+    Ok(metas)
+}
+
 /// Consumes and returns the tokens before the next comma. They may be an expression. The comma stays.
 ///
 /// The tokens aren't parsed. A comma in `()`, `[]` or `{}` doesn't end the value. A comma in `<..>` doesn't end it either, if the

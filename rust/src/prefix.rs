@@ -1,9 +1,15 @@
 //! Parsing of the literal at the start of a text, for parsers that read literals among their own tokens.
 
+use crate::list::parse_list;
+use crate::list_error::ListError;
 use crate::lit::Lit;
 use crate::rl_lexer::{first_source_token, whitespace};
 use crate::rl_recovery::{leading_literal, leading_signed_literal, LeadingLiteral};
+use crate::rl_syntax::classes::skip_white;
+use crate::rl_syntax::lines::split_line;
 use alloc::borrow::Cow;
+use core::iter;
+use core::ops::Range;
 
 /// Returns the literal, and the text after it.
 fn split(leading: LeadingLiteral<'_>) -> (Lit<'_>, &str) {
@@ -23,18 +29,7 @@ impl<'t> Lit<'t> {
     ///
     /// The token is read as [`Lit::of_text`] reads it, so `0b12` is a float. [`Lit::check`] applies Rust's grammar.
     ///
-    /// For the reason why the result is `None` and its range, call [`parse_list(text).next()`](crate::parse_list) with a text that
-    /// [`skip_trivia`] returned. The item is `Ok` only if a minus and a number begin the text, and `None` only if the text is empty.
-    ///
-    /// ```
-    /// use navyspindle::{parse_list, Lit};
-    ///
-    /// assert!(Lit::parse_prefix("'a + 1").is_none());
-    /// let error = parse_list("'a + 1").next().unwrap().unwrap_err();
-    /// assert_eq!((error.kind().message(), error.range()), ("unexpected lifetime: a string has double quotes", 0..2));
-    /// assert!(Lit::parse_prefix("-1").is_none());
-    /// assert!(parse_list("-1").next().unwrap().is_ok());
-    /// ```
+    /// [`Lit::parse_next`] skips white space and comments, and returns an error if something else follows them.
     ///
     /// A parser reads literals among its own tokens like this:
     ///
@@ -84,6 +79,33 @@ impl<'t> Lit<'t> {
         leading_literal(text).map(split)
     }
 
+    /// Skips white space and plain comments, and parses the literal after them like [`Lit::parse_prefix`]. Returns the literal, and the
+    /// text after it.
+    ///
+    /// # Errors
+    ///
+    /// Returns an error if something else follows. Its kind and range are those of the error of [`parse_list`]. A minus is
+    /// [`NotALiteral`](crate::SyntaxErrorKind::NotALiteral), and the end of the text is
+    /// [`EndOfInput`](crate::SyntaxErrorKind::EndOfInput).
+    ///
+    /// ```
+    /// use navyspindle::Lit;
+    ///
+    /// let (literal, rest) = Lit::parse_next("/* a */ 1u8 + 2")?;
+    /// assert_eq!((literal.text(), rest), ("1u8", " + 2"));
+    /// let error = Lit::parse_next(" x + 1").unwrap_err();
+    /// assert_eq!((error.kind().message(), error.range()), ("not a literal", 1..2));
+    /// # Ok::<(), navyspindle::ListError>(())
+    /// ```
+    #[inline]
+    pub fn parse_next(text: &'t str) -> Result<(Lit<'t>, &'t str), ListError> {
+        let rest = skip_trivia(text);
+        Lit::parse_prefix(rest).ok_or_else(|| match parse_list(text).next() {
+            Some(Err(error)) if !rest.starts_with('-') => error,
+            found => ListError::no_literal(text.len() - rest.len(), found.is_some()),
+        })
+    }
+
     /// Parses the literal at the start of the text like [`Lit::parse_prefix`], or a minus and the number directly after it.
     ///
     /// ```
@@ -119,6 +141,54 @@ impl<'t> Lit<'t> {
 #[must_use]
 pub fn skip_trivia(text: &str) -> &str {
     whitespace::skip(text)
+}
+
+/// Iterates over the comments that [`skip_trivia`] skips, in order. Each item is the byte range of a comment in the text.
+///
+/// A line comment ends before its line feed. A doc comment is a token, which [`skip_token`] skips. If a block comment isn't closed,
+/// the text that `skip_trivia` returns begins with `/*`.
+///
+/// This function returns all comments of a text, such as for a highlighter:
+///
+/// ```
+/// use navyspindle::{leading_comments, skip_token, skip_trivia};
+///
+/// fn comments(text: &str) -> Vec<&str> {
+///     let (mut rest, mut found) = (text, Vec::new());
+///     loop {
+///         found.extend(leading_comments(rest).map(|range| &rest[range]));
+///         rest = skip_trivia(rest);
+///         // A doc comment, or a block comment that isn't closed.
+///         let is_comment = rest.starts_with("//") || rest.starts_with("/*");
+///         let following = skip_token(rest).unwrap_or("");
+///         if is_comment {
+///             found.push(&rest[..rest.len() - following.len()]);
+///         }
+///         if following.is_empty() {
+///             return found;
+///         }
+///         rest = following;
+///     }
+/// }
+///
+/// let text = "/* a */ f(x, \"// b\"); // c\n/// d\nfn g() {} /* e";
+/// assert_eq!(comments(text), ["/* a */", "// c", "/// d", "/* e"]);
+/// ```
+#[inline]
+pub fn leading_comments(text: &str) -> impl Iterator<Item = Range<usize>> + Clone + '_ {
+    let (mut rest, following) = (text, skip_trivia(text));
+    iter::from_fn(move || {
+        rest = skip_white(rest);
+        if rest.len() <= following.len() {
+            return None;
+        }
+        let start = text.len() - rest.len();
+        rest = match rest.strip_prefix("/*") {
+            Some(inside) => whitespace::after_block(inside)?,
+            None => split_line(rest).1,
+        };
+        Some(start..text.len() - rest.len())
+    })
 }
 
 /// Returns the text after its first token, or `None` if the text doesn't begin with a token.

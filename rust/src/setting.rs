@@ -2,6 +2,7 @@
 
 use crate::common::shifted;
 use crate::error::SyntaxErrorKind;
+use crate::help::STRING;
 use crate::lit::Lit;
 use crate::parse_error::ParseError;
 use crate::settings::{parse_settings, write_help, Entry, SettingsSyntaxError};
@@ -168,6 +169,33 @@ impl SettingError {
     #[must_use]
     pub fn range(&self) -> Range<usize> {
         self.range.clone()
+    }
+
+    /// Returns the byte range to show to users. It ends where [`range`](SettingError::range) ends.
+    ///
+    /// For a value that Rust rejects, it is the [`piece`](ParseError::piece) of the `ParseError`: it begins where the wrong part of
+    /// the value begins, such as at the backslash of an escape. For an integer above 128 bits it is the whole number, without its
+    /// suffix. For another error it is `range`.
+    ///
+    /// ```
+    /// use navyspindle::{Key, Settings};
+    ///
+    /// let text = format!("port = {}", u128::MAX.to_string() + "0");
+    /// let error = Settings::read(&text)?.number::<u16>(Key::new("port", "a number")).unwrap_err();
+    /// assert_eq!((error.range(), error.piece()), (47..47, 7..47));
+    /// # Ok::<(), navyspindle::SettingError>(())
+    /// ```
+    #[inline]
+    #[must_use]
+    pub fn piece(&self) -> Range<usize> {
+        match &self.kind {
+            // If white space or a comment follows the minus, the range is that of the whole value, and so longer than the error's.
+            SettingErrorKind::Literal(_, error) if error.range().len() == self.range.len() => {
+                let wrong = error.offset() - error.piece().start;
+                self.range.start - wrong..self.range.end
+            }
+            _ => self.range(),
+        }
     }
 
     /// Returns the byte offset at which [`range`](SettingError::range) begins.
@@ -398,6 +426,13 @@ impl<'t> Settings<'t> {
         self.value_of(key, |entry| match &entry.value {
             Lit::Str(literal) => without_suffix(key, entry, literal.value()),
             _ => Err(no_such(key, entry)),
+        })
+        .map_err(|error| match self.get(key.name) {
+            Some(entry) if matches!(entry.value, Lit::Char(_)) => SettingError {
+                help: Some(STRING),
+                ..error
+            },
+            _ => error,
         })
     }
 

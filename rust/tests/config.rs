@@ -572,6 +572,10 @@ fn errors_tell_what_other_formats_write() {
         "a = »b«",
         "a = _b",
         "a = Falsehood",
+        "a = ''",
+        "a = '10.0.0.1'",
+        "a = '",
+        "a = '-b'",
     ] {
         let expected = if text.starts_with("a = /") {
             ""
@@ -584,6 +588,13 @@ fn errors_tell_what_other_formats_write() {
         let message = parse_config(text).unwrap_err().to_string();
         assert!(message.contains(string), "{message}");
     }
+    let value_help = |text| {
+        let read = Settings::read_config(text).expect(text);
+        read.string(value("a")).expect_err(text).help()
+    };
+    assert_eq!(value_help("a = 'b'"), Some(string));
+    assert_eq!(value_help("a = 1"), None);
+    assert_eq!(value_help("a = b'c'"), None);
     assert_eq!(help("a = True"), "write `true` or `false`");
     assert_eq!(help("a = FALSE"), "write `true` or `false`");
     assert_eq!(
@@ -599,6 +610,11 @@ fn errors_tell_what_other_formats_write() {
     assert_eq!(help("1st = 1"), "a name begins with a letter or `_`");
     assert_eq!(help("a = +1"), "a number has no `+`");
     assert_eq!(help("a = .5"), "a float begins with a digit, as in `0.5`");
+    // 2 to the power of 128.
+    let large = "340282366920938463463374607431768211456";
+    let bits = "an integer has at most 128 bits";
+    assert_eq!(help(&format!("a = -{large}")), bits);
+    assert_eq!(help(&format!("a = - {large}_u8")), bits);
     let between = "a comma or a line end is between two settings";
     assert_eq!(help("a = 1 b = 2"), between);
     assert_eq!(help("a = 1; b = 2"), between);
@@ -606,6 +622,9 @@ fn errors_tell_what_other_formats_write() {
     assert_eq!(help("a = 1/* one */b = 2"), between);
     for text in [
         "a 1",
+        "a = -b",
+        "a = --1",
+        "a = -'1'",
         "a - b = 1",
         "a = 1,, b = 2",
         "a = ",
@@ -617,6 +636,37 @@ fn errors_tell_what_other_formats_write() {
     ] {
         assert_eq!(help(text), "", "{text:?}");
     }
+}
+
+/// After a minus, each number up to 128 bits is a literal, so the hint for larger integers doesn't follow a smaller number.
+#[test]
+fn numbers_after_a_minus_are_literals() {
+    let mut texts = vec![
+        String::from("a = -0"),
+        String::from("a = -1"),
+        String::from("a = -9"),
+    ];
+    for _ in 0..4 {
+        for text in std::mem::take(&mut texts) {
+            texts.extend("019xobefu_.+-".chars().map(|c| format!("{text}{c}")));
+            if let Err(error) = parse_config(&text) {
+                assert_ne!(
+                    error.kind(),
+                    SyntaxErrorKind::Expected(Part::Literal),
+                    "{text}"
+                );
+                assert_ne!(
+                    error.help(),
+                    Some("an integer has at most 128 bits"),
+                    "{text}"
+                );
+            }
+        }
+    }
+    assert_eq!(texts.len(), 3 * 13 * 13 * 13 * 13);
+    // 2 to the power of 128, minus 1.
+    let most = "a = -340282366920938463463374607431768211455";
+    assert_eq!(parse_config(most).map(|entries| entries.len()), Ok(1));
 }
 
 #[test]

@@ -83,6 +83,51 @@ fn the_piece_of_an_error_moves_with_its_range() {
 }
 
 #[test]
+fn the_piece_of_a_settings_error() {
+    // 2 to the power of 128.
+    let large = "340282366920938463463374607431768211456";
+    let port = Key::new("port", "an integer");
+    let error = |value: &str| {
+        let text = format!("a = 1, port = {value}, b = 2");
+        let error = Settings::read(&text)
+            .unwrap()
+            .number::<u8>(port)
+            .unwrap_err();
+        assert_eq!(
+            error.clone().shifted(9).piece().start,
+            error.piece().start + 9
+        );
+        (
+            text[error.piece()].to_string(),
+            text[error.range()].to_string(),
+        )
+    };
+    let shown = |piece: &str, range: &str| (piece.to_string(), range.to_string());
+    assert_eq!(error(large), shown(large, ""));
+    assert_eq!(
+        error(&format!("{large}u8")),
+        shown(&format!("{large}u"), "u")
+    );
+    assert_eq!(error("0b102"), shown("0b102", "2"));
+    assert_eq!(error("1e"), shown("1e", ""));
+    assert_eq!(error("-1e"), shown("-1e", ""));
+    // The literal's text isn't the settings' text, so the whole value is both.
+    assert_eq!(error("- 1e"), shown("- 1e", "- 1e"));
+    assert_eq!(error("-/**/0b102"), shown("-/**/0b102", "-/**/0b102"));
+    // The range of another error is its piece.
+    assert_eq!(error("1u16"), shown("u16", "u16"));
+    assert_eq!(error("300"), shown("300", "300"));
+    assert_eq!(error("\"a\""), shown("\"a\"", "\"a\""));
+    let settings = Settings::read(r#"host = "a\x9b""#).unwrap();
+    let error = settings.string(Key::new("host", "a string")).unwrap_err();
+    assert_eq!((error.piece(), error.range()), (9..12, 11..12));
+    let error = settings.check(&[port]).unwrap_err();
+    assert_eq!((error.piece(), error.range()), (0..4, 0..4));
+    assert_eq!(settings.missing_error(port).piece(), 14..14);
+    assert_eq!(Settings::read("a = 1 b").unwrap_err().piece(), 6..7);
+}
+
+#[test]
 fn numbers_are_written_with_their_types() {
     assert_eq!(LitInt::suffixed(10_u8).text(), "10u8");
     assert_eq!(LitInt::suffixed(-1_i64).text(), "-1i64");

@@ -1,7 +1,7 @@
 //! Checks that a loop over the tokens of a text finds the literals that `source` returns.
 #![cfg(feature = "sources")]
 
-use navyspindle::{parse_list, skip_token, skip_trivia, source, Lit};
+use navyspindle::{leading_comments, parse_list, skip_token, skip_trivia, source, Lit};
 use std::fs;
 use std::ops::Range;
 use std::time::{Duration, Instant};
@@ -92,6 +92,126 @@ fn one_token_is_passed() {
     ] {
         assert_eq!(skip_token(text), None, "{text}");
     }
+}
+
+#[test]
+fn the_next_literal() {
+    for (text, literal, rest) in [
+        ("1 + 2", "1", " + 2"),
+        (" /* a */ // b\n 'x'y", "'x'y", ""),
+        ("\"\"\"\"", "\"\"", "\"\""),
+        ("1.5.0", "1.5", ".0"),
+        ("true)", "true", ")"),
+    ] {
+        let found = Lit::parse_next(text).map(|(literal, rest)| (literal.to_string(), rest));
+        assert_eq!(found, Ok((literal.to_string(), rest)), "{text:?}");
+    }
+    let end = "unexpected end of input, expected literal";
+    for (text, message, range) in [
+        ("", end, 0..0),
+        (" // a", end, 5..5),
+        ("-1", "not a literal", 0..1),
+        (" /**/ - 1", "not a literal", 6..7),
+        ("-a", "not a literal", 0..1),
+        (" word 1", "not a literal", 1..5),
+        ("é", "not a literal", 0..2),
+        ("(1)", "expected literal, found group", 0..1),
+        (" /* a", "unclosed block comment", 1..5),
+        ("\n\"a", "unclosed quote", 1..3),
+        ("/// a\n1", "unexpected doc comment", 0..5),
+    ] {
+        let error = Lit::parse_next(text).expect_err(text);
+        let shown = (error.kind().to_string(), error.range());
+        assert_eq!(shown, (message.to_string(), range), "{text:?}");
+    }
+}
+
+/// Returns the ranges of the plain comments at the start of a text, as the Rust Reference defines comments.
+fn comments_in_model(text: &str) -> Vec<Range<usize>> {
+    let (mut found, mut at) = (Vec::new(), 0);
+    loop {
+        at = text.len() - text[at..].trim_start().len();
+        let rest = &text[at..];
+        let is_doc = |doc: &str, others: [&str; 2]| {
+            rest.starts_with(doc) && !others.iter().any(|other| rest.starts_with(other))
+        };
+        let len =
+            if rest.starts_with("//") && !rest.starts_with("//!") && !is_doc("///", ["////"; 2]) {
+                rest.find('\n').unwrap_or(rest.len())
+            } else if rest.starts_with("/*")
+                && !rest.starts_with("/*!")
+                && !is_doc("/**", ["/***", "/**/"])
+            {
+                let (mut depth, mut end) = (0, 0);
+                loop {
+                    match rest.as_bytes()[end..] {
+                        [b'/', b'*', ..] => (depth, end) = (depth + 1, end + 2),
+                        [b'*', b'/', ..] => (depth, end) = (depth - 1, end + 2),
+                        [_, ..] => end += 1,
+                        [] => return found,
+                    }
+                    if depth == 0 {
+                        break end;
+                    }
+                }
+            } else {
+                return found;
+            };
+        found.push(at..at + len);
+        at += len;
+    }
+}
+
+#[test]
+fn comments_at_the_start() {
+    for (text, comments) in [
+        ("", &[][..]),
+        (" a // b", &[]),
+        ("// a", &["// a"]),
+        ("// a\r\n\t/* b\n */c", &["// a\r", "/* b\n */"]),
+        (
+            "/* /* a */ */// /* b\n\"// c\"",
+            &["/* /* a */ */", "// /* b"],
+        ),
+        ("/**//***/////\n1", &["/**/", "/***/", "////"]),
+        ("/* é */ /// b", &["/* é */"]),
+        ("/* a *//** b */", &["/* a */"]),
+        ("/* a *//*! b */", &["/* a */"]),
+        ("// a\n/* b", &["// a"]),
+        ("\u{200e}// a\u{200f}", &["// a\u{200f}"]),
+        ("/ / a", &[]),
+    ] {
+        let found = leading_comments(text).map(|range| &text[range]);
+        assert_eq!(found.collect::<Vec<_>>(), comments, "{text:?}");
+    }
+    // The ranges go on from a clone.
+    let mut first = leading_comments("// a\n// b");
+    first.next();
+    assert_eq!(first.clone().next(), Some(5..9));
+    assert_eq!(
+        (first.next(), first.next(), first.next()),
+        (Some(5..9), None, None)
+    );
+    const PARTS: [&str; 8] = ["//", "/*", "*/", "/", "*", "!", "\n", " a"];
+    let (mut state, mut comments) = (7_u64, 0);
+    for round in 0..100_000 {
+        let mut text = String::from(["/*", "//", " "][round % 3]);
+        for _ in 0..round % 16 {
+            state = state.wrapping_mul(0x5851_F42D_4C95_7F2D).wrapping_add(1);
+            text += PARTS[(state >> 61) as usize];
+        }
+        state = state.wrapping_add(1);
+        let expected = comments_in_model(&text);
+        comments += expected.len();
+        assert_eq!(
+            leading_comments(&text).collect::<Vec<_>>(),
+            expected,
+            "{text:?}"
+        );
+        let end = expected.last().map_or(0, |range| range.end);
+        assert_eq!(text[end..].trim_start(), skip_trivia(&text), "{text:?}");
+    }
+    assert!(comments > 40_000, "{comments}");
 }
 
 /// A parser may call `parse_prefix` at each character of a text. If the first characters can't begin a literal, the result doesn't

@@ -2,7 +2,8 @@
 
 use crate::{or_error, tokens_of};
 use navyspindle::{
-    next_literal_of, write_str, AtSpan, Attrs, Lit, LitChar, LitInt, LitStr, MacroError, Meta,
+    next_attributes, next_literal_of, write_str, AtSpan, Attrs, Lit, LitChar, LitInt, LitStr,
+    MacroError, Meta,
 };
 use proc_macro::{Delimiter, Group, Span, TokenStream, TokenTree};
 use std::{panic, thread};
@@ -114,6 +115,25 @@ pub fn options(input: TokenStream) -> TokenStream {
 pub fn attribute(input: TokenStream) -> TokenStream {
     let attrs = Meta::parse(input).and_then(|meta| meta.list());
     match attrs.and_then(|attrs| read(&attrs)) {
+        Ok(shown) => tokens_of(&shown),
+        Err(error) => shown_errors(&error),
+    }
+}
+
+/// Returns the result of [`read`] for all attributes `#[opt(..)]` before an item, the names of all its attributes, and the tokens after
+/// them. If the attributes are invalid, the result is the errors.
+pub fn joined(item: TokenStream) -> TokenStream {
+    let mut trees = item.into_iter().peekable();
+    let shown = next_attributes(&mut trees).and_then(|metas| {
+        let read = read(&Attrs::join("opt", &metas)?)?;
+        let names: String = metas
+            .iter()
+            .map(|meta| format!("{} ", meta.name()))
+            .collect();
+        let rest = write_str(&without_spaces(trees.collect()));
+        Ok(format!("({read}, {}, {rest})", write_str(&names)))
+    });
+    match shown {
         Ok(shown) => tokens_of(&shown),
         Err(error) => shown_errors(&error),
     }

@@ -396,6 +396,13 @@ pub fn attribute(input: TokenStream) -> TokenStream {
     attributes::attribute(input)
 }
 
+/// Returns a tuple of the settings in the attributes `#[opt(..)]` before an item, read by name, the names of all attributes, and the
+/// tokens after them, or the errors.
+#[proc_macro]
+pub fn joined(input: TokenStream) -> TokenStream {
+    attributes::joined(input)
+}
+
 /// Implements `description()` for a struct, from its attributes `#[described(..)]`.
 #[proc_macro_derive(Described, attributes(described))]
 pub fn derive_described(item: TokenStream) -> TokenStream {

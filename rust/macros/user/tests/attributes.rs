@@ -1,6 +1,8 @@
 //! Tests of the entries of attributes, with tokens that rustc passes to macros.
 
-use navyspindle_macros::{at_values, attribute, converted, debugged, entries, options, Described};
+use navyspindle_macros::{
+    at_values, attribute, converted, debugged, entries, joined, options, Described,
+};
 
 type Entry = (
     &'static str,
@@ -258,6 +260,89 @@ fn a_missing_name_is_reported_at_its_attribute() {
     assert_eq!(errors, [("expected a list: `opt(..)`", "opt", "opt")]);
     let errors: Errors = attribute!(opt(name = "a") more);
     assert_eq!(errors, [("unexpected token", "more", "more")]);
+}
+
+#[test]
+fn attributes_of_an_item_are_joined() {
+    let (read, names, rest) = joined! {
+        /// A struct.
+        #[opt(verbose, alias = "b")]
+        #[other(size = 1)]
+        #[opt(name = "a", size = 2)]
+        #[opt[alias = "c"]]
+        #[a::b = 1 + 2]
+        pub struct A;
+    };
+    assert_eq!(read, ("a", 2, true, '-', "", None, 2));
+    assert_eq!(
+        (names, rest),
+        ("doc opt other opt opt a::b ", "pubstructA;")
+    );
+    macro_rules! passed {
+        ($($meta:meta)*; $item:item) => {
+            joined!($(#[$meta])* $item)
+        };
+    }
+    let (read, names, rest) = passed!(opt(name = "a") opt(); struct A;);
+    assert_eq!(read, ("a", 1, false, '-', "", None, 0));
+    assert_eq!((names, rest), ("opt opt ", "structA;"));
+}
+
+#[test]
+fn errors_of_joined_attributes() {
+    let errors: Errors = joined!(
+        #[opt(name = "a", size = 1)]
+        #[opt(size = 2)]
+        struct A;
+    );
+    assert_eq!(errors, [("repeated name `size`", "size", "size")]);
+    // A missing name is an error at the first attribute.
+    let errors: Errors = joined!(
+        #[other]
+        #[a::opt(name = "a")]
+        #[r#opt(size = 1)]
+        #[opt(verbose)]
+        struct A;
+    );
+    assert_eq!(errors, [("missing `name`", "r#opt", "r#opt")]);
+    let errors: Errors = joined!(
+        struct A;
+    );
+    assert_eq!(errors[0].0, "missing `name`");
+    assert!(errors[0].1.starts_with("joined!"), "{}", errors[0].1);
+    let errors: Errors = joined!(
+        #[opt(a b)]
+        #[opt(name = "a")]
+        #[opt]
+        #[opt = 1]
+        struct A;
+    );
+    assert_eq!(
+        errors,
+        [
+            ("expected `,`", "b", "b"),
+            ("expected a list: `opt(..)`", "opt", "opt"),
+            ("expected a list", "1", "1"),
+        ]
+    );
+    let errors: Errors = joined!(
+        #[opt(nme = 1)]
+        #[opt(verbos)]
+        struct A;
+    );
+    assert_eq!(
+        errors,
+        [
+            ("unknown name `nme`", "nme", "nme"),
+            ("unknown name `verbos`", "verbos", "verbos"),
+        ]
+    );
+    let errors: Errors = joined!(#[a b] struct A;);
+    assert_eq!(errors, [("unexpected token", "b", "b")]);
+    let errors: Errors = joined!(#(a) struct A;);
+    assert_eq!(errors, [("expected `[`", "(a)", "(a)")]);
+    let errors: Errors = joined!(#[a] #);
+    assert_eq!(errors, [("expected `[`", "#", "#")]);
 }
 
 #[test]
