@@ -74,7 +74,7 @@ impl Attrs {
     /// names are ignored. Without a list, the result has no entries.
     ///
     /// An error about all entries, such as a missing name, is at the first list's name. Without a list, it is at the macro's call.
-    /// A name that two of the lists set is repeated.
+    /// If two of the lists set the same name, reading it returns the error `repeated name`.
     ///
     /// # Errors
     ///

@@ -87,7 +87,7 @@ fn of_literal(rest: &str) -> Option<&'static str> {
         '[' => Some("there are no arrays"),
         '{' => Some("there are no tables"),
         '+' => Some("a number has no `+`"),
-        // Any other number is a literal.
+        // After a minus, each number up to 128 bits is a literal.
         '-' if after_first(rest)
             .trim_start()
             .starts_with(|c: char| c.is_ascii_digit()) =>

@@ -40,7 +40,7 @@ impl ListError {
         }
     }
 
-    /// Creates the error that a minus or the end of the text is at the byte offset `at`, where a literal is expected.
+    /// Creates the error for a minus, or for the end of the text, at the byte offset `at`. A literal was expected there.
     #[cold]
     #[inline]
     pub(crate) fn no_literal(at: usize, is_minus: bool) -> ListError {

@@ -577,7 +577,7 @@ fn next_name(trees: &mut Trees) -> Result<(String, Span, Span), MacroError> {
 /// use navyspindle::{next_attributes, Attrs, MacroError};
 /// use proc_macro::TokenStream;
 ///
-/// /// The flag `#[opt(skip)]` of a struct, and the tokens after the attributes, such as `pub struct A;`.
+/// /// Returns whether a struct has the flag `#[opt(skip)]`, and the tokens after its attributes, such as `pub struct A;`.
 /// fn skipped(item: TokenStream) -> Result<(bool, TokenStream), MacroError> {
 ///     let mut tokens = item.into_iter().peekable();
 ///     let metas = next_attributes(&mut tokens)?;

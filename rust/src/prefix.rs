@@ -29,7 +29,7 @@ impl<'t> Lit<'t> {
     ///
     /// The token is read as [`Lit::of_text`] reads it, so `0b12` is a float. [`Lit::check`] applies Rust's grammar.
     ///
-    /// [`Lit::parse_next`] skips white space and comments, and returns an error if something else follows them.
+    /// [`Lit::parse_next`] skips white space and comments. It returns an error if the text after them doesn't begin with a literal.
     ///
     /// A parser reads literals among its own tokens like this:
     ///
@@ -84,9 +84,9 @@ impl<'t> Lit<'t> {
     ///
     /// # Errors
     ///
-    /// Returns an error if something else follows. Its kind and range are those of the error of [`parse_list`]. A minus is
-    /// [`NotALiteral`](crate::SyntaxErrorKind::NotALiteral), and the end of the text is
-    /// [`EndOfInput`](crate::SyntaxErrorKind::EndOfInput).
+    /// Returns an error if the text after the white space and comments doesn't begin with a literal. For a minus, the kind is
+    /// [`NotALiteral`](crate::SyntaxErrorKind::NotALiteral). At the end of the text, the kind is
+    /// [`EndOfInput`](crate::SyntaxErrorKind::EndOfInput). Any other error has the kind and the range of the error of [`parse_list`].
     ///
     /// ```
     /// use navyspindle::Lit;
@@ -145,10 +145,10 @@ pub fn skip_trivia(text: &str) -> &str {
 
 /// Iterates over the comments that [`skip_trivia`] skips, in order. Each item is the byte range of a comment in the text.
 ///
-/// A line comment ends before its line feed. A doc comment is a token, which [`skip_token`] skips. If a block comment isn't closed,
-/// the text that `skip_trivia` returns begins with `/*`.
+/// A line comment ends before its line feed. A doc comment isn't among the items: it is a token, which [`skip_token`] skips. A block
+/// comment that isn't closed isn't either. The text that `skip_trivia` returns then begins with `/*`.
 ///
-/// This function returns all comments of a text, such as for a highlighter:
+/// The function `comments` of this example returns all comments of a text, such as for a highlighter:
 ///
 /// ```
 /// use navyspindle::{leading_comments, skip_token, skip_trivia};

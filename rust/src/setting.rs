@@ -174,8 +174,9 @@ impl SettingError {
     /// Returns the byte range to show to users. It ends where [`range`](SettingError::range) ends.
     ///
     /// For a value that Rust rejects, it is the [`piece`](ParseError::piece) of the `ParseError`: it begins where the wrong part of
-    /// the value begins, such as at the backslash of an escape. For an integer above 128 bits it is the whole number, without its
-    /// suffix. For another error it is `range`.
+    /// the value begins, such as at the backslash of an escape. For an integer above 128 bits, it begins at the start of the
+    /// number, and contains all digits. If the number has a suffix, it also contains the suffix's first character. For another error,
+    /// it is `range`.
     ///
     /// ```
     /// use navyspindle::{Key, Settings};

@@ -10,8 +10,8 @@ from .items import TOP, read
 
 
 def commands():
-    """Runs the calls of programs that the pages show. Each call is a line after `$`, with its output below it. Iterates over the
-    calls, each with whether its output is as shown, and its output."""
+    """Runs the calls of programs that the pages show. Each call is a line after `$`, with its output below it. Yields each
+    call, a bool, and the call's output. The bool is true if the output is as shown."""
     found_first = dict(os.environ, PATH=f'{programs.cargo_folder()}:{os.environ["PATH"]}')
     shown = read('README.md') + read('docs/PROGRAMS.md')
     for block in re.findall(r'```sh\n(\$.*?)```', shown, re.S):
@@ -66,7 +66,7 @@ def stored_answer(call, text):
 
 
 def errors():
-    """Iterates over the calls of docs/ERRORS.md, each with whether its result has the message of the page, and its result."""
+    """Yields each call of docs/ERRORS.md, a bool, and the call's result. The bool is true if the result has the message of the page."""
     shown = list(rows_of_errors())
     rows = [it for it in shown if it[0] in COMMANDS]
     given = ''.join(f'{command} {text.encode().hex()}\n{MARK} {b"===".hex()}\n' for command, text, _ in rows)

@@ -164,7 +164,7 @@ def laws_section(crate):
         names = [said for _, _, said in clauses_of(path, item)]
         for name in names:
             lines += paragraph(item.docs) if len(names) == 1 else comment_of(crate, name.split(' ')[0])
-            # The lemma that proves a statement has its name.
+            # A lemma has the name of the statement that it proves.
             lemma = re.sub(r'(?<!^)(?=[A-Z])', '_', name.split(' ')[0]).lower()
             uses.setdefault(modules[lemma], []).append(lemma)
             lines += [f'{lemma} : {name}', f'    = {statement(name)}']

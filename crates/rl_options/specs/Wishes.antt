@@ -112,7 +112,7 @@ lists_files action.Files = true
 lists_files _ = false
 
 -- If no path is passed, `.` is read in place of standard input. Either standard input isn't a file, a pipe or a socket, as
--- `lacks_input` says, or files are listed.
+-- `lacks_input` says, or the action is `Files`.
 abbrev pub reads_current_directory : Bool → Wishes → Bool
 reads_current_directory lacks_input w = lacks_input || lists_files w.action
 

@@ -189,13 +189,13 @@ IsStep has_colors next.Any old word then new =
     × GoesWithOptions (Takes operand) old × (then ≡ next.Any) × IsTaken has_colors operand old text new)
     ⊎ ((letters : List ℕ) × (word ≡ codes "-" ++ letters) × AreLetters has_colors old letters then new)
 
--- The argument is a path. The `Next` is what the argument may be.
+-- The argument is a path. The `Next` is the kind of argument that it may be.
 abbrev pub is_path_after : Next → List ℕ → Bool
 is_path_after next.Path word = true
 is_path_after next.Any word = is_path_word word
 is_path_after (next.Operand operand) word = false
 
--- The argument is UTF-8, or a path. The `Next` is what the argument may be.
+-- The argument is UTF-8, or a path. The `Next` is the kind of argument that it may be.
 abbrev pub IsReadable : Next → List ℕ → Type 0
 IsReadable first word = (is_marked word ≡ false) ⊎ (is_path_after first word ≡ true)
 
@@ -392,7 +392,7 @@ IsRejectedOption has_colors old word error =
     ⊎ ((letters : List ℕ) × (word ≡ codes "-" ++ letters)
     × AreRejectedLetters has_colors word error old letters)
 
--- The error of the next argument. The `Next` is what the argument may be.
+-- The error of the next argument. The `Next` is the kind of argument that it may be.
 abbrev pub IsRejectedWord : {A : Type 0} → Bool → Next → Wishes → List ℕ → ArgumentError A → Type 0
 IsRejectedWord has_colors (next.Operand operand) old word error = IsRejectedText operand word error
 IsRejectedWord has_colors next.Any old word error = IsRejectedOption has_colors old word error

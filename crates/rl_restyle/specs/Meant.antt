@@ -28,7 +28,7 @@ is_slip (a ∷ said) (b ∷ meant) = cond (a == b) (is_slip said meant) (slips_h
 abbrev pub is_near : List ℕ → List ℕ → Bool
 is_near word meant = is_slip word meant || starts_with ◌==◌ meant word
 
--- The name of the first rule of a style that `word` is similar to, in the order of `rl_scan --rules`, or `None`.
+-- The name of the first rule, in the order of `rl_scan --rules`, whose name `word` is similar to, or `None`.
 abbrev pub near_rule : List ℕ → Option (List ℕ)
 near_rule word = option_map rule_name (find (λ rule. is_near word (rule_name rule)) settable_rules)
 

@@ -15,12 +15,12 @@ value_part (b ∷ text) = cond (b == code "=") (Some text) (value_part text)
 abbrev pub is_word_byte : ℕ → Bool
 is_word_byte b = is_ascii_alphabetic b || (b == code "_")
 
--- The value is a word in place of a string: it consists of letters and `_`, and isn't `true` or `false`. It may be empty.
+-- The value is a string without quotes: it consists of ASCII letters and `_`, and isn't `true` or `false`. It may be empty.
 abbrev pub is_bare_string : List ℕ → Bool
 is_bare_string value =
     list_all is_word_byte value && not (bytes_eq value (codes "true")) && not (bytes_eq value (codes "false"))
 
--- The literal that a value represents. A word in place of a string gets quotes.
+-- The literal that a value represents. A string without quotes gets quotes.
 abbrev pub value_literal : List ℕ → List ℕ
 value_literal value = cond (is_bare_string value) (codes "\"" ++ (value ++ codes "\"")) value
 

@@ -78,7 +78,8 @@ fn first_near<'r>(rules: &'r [Rule], word: &str) -> Option<&'r Rule>
     rules.iter().find(|rule| is_near(word, rule.name()))
 }
 
-/// Returns the name of the first rule of a style that `word` is similar to, in the order of `rl_scan --rules`, or `None`.
+/// Returns the name of the first rule, in the order of `rl_scan --rules`, whose name `word` is similar to. Returns `None` if no name
+/// is similar.
 pub fn near_rule(word: &str) -> Option<&'static str>
     ensures { option_map (λ name. name.now) result ≡ rule_near word.now }
 {

@@ -110,7 +110,7 @@ fn write_text<A: Allocator, W: Write>(out: &mut W, text: &str) -> Ending<CallErr
 }
 
 /// Whether `.` is read, and not standard input, if no path is passed. This is the case if standard input isn't a file, a pipe or a
-/// socket, or if files are listed.
+/// socket, or if `--files` is passed.
 fn reads_current_directory<A: Allocator>(lacks_input: bool, asked: &ParsedArguments<'_, A>) -> bool
     ensures { result ≡ is_read_here lacks_input (wishes_in asked.now) }
 {

@@ -55,7 +55,7 @@ fn is_path(word: &str) -> bool {
     word == "-" || !word.as_bytes().starts_with(b"-".as_slice())
 }
 
-/// Whether the argument `word` is a path. `next` is what the argument may be.
+/// Whether the argument `word` is a path. `next` is the kind of argument that it may be.
 fn is_path_after(next: Next, word: &str) -> bool {
     match next {
         Next::Path => true,

@@ -23,7 +23,8 @@ fn are_word_bytes(bytes: &[u8]) -> bool {
     bytes.iter().all(|byte| is_word_byte(*byte))
 }
 
-/// Whether a value is a word in place of a string: it consists of letters and `_`, and isn't `true` or `false`. It may be empty.
+/// Whether a value of `--rule` is a string without quotes: it consists of ASCII letters and `_`, and isn't `true` or `false`. It
+/// may be empty.
 fn is_bare_string(value: &str) -> bool {
     are_word_bytes(value.as_bytes()) && value != "true" && value != "false"
 }

@@ -89,7 +89,7 @@ fn write_text<A: Allocator, W: Write>(out: &mut W, text: &str) -> Ending<CallErr
 }
 
 /// Whether `.` is read, and not standard input, if no path is passed. This is the case if standard input isn't a file, a pipe or a
-/// socket, or if files are listed.
+/// socket, or if `--files` is passed.
 fn reads_current_directory<A: Allocator>(lacks_input: bool, asked: &ParsedArguments<'_, A>) -> bool {
     lacks_input || lists_files(asked.command.action)
 }
