@@ -1,4 +1,5 @@
-//! Functions that return the value of an integer literal of a list with its sign, and test for a suffix.
+//! Functions that return the value of an integer literal of a list, with the sign. Another function tests whether a
+//! literal has a suffix.
 
 ghost use Rattle.std.specs.Prelude.{◌≡◌, ◌≢◌, [], ℕ, List, IfSome, IfNone, MatchBool, false, length, if◌then◌else◌};
 ghost use Rattle.std.specs.Str.{chars, IsUtf8};

@@ -1,5 +1,5 @@
-//! Parsers of single literals by the lenient grammar, which is that of `syn`. Other functions decode a literal into a
-//! slice of the caller's, and return the parts of numbers.
+//! Parsers of single literals by the lenient grammar, which is that of `syn`. Other functions decode a string into a
+//! slice that the caller passes, or return the parts of a number.
 //!
 //! The parsers follow the module `value` in `src/lit.rs` of the crate `syn` 3.0.9. Nothing is allocated.
 //!

@@ -27,15 +27,6 @@ pub enum QuotedForm {
     Single,
 }
 
-/// Returns the first byte of a quoted literal of the kind: the letter of its prefix, or the quote.
-#[inline(always)]
-fn first_of(kind: Kind) -> u8
-    requires { IsTrue (is_quoted kind) }
-    ensures { result ≡ slice_index (opener kind) 0 }
-{
-    kind.opener().as_bytes()[0]
-}
-
 /// Selects the form of a string literal of the kind by the first character of `text`: `"` for a string with escapes,
 /// `r` for a raw string. Returns the form, the kind, and the text after this character. Returns `None` if the text
 /// begins otherwise.
@@ -78,15 +69,12 @@ pub fn split_opener(text: &str) -> Option<(QuotedForm, Kind, &str)>
     ensures { option_map (λ p. (p.0, p.1, chars p.2.now)) result ≡ opener_at (chars text.now) }
 {
     let (first, rest) = split_ascii(text)?;
-    if first == first_of(Kind::Char) {
-        Some((QuotedForm::Single, Kind::Char, rest))
-    } else if first == first_of(Kind::Byte) {
-        // Byte literals and byte strings begin with the same letter, `b`.
-        split_byte_opener(rest)
-    } else if first == first_of(Kind::CStr) {
-        split_string_opener(Kind::CStr, rest)
-    } else {
-        split_string_opener(Kind::Str, text)
+    match first {
+        b'\'' => Some((QuotedForm::Single, Kind::Char, rest)),
+        // Byte literals and byte strings begin with the same letter.
+        b'b' => split_byte_opener(rest),
+        b'c' => split_string_opener(Kind::CStr, rest),
+        _ => split_string_opener(Kind::Str, text),
     }
 }
 
@@ -280,7 +268,7 @@ pub(crate) fn begins_character(text: &str) -> bool
     ensures quote { IsTrue result → slice_index text.now 0 ≡ code "'" }
 {
     let bytes = text.as_bytes();
-    bytes.len() >= 3 && bytes[0] == first_of(Kind::Char)
+    bytes.len() >= 3 && bytes[0] == b'\''
 }
 
 /// Parses an ASCII character between single quotes, except a backslash, as `'a'`. Returns `None` if the text begins

@@ -1,5 +1,6 @@
 // Rendered from crates/rl_cursors/src/values.rt by tools/render, which erases contracts: change that file, and render again.
-//! Functions that return the value of an integer literal of a list with its sign, and test for a suffix.
+//! Functions that return the value of an integer literal of a list, with the sign. Another function tests whether a
+//! literal has a suffix.
 
 use crate::rl_cursors::next_literals::NextLiteral;
 use crate::rl_lenient::digit_runs::is_negative;
