@@ -23,4 +23,4 @@ pub use crate::kind_guess::guess_kind;
 pub use crate::number_types::{NumberType, max_integer, type_named};
 pub use crate::piece_ends::is_flaw_of_unit;
 pub use crate::pieces::{Piece, Pieces};
-pub use crate::type_errors::{TypeError, type_error};
+pub use crate::type_errors::{TypeError, type_error, type_error_of};

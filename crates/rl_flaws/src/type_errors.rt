@@ -2,7 +2,7 @@
 
 ghost use Rattle.std.specs.Prelude.{◌≡◌, ◌≢◌, ◌==◌, ◌++◌, [], None, IfNone, IfSome};
 ghost use Rattle.std.specs.Str.{chars};
-ghost use Rattle.rl_syntax.specs.Texts.{code, first_passes};
+ghost use Rattle.rl_syntax.specs.Texts.{IsTail, code, first_passes};
 ghost use Rattle.rl_syntax.specs.Numbers.{begins_base as is_of_base};
 ghost use Rattle.rl_syntax.specs.declared.kind.Kind.TheVariants.{Int, Float};
 ghost use Rattle.rl_lenient.specs.Founds.{IsFound, suffix_in};
@@ -168,6 +168,35 @@ fn float_error(text: &str, numeral: &str, suffix: &str, negated: bool) -> Option
     }
 }
 
+/// Returns the reason why Rust has no type for a literal of the kind `kind`, or `None` if Rust has a type for it.
+///
+/// [`type_error`] says which reasons there are. `text` is the text of the literal, and `suffix` is its suffix. `magnitude` is the
+/// number that an integer represents. Other literals have none, and any number may be passed. `negated` is true if a minus may
+/// precede the literal. Nothing is allocated.
+pub fn type_error_of(
+    kind: Kind,
+    text: &str,
+    magnitude: u128,
+    suffix: &str,
+    negated: bool,
+) -> Option<TypeError>
+    requires { IsTail text.now suffix.now }
+    ensures some { IfSome result (λ error. HasTypeError error kind (chars text.now) magnitude negated suffix.now) }
+    ensures none { IfNone result (HasType kind (chars text.now) magnitude negated suffix.now) }
+{
+    if matches!(kind, Kind::Float) {
+        return float_error(text, before(text, suffix), suffix, negated);
+    }
+    if suffix.is_empty() {
+        return None;
+    }
+    match kind {
+        Kind::Int => integer_error(text, suffix, magnitude, negated),
+        Kind::Bool => None,
+        _ => Some(TypeError::QuotedSuffix),
+    }
+}
+
 /// Returns the reason why Rust has no type for a literal, or `None` if Rust has a type for it.
 ///
 /// The reason is a suffix that isn't the name of a fitting type, or a number that is out of its type's range. An integer
@@ -183,16 +212,11 @@ pub fn type_error(text: &str, found: &Found, negated: bool) -> Option<TypeError>
     ensures none { IfNone result (HasType found.now.kind (chars text.now) found.now.magnitude negated
         (suffix_in text.now found.now.body)) }
 {
-    let suffix = found.suffix_in(text);
-    if matches!(found.kind, Kind::Float) {
-        return float_error(text, before(text, suffix), suffix, negated);
-    }
-    if suffix.is_empty() {
-        return None;
-    }
-    match found.kind {
-        Kind::Int => integer_error(text, suffix, found.magnitude, negated),
-        Kind::Bool => None,
-        _ => Some(TypeError::QuotedSuffix),
-    }
+    type_error_of(
+        found.kind,
+        text,
+        found.magnitude,
+        found.suffix_in(text),
+        negated,
+    )
 }

@@ -15,10 +15,10 @@ use Rattle.rl_files.specs.Globs.{borrowed_texts}
 use Rattle.rl_style.specs.Calls.{CallState, advance_calls, is_in_call}
 use Rattle.rl_sources.specs.declared.options.Options.{Options}
 use Rattle.rl_sources.specs.Called.{calls_past, calls_past_all, with_calls}
-use Rattle.rl_sources.specs.Options.{finds_strays, may_have_any_suffix, options_at}
+use Rattle.rl_sources.specs.Options.{LooksForFlaws, finds_strays, may_have_any_suffix, options_at}
 use Rattle.rl_sources.specs.Places.{IsPlaceIn}
-use Rattle.rl_sources.specs.Scans.{IsLineAtRange, IsPickedLine, IsPlacedLine, IsShownLiteral, IsShownStray, IsShownToken}
-use Rattle.rl_sources.specs.Steps.{FollowsCalls, IsShownAt, LooksForFlaws}
+use Rattle.rl_sources.specs.Scans.{IsLineAtRange, IsPickedBy, IsPickedLine, IsPlacedLine, IsShownLiteral, IsShownStray, IsShownToken}
+use Rattle.rl_sources.specs.Steps.{FollowsCalls, IsShownAt}
 
 -- ---- positions relative to macro calls
 
@@ -70,13 +70,10 @@ range_anyhow options any (Some range) whole text lo shown is =
 picked_anyhow : (options : Options) (any : Bool) (finds : List (List ℕ)) (whole text : List ℕ) (lo hi : ℕ)
     (shown : List ℕ) → (LooksForFlaws options → ⊥) → IsPickedLine finds options whole text lo hi shown
     → IsPickedLine finds (with_suffix options any) whole text lo hi shown
-picked_anyhow options any [] whole text lo hi shown unasked (bytes, found, e, is, inl (asked, lines)) =
-    absurd (unasked (inl asked))
-picked_anyhow options any [] whole text lo hi shown unasked (bytes, found, e, is, inr (right, line)) = (
+picked_anyhow options any [] whole text lo hi shown unasked (bytes, e, inl (asked, lines)) = absurd (unasked (inl asked))
+picked_anyhow options any [] whole text lo hi shown unasked (bytes, e, inr (right, line)) = (
   bytes,
-  found,
   e,
-  is,
   inr (
     λ asked. absurd (unasked (inl asked)),
     line_anyhow options any whole (chars bytes) lo hi
@@ -86,37 +83,33 @@ picked_anyhow options any [] whole text lo hi shown unasked (bytes, found, e, is
 picked_anyhow options any (sought ∷ soughts) whole text lo hi shown unasked (first, is, line) =
     (first, is, range_anyhow options any first whole text lo shown line)
 
-picks_anyhow : (shown : Shown) (label : List ℕ) (A B : Type 0) → (shown ≡ Bad → ⊥) → Picks shown label A
-    → Picks shown label B
-picks_anyhow All label A B unasked picks = tt
-picks_anyhow (Only list) label A B unasked picks = picks
-picks_anyhow Bad label A B unasked picks = absurd (unasked refl)
-picks_anyhow Hidden label A B unasked picks = picks
+picks_anyhow : (shown : Shown) (text : List ℕ) (A B : Type 0) → (shown ≡ Bad → ⊥) → IsPickedBy shown text A
+    → IsPickedBy shown text B
+picks_anyhow All text A B unasked picks = tt
+picks_anyhow (Only list) text A B unasked picks = picks
+picks_anyhow Bad text A B unasked picks = absurd (unasked refl)
+picks_anyhow Hidden text A B unasked picks = picks
 
 literal_anyhow : (options : Options) (any : Bool) (whole text : List ℕ) (lo hi : ℕ) (shown : List ℕ)
     → (LooksForFlaws options → ⊥) → IsShownLiteral options whole text lo hi shown
     → IsShownLiteral (with_suffix options any) whole text lo hi shown
-literal_anyhow options any whole text lo hi shown unasked (label, bytes, found, labelled, e, is, inl (picks, lines)) = (
-  label,
+literal_anyhow options any whole text lo hi shown unasked (bytes, reading, e, is, inl (picks, lines)) = (
   bytes,
-  found,
-  labelled,
+  reading,
   e,
-  is,
+  λ looks. absurd (unasked looks),
   inl (
-    picks_anyhow options.shown label _ _ (λ bad. unasked (inr bad)) picks,
+    picks_anyhow options.shown (chars bytes) _ _ (λ bad. unasked (inr bad)) picks,
     picked_anyhow options any (borrowed_texts options.finds.now) whole text lo hi shown unasked lines,
   ),
 )
-literal_anyhow options any whole text lo hi shown unasked (label, bytes, found, labelled, e, is, inr (unpicked, none)) = (
-  label,
+literal_anyhow options any whole text lo hi shown unasked (bytes, reading, e, is, inr (unpicked, none)) = (
   bytes,
-  found,
-  labelled,
+  reading,
   e,
-  is,
+  λ looks. absurd (unasked looks),
   inr (
-    λ picks. unpicked (picks_anyhow options.shown label _ _ (λ bad. unasked (inr bad)) picks),
+    λ picks. unpicked (picks_anyhow options.shown (chars bytes) _ _ (λ bad. unasked (inr bad)) picks),
     none,
   ),
 )

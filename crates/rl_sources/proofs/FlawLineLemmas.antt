@@ -16,11 +16,10 @@ use Rattle.rl_flaws.specs.BadPieces.{is_flaw_after_quote, is_flaw_of_unit}
 use Rattle.rl_flaws.specs.Flawed.{AreFlawsOf, FlawsState, GivesFlaw, IsLeftBy, LeftReadsFrom, TakesFlaw, is_single_open, is_string_open}
 use Rattle.rl_flaws.specs.declared.invalid_piece.InvalidPiece.{InvalidPiece}
 use Rattle.rl_sources.specs.declared.finding.Finding.{Finding}
-use Rattle.rl_lenient.specs.declared.found.Found.{Found}
 use Rattle.rl_sources.specs.declared.finding.Reason.TheVariants as reason
 use Rattle.rl_sources.specs.declared.options.Options.{Options}
 use Rattle.rl_output.specs.declared.place.Place.{Place}
-use Rattle.rl_sources.specs.Findings.{FindsFlaw, IsFlawFinding, IsLimitFinding, IsPieceOf, IsShownPiece, IsWholeFinding, IsWrong}
+use Rattle.rl_sources.specs.Findings.{FindsFlaw, IsFlawFinding, IsLimitFinding, IsPieceOf, HasWrong, IsShownPiece, IsWholeFinding}
 use Rattle.rl_output.specs.Spots.{bytes_before}
 use Rattle.rl_sources.specs.Prefixes.{reserved_prefix}
 use Rattle.rl_sources.specs.declared.finding.Wrong.TheVariants as wrong
@@ -235,13 +234,13 @@ flaw_lines options whole text lo flaw start old new u finds other are (line, sho
 
 -- ---- errors of a literal as a whole
 
-pub reserved_line : (options : Options) (whole text both : List ℕ) (found : Option Found) (lo start : ℕ)
-    (finding : Finding) (old new : List ℕ) → IsWrong options (bytes_before whole lo) text found wrong.Reserved
+pub reserved_line : (options : Options) (whole text both : List ℕ) (lo start : ℕ)
+    (finding : Finding) (old new : List ℕ) → HasWrong options (bytes_before whole lo) text wrong.Reserved
     → both ≡ reserved_prefix (bytes_before whole lo) text ++ chars text
     → start + length (reserved_prefix (bytes_before whole lo) text) ≡ lo
     → IsWholeFinding both reason.Reserved finding → Appends (IsShownFinding options whole both start finding) old new
-    → Appends (IsReservedLine options whole text found lo) old new
-reserved_line options whole text both found lo start finding old new bad both_is start_is is (line, shows, f) =
+    → Appends (IsReservedLine options whole text lo) old new
+reserved_line options whole text both lo start finding old new bad both_is start_is is (line, shows, f) =
     let prefix = reserved_prefix (bytes_before whole lo) text in (
       line,
       (
@@ -257,35 +256,35 @@ reserved_line options whole text both found lo start finding old new bad both_is
       f,
     )
 
-pub type_line : (options : Options) (whole text : List ℕ) (found : Option Found) (lo : ℕ) (error : TypeError)
-    (finding : Finding) (old new : List ℕ) → IsWrong options (bytes_before whole lo) text found (wrong.Type error)
+pub type_line : (options : Options) (whole text : List ℕ) (lo : ℕ) (error : TypeError)
+    (finding : Finding) (old new : List ℕ) → HasWrong options (bytes_before whole lo) text (wrong.Type error)
     → IsWholeFinding (chars text) (reason.Type error) finding
     → Appends (IsShownFinding options whole (chars text) lo finding) old new
-    → Appends (IsTypeLine options whole text found lo) old new
-type_line options whole text found lo error finding old new bad is (line, shows, f) =
+    → Appends (IsTypeLine options whole text lo) old new
+type_line options whole text lo error finding old new bad is (line, shows, f) =
     (line, (error, finding, bad, is, shows), f)
 
 -- ---- any error of a literal
 
-pub all_flaws_say : (options : Options) (whole text : List ℕ) (found : Option Found) (lo : ℕ) (old new : List ℕ)
+pub all_flaws_say : (options : Options) (whole text : List ℕ) (lo : ℕ) (old new : List ℕ)
     → Appends (AreAllFlawLines options whole (chars text) lo) old new
-    → Appends (AreReasonLines options whole text found lo) old new
-all_flaws_say options whole text found lo old new (line, shows, f) = (line, inl shows, f)
+    → Appends (AreReasonLines options whole text lo) old new
+all_flaws_say options whole text lo old new (line, shows, f) = (line, inl shows, f)
 
-pub limit_says : (options : Options) (whole text : List ℕ) (found : Option Found) (lo : ℕ) (old new : List ℕ)
+pub limit_says : (options : Options) (whole text : List ℕ) (lo : ℕ) (old new : List ℕ)
     → Appends (IsLimitLine options whole (chars text) lo) old new
-    → Appends (AreReasonLines options whole text found lo) old new
-limit_says options whole text found lo old new (line, shows, f) = (line, inr (inl shows), f)
+    → Appends (AreReasonLines options whole text lo) old new
+limit_says options whole text lo old new (line, shows, f) = (line, inr (inl shows), f)
 
-pub reserved_says : (options : Options) (whole text : List ℕ) (found : Option Found) (lo : ℕ) (old new : List ℕ)
-    → Appends (IsReservedLine options whole text found lo) old new
-    → Appends (AreReasonLines options whole text found lo) old new
-reserved_says options whole text found lo old new (line, shows, f) = (line, inr (inr (inl shows)), f)
+pub reserved_says : (options : Options) (whole text : List ℕ) (lo : ℕ) (old new : List ℕ)
+    → Appends (IsReservedLine options whole text lo) old new
+    → Appends (AreReasonLines options whole text lo) old new
+reserved_says options whole text lo old new (line, shows, f) = (line, inr (inr (inl shows)), f)
 
-pub type_says : (options : Options) (whole text : List ℕ) (found : Option Found) (lo : ℕ) (old new : List ℕ)
-    → Appends (IsTypeLine options whole text found lo) old new
-    → Appends (AreReasonLines options whole text found lo) old new
-type_says options whole text found lo old new (line, shows, f) = (line, inr (inr (inr shows)), f)
+pub type_says : (options : Options) (whole text : List ℕ) (lo : ℕ) (old new : List ℕ)
+    → Appends (IsTypeLine options whole text lo) old new
+    → Appends (AreReasonLines options whole text lo) old new
+type_says options whole text lo old new (line, shows, f) = (line, inr (inr (inr shows)), f)
 
 -- ---- the byte range of an integer above 128 bits
 

@@ -1,4 +1,5 @@
 pub mod CallLemmas
+pub mod CheckLemmas
 pub mod ScanLemmas
 pub mod StepLemmas
 pub mod HeldLemmas

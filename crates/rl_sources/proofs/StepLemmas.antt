@@ -25,18 +25,21 @@ use Rattle.rl_output.specs.Github.{annotation_end, message_text}
 use Rattle.rl_output.specs.declared.choice.Shown.{Shown}
 use Rattle.rl_output.specs.declared.choice.Shown.TheVariants.{All, Only, Bad, Hidden}
 use Rattle.rl_output.specs.declared.place.Place.{Place}
-use Rattle.rl_output.specs.Choices.{Picks}
+use Rattle.rl_output.specs.Choices.{Names, Picks}
 use Rattle.rl_sources.specs.Places.{IsContextIn, IsPlaceIn, WithContext}
 use Rattle.rl_output.proofs.Pieces.{back_utf8}
 use Rattle.rl_output.specs.Fronts.{leveled_front}
 use Rattle.rl_output.specs.declared.github.Level.TheVariants.{Notice}
 use Rattle.rl_files.specs.Globs.{borrowed_texts}
 use Rattle.rl_sources.specs.Held.{IsFirstHeld}
-use Rattle.rl_sources.specs.Scans.{IsPicked, IsPlacedLine, AreReasonLines, IsHeldLine, IsLineAt, IsLineEnd, IsLineIn, IsOwnLine, IsPickedLine, IsPrintedAs, IsShownLiteral}
-use Rattle.rl_sources.specs.Steps.{LooksForFlaws}
-use Rattle.rl_sources.specs.Options.{options_at}
+use Rattle.rl_sources.specs.Scans.{IsPicked, IsPickedBy, IsPlacedLine, AreReasonLines, IsHeldLine, IsLineAt, IsLineEnd, IsLineIn, IsOwnLine, IsPickedLine, IsPrintedAs, IsShownLiteral}
+use Rattle.rl_sources.specs.Steps.{IsJudged}
+use Rattle.rl_sources.specs.Options.{LooksForFlaws, options_at}
 use Rattle.rl_style.specs.Calls.{CallState, is_in_call}
-use Rattle.rl_sources.specs.Findings.{FindsFlaw, FindsNoFlaw, HasFoundError, HasFoundType, IsBad, IsFoundIn, IsRight, IsRightText, IsWrong, IsWrongText}
+use Rattle.rl_sources.specs.Findings.{FindsFlaw, FindsNoFlaw, HasReadError, HasReadType, HasWrong, HavePartsError, HavePartsType, IsBad, IsRight, IsRightText, IsWrong, IsWrongText, typed_parts}
+use Rattle.rl_strict.specs.declared.strict_reading.Reading.{Reading}
+use Rattle.rl_syntax.specs.Reading.{IsReadAs}
+use Rattle.rl_syntax.proofs.OneReading.{one_reading}
 use Rattle.rl_output.specs.Spots.{bytes_before}
 use Rattle.rl_flaws.specs.Before.{may_negate, reserved}
 use Rattle.rl_flaws.specs.TypeErrors.{HasType, HasTypeError}
@@ -130,53 +133,61 @@ in_context IsLine options whole lo hi old mid new (line, is, e) (context, below,
     (line ++ context, (line, context, is, below, refl), f ∙ ap (λ z. z ++ context) e ∙ append_assoc old line context)
 
 -- The lines that explain the errors of a literal are its output.
-pub explained : (options : Options) (whole text : List ℕ) (found : Option Found) (lo hi : ℕ) (old new : List ℕ)
-    → IsFoundIn text found → IsTrue options.explains → Appends (AreReasonLines options whole text found lo) old new
+pub explained : (options : Options) (whole text : List ℕ) (lo hi : ℕ) (old new : List ℕ)
+    → IsTrue options.explains → Appends (AreReasonLines options whole text lo) old new
     → Appends (IsLineIn options whole (chars text) lo hi) old new
-explained options whole text found lo hi old new read asked (shown, is, e) =
-    (shown, (text, found, refl, read, inl (asked, is)), e)
+explained options whole text lo hi old new asked (shown, is, e) = (shown, (text, refl, inl (asked, is)), e)
 
 -- The line of a literal without an error, or without explanations, is its output.
-pub unexplained : (options : Options) (whole text : List ℕ) (found : Option Found) (lo hi : ℕ) (old new : List ℕ)
-    → IsFoundIn text found → (IsTrue options.explains → IsRight options (bytes_before whole lo) text found)
+pub unexplained : (options : Options) (whole text : List ℕ) (lo hi : ℕ) (old new : List ℕ)
+    → (IsTrue options.explains → IsRightText options (bytes_before whole lo) text)
     → Appends (IsPlacedLine options whole (chars text) lo hi) old new
     → Appends (IsLineIn options whole (chars text) lo hi) old new
-unexplained options whole text found lo hi old new read passes (shown, is, e) =
-    (shown, (text, found, refl, read, inr (passes, is)), e)
+unexplained options whole text lo hi old new passes (shown, is, e) = (shown, (text, refl, inr (passes, is)), e)
 
 -- If errors are explained, a literal without a found error has none.
-pub passes_unasked : (options : Options) (before text : List ℕ) (found : Option Found) (bad : Option Wrong)
-    → IfNone bad (LooksForFlaws options → IsRight options before text found) → (IsTrue options.explains → bad ≡ None)
-    → IsTrue options.explains → IsRight options before text found
-passes_unasked options before text found (Some f) none asked is = absurd (none-some f (sym (asked is)))
-passes_unasked options before text found None none asked is = none (inl is)
+pub passes_unasked : (options : Options) (before text : List ℕ) (bad : Option Wrong) → IsJudged options before text bad
+    → (IsTrue options.explains → bad ≡ None) → IsTrue options.explains → IsRightText options before text
+passes_unasked options before text (Some f) judged asked is = absurd (none-some f (sym (asked is)))
+passes_unasked options before text None judged asked is =
+    (judged.reading, judged.is_read (inl is), judged.none (inl is))
+
+-- A found error is an error of the literal.
+pub has_wrong : (options : Options) (before text : List ℕ) (bad : Option Wrong) (why : Wrong) → IsJudged options before text bad
+    → bad ≡ Some why → HasWrong options before text why
+has_wrong options before text bad why judged is = (
+  judged.reading,
+  judged.is_read (subst (λ (o : Option Wrong). IfSome o (λ w. LooksForFlaws options)) is judged.asked),
+  subst (λ (o : Option Wrong). IfSome o (IsWrong options before text judged.reading)) is judged.some,
+)
 
 -- The error that the check for a type returns is that of the literal after the text `before`.
-pub error_after : (before text : List ℕ) (f : Found) (o : Option Found) (negated : Bool) (r : Option TypeError) → o
-    ≡ Some f
-    → negated ≡ may_negate before
-    → IfSome r (λ e. HasTypeError e f.kind (chars text) f.magnitude negated (suffix_in text f.body))
-    → IfSome r (HasFoundError before text o)
-error_after before text f o negated r is same h =
-    subst (λ (z : Option Found). IfSome r (HasFoundError before text z)) (sym is)
-    (subst (λ (n : Bool). IfSome r (λ e. HasTypeError e f.kind (chars text) f.magnitude n (suffix_in text f.body))) same
-    h)
+pub error_after : (before text : List ℕ) (reading : Reading) (parts : Kind × ℕ × List ℕ) (negated : Bool) (r : Option TypeError)
+    → typed_parts text reading ≡ Some parts → negated ≡ may_negate before
+    → IfSome r (λ e. HasTypeError e parts.0 (chars text) parts.1 negated parts.2)
+    → IfSome r (HasReadError before text (Some reading))
+error_after before text reading parts negated r is same h =
+    subst (λ (z : Option (Kind × ℕ × List ℕ)). IfSome r (HavePartsError before text z)) (sym is)
+    (subst (λ (n : Bool). IfSome r (λ e. HasTypeError e parts.0 (chars text) parts.1 n parts.2)) same h)
 
-pub type_after : (before text : List ℕ) (f : Found) (o : Option Found) (negated : Bool) (r : Option TypeError) → o
-    ≡ Some f
-    → negated ≡ may_negate before
-    → IfNone r (HasType f.kind (chars text) f.magnitude negated (suffix_in text f.body))
-    → IfNone r (HasFoundType before text o)
-type_after before text f o negated r is same h =
-    subst (λ (z : Option Found). IfNone r (HasFoundType before text z)) (sym is)
-    (subst (λ (n : Bool). IfNone r (HasType f.kind (chars text) f.magnitude n (suffix_in text f.body))) same h)
+pub type_after : (before text : List ℕ) (reading : Reading) (parts : Kind × ℕ × List ℕ) (negated : Bool) (r : Option TypeError)
+    → typed_parts text reading ≡ Some parts → negated ≡ may_negate before
+    → IfNone r (HasType parts.0 (chars text) parts.1 negated parts.2)
+    → IfNone r (HasReadType before text (Some reading))
+type_after before text reading parts negated r is same h =
+    subst (λ (z : Option (Kind × ℕ × List ℕ)). IfNone r (HavePartsType before text z)) (sym is)
+    (subst (λ (n : Bool). IfNone r (HasType parts.0 (chars text) parts.1 n parts.2)) same h)
 
-pub type_alone : (before text : List ℕ) (f : Found) (o : Option Found) (alone : Bool) → o ≡ Some f
-    → (IsTrue alone ↔ (f.kind ≡ Float → ⊥) × (suffix_in text f.body ≡ [])) → alone ≡ true
-    → HasFoundType before text o
-type_alone before text f o alone is says yes_alone =
-    let found : (f.kind ≡ Float → ⊥) × (suffix_in text f.body ≡ []) = says.0 yes_alone in
-    subst (λ (z : Option Found). HasFoundType before text z) (sym is) (inl (found.0, found.1))
+pub type_alone : (before text : List ℕ) (reading : Reading) (parts : Kind × ℕ × List ℕ)
+    → typed_parts text reading ≡ Some parts → (parts.0 ≡ Float → ⊥) → parts.2 ≡ []
+    → HasReadType before text (Some reading)
+type_alone before text reading parts is other none =
+    subst (λ (z : Option (Kind × ℕ × List ℕ)). HavePartsType before text z) (sym is) (inl (other, none))
+
+pub typed_anyway : (before text : List ℕ) (reading : Reading) → typed_parts text reading ≡ None
+    → HasReadType before text (Some reading)
+typed_anyway before text reading is =
+    subst (λ (z : Option (Kind × ℕ × List ℕ)). HavePartsType before text z) (sym is) tt
 
 -- No flaw is found in a literal without a flaw. `not_bad` says that a literal without an error isn't invalid.
 no_flaw_found : (any : Bool) (text : List ℕ) (flaw : Flaw) → FindsNoFlaw any text → FindsFlaw any text flaw → ⊥
@@ -187,53 +198,76 @@ no_flaw_found false text flaw (token, reads) (inr (_, (signed, e, no_float))) = 
   | inr f ↦ no_float (subst IsFloatBySuffix (signed_same text signed) f)
 ]
 
-no_error_found : (before text : List ℕ) (found : Option Found) (error : TypeError) → HasFoundType before text found
-    → HasFoundError before text found error → ⊥
-no_error_found before text None error has is = is
-no_error_found before text (Some f) error has is =
-    no_both error f.kind (chars text) f.magnitude (may_negate before) (suffix_in text f.body) is has
+no_parts_error : (before text : List ℕ) (parts : Option (Kind × ℕ × List ℕ)) (error : TypeError)
+    → HavePartsType before text parts → HavePartsError before text parts error → ⊥
+no_parts_error before text None error has is = is
+no_parts_error before text (Some parts) error has is =
+    no_both error parts.0 (chars text) parts.1 (may_negate before) parts.2 is has
 
-not_bad : (options : Options) (before text : List ℕ) (found : Option Found) (bad : Wrong)
-    → IsRight options before text found
-    → IsWrong options before text found bad → ⊥
-not_bad options before text found (wrong.Flaw flaw) right is = no_flaw_found options.any_suffix (chars text) flaw
+no_error_found : (before text : List ℕ) (reading : Option Reading) (error : TypeError) → HasReadType before text reading
+    → HasReadError before text reading error → ⊥
+no_error_found before text None error has is = is
+no_error_found before text (Some r) error has is = no_parts_error before text (typed_parts text r) error has is
+
+not_bad : (options : Options) (before text : List ℕ) (reading : Option Reading) (bad : Wrong)
+    → IsRight options before text reading
+    → IsWrong options before text reading bad → ⊥
+not_bad options before text reading (wrong.Flaw flaw) right is = no_flaw_found options.any_suffix (chars text) flaw
     right.0 is
-not_bad options before text found wrong.Reserved right is = false≢true (sym right.1 ∙ is.1)
-not_bad options before text found (wrong.Type error) right is = elim right.2 [
+not_bad options before text reading wrong.Reserved right is = false≢true (sym right.1 ∙ is.1)
+not_bad options before text reading (wrong.Type error) right is = elim right.2 [
   | inl t ↦ false≢true (sym is.2 ∙ t)
-  | inr has ↦ no_error_found before text found error has is.3
+  | inr has ↦ no_error_found before text reading error has is.3
 ]
 
--- If `find_wrong` returns an error, the literal has an error.
-pub wrong_text : (options : Options) (before text : List ℕ) (found : Option Found) (wrongs : Option Wrong) (none : Bool)
-    → IsFoundIn text found → IfSome wrongs (IsWrong options before text found) → is_some wrongs ≡ not none → IsFalse none
+-- If `judge` returns an error, the literal has an error.
+pub wrong_text : (options : Options) (before text : List ℕ) (wrongs : Option Wrong) (none : Bool)
+    → IsJudged options before text wrongs → is_some wrongs ≡ not none → IsFalse none
     → IsWrongText options before text
-wrong_text options before text found None none read is some lacks = absurd (false≢true (some ∙ ap not lacks))
-wrong_text options before text found (Some why) none read is some lacks = (found, read, (why, is))
+wrong_text options before text None none judged some lacks = absurd (false≢true (some ∙ ap not lacks))
+wrong_text options before text (Some why) none judged some lacks = (why, judged.reading, judged.is_read judged.asked, judged.some)
+
+-- If `judge` returns no error, the literal is valid.
+pub right_text : (options : Options) (before text : List ℕ) (wrongs : Option Wrong) (none : Bool)
+    → IsJudged options before text wrongs → is_some wrongs ≡ not none → IsTrue none → LooksForFlaws options
+    → IsRightText options before text
+right_text options before text (Some why) none judged some lacks looks = absurd (false≢true (sym (some ∙ ap not lacks)))
+right_text options before text None none judged some lacks looks = (judged.reading, judged.is_read looks, judged.none looks)
+
+-- A text has one label.
+one_label : (text a b : List ℕ) → IsLabelOf text a → IsLabelOf text b → a ≡ b
+one_label text a b (k, is_k, ea) (l, is_l, eb) = ea ∙ ap label_of (one_kind k l is_k is_l) ∙ sym eb
+  where
+    one_kind : (k l : Option Kind) → IsReadAs k text → IsReadAs l text → k ≡ l
+    one_kind None None x y = refl
+    one_kind None (Some l) x y = absurd (x l y.0 y.1 y.2)
+    one_kind (Some k) None x y = absurd (y k x.0 x.1 x.2)
+    one_kind (Some k) (Some l) x y = ap Some (one_reading text k l x.0 y.0 x.1 y.1 x.2 y.2).0
 
 -- The result of the check for errors tells whether the options select the literal.
-pub picks_found : (options : Options) (before text : List ℕ) (found : Option Found) (label : List ℕ)
-    (bad : Option Wrong)
-    (r b : Bool) → r ≡ is_some bad → IfSome bad (IsWrong options before text found)
-    → IfNone bad (LooksForFlaws options → IsRight options before text found)
-    → IsTrue b ↔ Picks options.shown label (IsTrue r) → IsTrue b ↔ IsPicked options before text found label
-picks_found options before text found label wrongs r b is some none picks = go options.shown refl picks
+pub picks_found : (options : Options) (before text label : List ℕ) (bad : Option Wrong) (judged : IsJudged options before text bad)
+    (r b : Bool) → r ≡ is_some bad → IsLabelOf (chars text) label
+    → IsTrue b ↔ Picks options.shown label (IsTrue r) → IsTrue b ↔ IsPicked options before text judged.reading
+picks_found options before text label wrongs judged r b is is_label picks = go options.shown refl picks
   where
-    bad : (o : Option Wrong) → r ≡ is_some o → IfSome o (IsWrong options before text found)
-        → IfNone o (LooksForFlaws options → IsRight options before text found) → LooksForFlaws options
-        → IsTrue r ↔ IsBad options before text found
+    bad : (o : Option Wrong) → r ≡ is_some o → IfSome o (IsWrong options before text judged.reading)
+        → IfNone o (LooksForFlaws options → IsRight options before text judged.reading) → LooksForFlaws options
+        → IsTrue r ↔ IsBad options before text judged.reading
     bad (Some w) e finds nothing looks = (λ _. (w, finds), λ _. e)
     bad None e finds nothing looks = (
       λ t. absurd (false≢true (sym e ∙ t)),
-      λ (w, finds). absurd (not_bad options before text found w (nothing looks) finds),
+      λ (w, finds). absurd (not_bad options before text judged.reading w (nothing looks) finds),
     )
 
     go : (shown : Shown) → options.shown ≡ shown → IsTrue b ↔ Picks shown label (IsTrue r)
-        → IsTrue b ↔ Picks shown label (IsBad options before text found)
+        → IsTrue b ↔ IsPickedBy shown (chars text) (IsBad options before text judged.reading)
     go All e p = p
-    go (Only list) e p = p
+    go (Only list) e p = (
+      λ t. (label, is_label, p.0 t),
+      λ (other, is_other, names). p.1 (subst (Names list.now) (one_label (chars text) other label is_other is_label) names),
+    )
     go Bad e p =
-        let both = bad wrongs is some none (inr e) in
+        let both = bad wrongs is judged.some judged.none (inr e) in
         (λ t. both.0 (p.0 t), λ t. p.1 (both.1 t))
     go Hidden e p = p
 
@@ -269,22 +303,21 @@ found_label text label kind (Some f) none is k e = (
 found_label text label kind None none is k e = (None, none, e ∙ ap label_of k)
 
 -- The lines for a literal that the options select are the output for the literal.
-pub picked_line : (options : Options) (whole text : List ℕ) (found : Option Found) (label : List ℕ) (lo hi : ℕ)
-    (old new : List ℕ) → IsLabelOf (chars text) label → IsFoundIn text found
-    → IsPicked options (bytes_before whole lo) text found label
+pub picked_line : (options : Options) (whole text : List ℕ) (bad : Option Wrong) (lo hi : ℕ) (old new : List ℕ)
+    (judged : IsJudged options (bytes_before whole lo) text bad)
+    → IsPicked options (bytes_before whole lo) text judged.reading
     → Appends (IsPickedLine (borrowed_texts options.finds.now) options whole (chars text) lo hi) old new
     → Appends (IsShownLiteral options whole (chars text) lo hi) old new
-picked_line options whole text found label lo hi old new is_label read picked (shown, is, e) =
-    (shown, (label, text, found, is_label, refl, read, inl (picked, is)), e)
+picked_line options whole text bad lo hi old new judged picked (shown, is, e) =
+    (shown, (text, judged.reading, refl, judged.is_read, inl (picked, is)), e)
 
 -- A literal that the options don't select has no output.
-pub not_picked : (options : Options) (whole text : List ℕ) (found : Option Found) (label : List ℕ) (lo hi : ℕ)
-    (old : List ℕ)
-    → IsLabelOf (chars text) label → IsFoundIn text found
-    → (IsPicked options (bytes_before whole lo) text found label → ⊥)
+pub not_picked : (options : Options) (whole text : List ℕ) (bad : Option Wrong) (lo hi : ℕ) (old : List ℕ)
+    (judged : IsJudged options (bytes_before whole lo) text bad)
+    → (IsPicked options (bytes_before whole lo) text judged.reading → ⊥)
     → Appends (IsShownLiteral options whole (chars text) lo hi) old old
-not_picked options whole text found label lo hi old is_label read none =
-    ([], (label, text, found, is_label, refl, read, inr (none, refl)), sym (append-nil old))
+not_picked options whole text bad lo hi old judged none =
+    ([], (text, judged.reading, refl, judged.is_read, inr (none, refl)), sym (append-nil old))
 
 -- If no token begins the rest of the source, and it has no error, it is empty.
 pub at_end : (old new : CursorState) → BeginsNoSource (chars old.rest) → new ≡ old → (new.rest ≡ [])
@@ -296,47 +329,38 @@ at_end old new none stays (inr (kind, after, before)) = absurd
 -- ---- valid literals, if only invalid ones are shown
 
 -- The check of a literal for errors, where every suffix and value is accepted if the first argument is true.
-abbrev RightBy : Bool → Options → List ℕ → List ℕ → Option Found → Type 0
-RightBy any options before text found =
+abbrev RightBy : Bool → Options → List ℕ → List ℕ → Option Reading → Type 0
+RightBy any options before text reading =
     FindsNoFlaw any (chars text) × IsFalse (reserved options.edition before text)
-    × (IsTrue any ⊎ HasFoundType before text found)
+    × (IsTrue any ⊎ HasReadType before text reading)
 
 -- A literal that is valid by the options is valid at any position relative to macro calls.
-right_at : (options : Options) (calls : CallState) (before text : List ℕ) (found : Option Found)
-    → IsRight options before text found → IsRight (options_at options calls) before text found
-right_at options calls before text found right = widen options.any_suffix
+right_at : (options : Options) (calls : CallState) (before text : List ℕ) (reading : Option Reading)
+    → IsRight options before text reading → IsRight (options_at options calls) before text reading
+right_at options calls before text reading right = widen options.any_suffix
     (not options.judges_macros && is_in_call calls) right
   where
-    widen : (any more : Bool) → RightBy any options before text found → RightBy (any || more) options before text found
+    widen : (any more : Bool) → RightBy any options before text reading → RightBy (any || more) options before text reading
     widen true more is = is
     widen false true ((token, value), free, types) = ((token, tt), free, inl refl)
     widen false false is = is
-
-label_found : (text : List ℕ) (found : Option Found) → IsFoundIn text found
-    → (label : List ℕ) × IsLabelOf (chars text) label
-label_found text (Some f) read =
-    (label_of (Some f.kind), found_label text (label_of (Some f.kind)) (Some f.kind) (Some f) read.none read.some refl refl)
-label_found text None read = (label_of None, found_label text (label_of None) None None read.none read.some refl refl)
 
 -- If only invalid literals are shown, a valid literal has no output.
 pub right_unshown : (options : Options) (calls : CallState) (whole text : List ℕ) (lo hi : ℕ) → options.shown ≡ Bad
     → IsRightText options (bytes_before whole lo) text
     → IsShownLiteral (options_at options calls) whole (chars text) lo hi []
-right_unshown options calls whole text lo hi bad (found, read, right) =
-    let labelled = label_found text found read in
+right_unshown options calls whole text lo hi bad (reading, read, right) =
     let before : List ℕ = bytes_before whole lo in
     let here : Options = options_at options calls in (
-      labelled.0,
       text,
-      found,
-      labelled.1,
+      reading,
       refl,
-      read,
+      λ _. read,
       inr (
         λ picked.
-            let is : IsBad here before text found = subst (λ (s : Shown). Picks s labelled.0 (IsBad here before text found)) bad
-            picked in
-            not_bad here before text found is.0 (right_at options calls before text found right) is.1,
+            let is : IsBad here before text reading =
+            subst (λ (s : Shown). IsPickedBy s (chars text) (IsBad here before text reading)) bad picked in
+            not_bad here before text reading is.0 (right_at options calls before text reading right) is.1,
         refl,
       ),
     )

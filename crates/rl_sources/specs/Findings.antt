@@ -9,6 +9,12 @@ use Rattle.rl_strict.specs.StrictShapes.{IsToken}
 use Rattle.rl_flaws.specs.Before.{may_negate, reserved}
 use Rattle.rl_flaws.specs.TypeErrors.{HasTypeError, HasType}
 use Rattle.rl_flaws.specs.declared.type_errors.TypeError.{TypeError}
+use Rattle.rl_syntax.specs.declared.kind.Kind.{Kind}
+use Rattle.rl_syntax.specs.declared.kind.Kind.TheVariants.{Int, Float}
+use Rattle.rl_strict.specs.Readings.{IsReadingOf}
+use Rattle.rl_strict.specs.declared.line_ends.LineEnds.TheVariants.{File}
+use Rattle.rl_strict.specs.declared.strict_reading.Reading.{Reading}
+use Rattle.rl_strict.specs.declared.strict_reading.Reading.TheVariants as read
 use Rattle.rl_sources.specs.declared.options.Options.{Options}
 use Rattle.rl_sources.specs.declared.finding.Wrong.{Wrong}
 use Rattle.rl_sources.specs.declared.finding.Wrong.TheVariants as wrong
@@ -57,47 +63,74 @@ pub record IsFoundIn (text : List ℕ) (found : Option Found) : Type 0 where
   pub none : IfNone found (HasNoReading (chars text))
   pub some : IfSome found (IsFound text)
 
--- `HasFoundError` says that Rust has no type for the literal `text`, and `HasFoundType` that Rust has one. `before` is the source
--- before the literal, and `found` its parse result. Without a parse result the literal counts as typed, since then it is a float by
--- its suffix.
-abbrev pub HasFoundError : List ℕ → List ℕ → Option Found → TypeError → Type 0
-HasFoundError before text None error = ⊥
-HasFoundError before text (Some found) error =
-    HasTypeError error found.kind (chars text) found.magnitude (may_negate before) (suffix_in text found.body)
+-- The parts of a literal that its type depends on: its kind, the number that an integer represents, and its suffix. A literal that has
+-- a type in any case has none: `true`, `false`, and an integer above 128 bits without a flaw, which is a float by its suffix.
+abbrev pub typed_parts : List ℕ → Reading → Option (Kind × ℕ × List ℕ)
+typed_parts text (read.Text kind body) = Some (kind, 0, suffix_in text body)
+typed_parts text (read.Unit kind body unit) = Some (kind, 0, suffix_in text body)
+typed_parts text (read.Integer (Some magnitude) suffix_at) = Some (Int, magnitude, drop suffix_at text)
+typed_parts text (read.Integer None suffix_at) = None
+typed_parts text (read.Float suffix_at) = Some (Float, 0, drop suffix_at text)
+typed_parts text (read.Truth truth) = None
 
-abbrev pub HasFoundType : List ℕ → List ℕ → Option Found → Type 0
-HasFoundType before text None = ⊤
-HasFoundType before text (Some found) =
-    HasType found.kind (chars text) found.magnitude (may_negate before) (suffix_in text found.body)
+-- `HavePartsError` says that Rust has no type for the literal `text` with these parts, and `HavePartsType` that Rust has one. `before`
+-- is the source before the literal.
+abbrev pub HavePartsError : List ℕ → List ℕ → Option (Kind × ℕ × List ℕ) → TypeError → Type 0
+HavePartsError before text None error = ⊥
+HavePartsError before text (Some parts) error =
+    HasTypeError error parts.0 (chars text) parts.1 (may_negate before) parts.2
+
+abbrev pub HavePartsType : List ℕ → List ℕ → Option (Kind × ℕ × List ℕ) → Type 0
+HavePartsType before text None = ⊤
+HavePartsType before text (Some parts) = HasType parts.0 (chars text) parts.1 (may_negate before) parts.2
+
+-- `HasReadError` says that Rust has no type for the literal `text`, and `HasReadType` that Rust has one. `before` is the source before
+-- the literal, and `reading` its parse result by Rust's grammar. An invalid text has no parse result, and neither error nor type.
+abbrev pub HasReadError : List ℕ → List ℕ → Option Reading → TypeError → Type 0
+HasReadError before text None error = ⊥
+HasReadError before text (Some reading) error = HavePartsError before text (typed_parts text reading) error
+
+abbrev pub HasReadType : List ℕ → List ℕ → Option Reading → Type 0
+HasReadType before text None = ⊥
+HasReadType before text (Some reading) = HavePartsType before text (typed_parts text reading)
+
+-- `reading` is the result of parsing the text of a literal in a file by Rust's grammar: `None` if the text isn't a token.
+pub record IsReadIn (text : List ℕ) (reading : Option Reading) : Type 0 where
+  pub none : IfNone reading (IsToken (lf_text (chars text)) → ⊥)
+  pub some : IfSome reading (IsReadingOf File false text)
 
 -- The error of a literal: its first flaw, a reserved prefix right before it, or a missing type, if a type is required. `before` is
--- the source before the literal and `text` the literal, both in bytes. `found` is the literal's parse result.
-abbrev pub IsWrong : Options → List ℕ → List ℕ → Option Found → Wrong → Type 0
-IsWrong options before text found (wrong.Flaw flaw) = FindsFlaw options.any_suffix (chars text) flaw
-IsWrong options before text found wrong.Reserved =
+-- the source before the literal and `text` the literal, both in bytes. `reading` is the literal's parse result by Rust's grammar.
+abbrev pub IsWrong : Options → List ℕ → List ℕ → Option Reading → Wrong → Type 0
+IsWrong options before text reading (wrong.Flaw flaw) = FindsFlaw options.any_suffix (chars text) flaw
+IsWrong options before text reading wrong.Reserved =
     FindsNoFlaw options.any_suffix (chars text) × IsTrue (reserved options.edition before text)
-IsWrong options before text found (wrong.Type error) =
+IsWrong options before text reading (wrong.Type error) =
     FindsNoFlaw options.any_suffix (chars text) × IsFalse (reserved options.edition before text)
     × IsFalse options.any_suffix
-    × HasFoundError before text found error
+    × HasReadError before text reading error
 
--- The literal `text` has no error after the source `before`. `found` is its parse result.
-abbrev pub IsRight : Options → List ℕ → List ℕ → Option Found → Type 0
-IsRight options before text found =
+-- The literal `text` has no error after the source `before`. `reading` is its parse result by Rust's grammar.
+abbrev pub IsRight : Options → List ℕ → List ℕ → Option Reading → Type 0
+IsRight options before text reading =
     FindsNoFlaw options.any_suffix (chars text) × IsFalse (reserved options.edition before text)
-    × (IsTrue options.any_suffix ⊎ HasFoundType before text found)
+    × (IsTrue options.any_suffix ⊎ HasReadType before text reading)
 
--- The literal `text` has an error after the source `before`. `found` is its parse result.
-abbrev pub IsBad : Options → List ℕ → List ℕ → Option Found → Type 0
-IsBad options before text found = (why : Wrong) × IsWrong options before text found why
+-- The literal `text` has an error after the source `before`. `reading` is its parse result by Rust's grammar.
+abbrev pub IsBad : Options → List ℕ → List ℕ → Option Reading → Type 0
+IsBad options before text reading = (why : Wrong) × IsWrong options before text reading why
 
--- `IsRightText` says that the literal `text` has no error after the source `before`, for a parse result of the literal.
--- `IsWrongText` says that it has one.
+-- The literal `text` has no error after the source `before`.
 abbrev pub IsRightText : Options → List ℕ → List ℕ → Type 0
-IsRightText options before text = (found : Option Found) × IsFoundIn text found × IsRight options before text found
+IsRightText options before text = (reading : Option Reading) × IsReadIn text reading × IsRight options before text reading
 
+-- The literal `text` has the error `why` after the source `before`.
+abbrev pub HasWrong : Options → List ℕ → List ℕ → Wrong → Type 0
+HasWrong options before text why = (reading : Option Reading) × IsReadIn text reading × IsWrong options before text reading why
+
+-- The literal `text` has an error after the source `before`.
 abbrev pub IsWrongText : Options → List ℕ → List ℕ → Type 0
-IsWrongText options before text = (found : Option Found) × IsFoundIn text found × IsBad options before text found
+IsWrongText options before text = (why : Wrong) × HasWrong options before text why
 
 -- The byte range `lo..hi` of the text begins and ends between characters.
 abbrev pub IsSlice : List ℕ → ℕ → ℕ → Type 0

@@ -1,7 +1,12 @@
--- The effect of stray characters and of macro calls on the output for a source. No Rust token begins at a stray character.
-use Rattle.std.specs.Prelude.{Bool, not, ◌&&◌, ◌||◌}
+-- The effect of options, of stray characters and of macro calls on the output for a source. No Rust token begins at a stray character.
+use Rattle.std.specs.Prelude.{◌≡◌, ◌⊎◌, Bool, not, ◌&&◌, ◌||◌, IsTrue}
+use Rattle.rl_output.specs.declared.choice.Shown.TheVariants.{Bad}
 use Rattle.rl_style.specs.Calls.{CallState, is_in_call}
 use Rattle.rl_sources.specs.declared.options.Options.{Options}
+
+-- The options need the errors of literals: errors are explained, or only invalid literals are shown.
+abbrev pub LooksForFlaws : Options → Type 0
+LooksForFlaws options = IsTrue options.explains ⊎ (options.shown ≡ Bad)
 
 -- The first stray character ends the source: stray characters are rejected, and errors aren't explained. `finds_strays` says that
 -- each stray character is a finding: they are rejected, and errors are explained.

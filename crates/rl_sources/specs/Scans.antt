@@ -40,14 +40,14 @@ use Rattle.rl_output.specs.declared.choice.Shown.TheVariants as asked
 use Rattle.rl_sources.specs.declared.scan_error.ScanError.{ScanError}
 use Rattle.rl_sources.specs.declared.scan_error.ScanError.TheVariants.{Program, Source}
 use Rattle.rl_output.specs.Spots.{bytes_before}
-use Rattle.rl_sources.specs.Findings.{AreFlawsLeft, IsBad, IsFlawFinding, IsFoundIn, IsLimitFinding, IsPieceOf, IsRight, IsWholeFinding, IsWrong, reason_id, reason_message}
+use Rattle.rl_sources.specs.Findings.{AreFlawsLeft, IsBad, IsFlawFinding, IsLimitFinding, IsPieceOf, IsReadIn, HasWrong, IsRightText, IsWholeFinding, reason_id, reason_message}
 use Rattle.rl_sources.specs.declared.finding.Finding.{Finding}
 use Rattle.rl_sources.specs.declared.finding.Reason.{Reason}
 use Rattle.rl_sources.specs.declared.finding.Reason.TheVariants as reason
 use Rattle.rl_sources.specs.declared.finding.Wrong.TheVariants as wrong
 use Rattle.rl_sources.specs.Prefixes.{reserved_prefix}
 use Rattle.rl_flaws.specs.declared.type_errors.TypeError.{TypeError}
-use Rattle.rl_lenient.specs.declared.found.Found.{Found}
+use Rattle.rl_strict.specs.declared.strict_reading.Reading.{Reading}
 use Rattle.std.specs.Str.{chars}
 use Rattle.rl_files.specs.Globs.{borrowed_texts}
 use Rattle.rl_sources.specs.Held.{IsFirstHeld}
@@ -57,7 +57,7 @@ use Rattle.rl_output.specs.Choices.{Picks}
 use Rattle.rl_style.specs.Calls.{CallState, Outside}
 use Rattle.rl_sources.specs.Called.{with_calls}
 use Rattle.rl_sources.specs.Allowed.{IsUnlessAllowed, allows_id}
-use Rattle.rl_sources.specs.Options.{ends_at_strays, finds_strays, options_at}
+use Rattle.rl_sources.specs.Options.{LooksForFlaws, ends_at_strays, finds_strays, options_at}
 use Rattle.rl_sources.specs.Places.{IsPlaceIn, WithContext}
 
 -- The output for a literal `text` without its position: the line with its value, or the text as written. Invisible and
@@ -168,42 +168,40 @@ IsLimitLine options whole text lo shown =
     × IsLimitFinding text flaw finding × IsShownFinding options whole text lo finding shown)
 
 -- The output for the literal `text`, in bytes, and its reserved prefix. The range begins at the prefix.
-abbrev pub IsReservedLine : Options → List ℕ → List ℕ → Option Found → ℕ → List ℕ → Type 0
-IsReservedLine options whole text found lo shown =
+abbrev pub IsReservedLine : Options → List ℕ → List ℕ → ℕ → List ℕ → Type 0
+IsReservedLine options whole text lo shown =
     (prefix : List ℕ) × (start : ℕ) × (finding : Finding)
-    × IsWrong options (bytes_before whole lo) text found wrong.Reserved
+    × HasWrong options (bytes_before whole lo) text wrong.Reserved
     × (prefix ≡ reserved_prefix (bytes_before whole lo) text) × (start + length prefix ≡ lo)
     × IsWholeFinding (prefix ++ chars text) reason.Reserved finding
     × IsShownFinding options whole (prefix ++ chars text) start finding shown
 
 -- The output for the literal `text`, in bytes, which Rust has no type for.
-abbrev pub IsTypeLine : Options → List ℕ → List ℕ → Option Found → ℕ → List ℕ → Type 0
-IsTypeLine options whole text found lo shown =
-    (error : TypeError) × (finding : Finding) × IsWrong options (bytes_before whole lo) text found (wrong.Type error)
+abbrev pub IsTypeLine : Options → List ℕ → List ℕ → ℕ → List ℕ → Type 0
+IsTypeLine options whole text lo shown =
+    (error : TypeError) × (finding : Finding) × HasWrong options (bytes_before whole lo) text (wrong.Type error)
     × IsWholeFinding (chars text) (reason.Type error) finding
     × IsShownFinding options whole (chars text) lo finding shown
 
 -- The lines that explain why the literal `text`, in bytes, is invalid: one for each flaw, or one for an integer above 128 bits, a
 -- reserved prefix or a missing type. Allowed errors have no line. The literal begins at the byte offset `lo` of the source `whole`.
-abbrev pub AreReasonLines : Options → List ℕ → List ℕ → Option Found → ℕ → List ℕ → Type 0
-AreReasonLines options whole text found lo shown =
+abbrev pub AreReasonLines : Options → List ℕ → List ℕ → ℕ → List ℕ → Type 0
+AreReasonLines options whole text lo shown =
     AreAllFlawLines options whole (chars text) lo shown ⊎ IsLimitLine options whole (chars text) lo shown
-    ⊎ IsReservedLine options whole text found lo shown ⊎ IsTypeLine options whole text found lo shown
+    ⊎ IsReservedLine options whole text lo shown ⊎ IsTypeLine options whole text lo shown
 
--- The lines for the literal `text`, in bytes, whose parse result is `found`: those of its errors if errors are explained and it has
--- any, else the line with its value or text.
-abbrev pub IsLineOfFound : Options → List ℕ → List ℕ → Option Found → ℕ → ℕ → List ℕ → Type 0
-IsLineOfFound options whole text found lo hi shown =
-    (IsTrue options.explains × AreReasonLines options whole text found lo shown)
-    ⊎ ((IsTrue options.explains → IsRight options (bytes_before whole lo) text found)
+-- The lines for the literal `text`, in bytes: those of its errors if errors are explained and it has any, else the line with its
+-- value or text.
+abbrev pub IsLineOfBytes : Options → List ℕ → List ℕ → ℕ → ℕ → List ℕ → Type 0
+IsLineOfBytes options whole text lo hi shown =
+    (IsTrue options.explains × AreReasonLines options whole text lo shown)
+    ⊎ ((IsTrue options.explains → IsRightText options (bytes_before whole lo) text)
     × IsPlacedLine options whole (chars text) lo hi shown)
 
--- The lines for the literal `text`, for a parse result of its bytes: those of its errors if errors are explained and it has any,
--- else the line with its value or text.
+-- The lines for the literal `text`: those of its errors if errors are explained and it has any, else the line with its value or text.
 abbrev pub IsLineIn : Options → List ℕ → List ℕ → ℕ → ℕ → List ℕ → Type 0
 IsLineIn options whole text lo hi shown =
-    (bytes : List ℕ) × (found : Option Found) × (chars bytes ≡ text) × IsFoundIn bytes found
-    × IsLineOfFound options whole bytes found lo hi shown
+    (bytes : List ℕ) × (chars bytes ≡ text) × IsLineOfBytes options whole bytes lo hi shown
 
 -- The line for the literal `text` at a byte range within it, or nothing without a range.
 abbrev pub IsLineAtRange : Option (ℕ × ℕ) → Options → List ℕ → List ℕ → ℕ → List ℕ → Type 0
@@ -224,19 +222,23 @@ IsPickedLine [] options whole text lo hi shown = IsLineIn options whole text lo 
 IsPickedLine (sought ∷ soughts) options whole text lo hi shown =
     IsHeldLine (sought ∷ soughts) options whole text lo shown
 
--- The options select the literal `text`, in bytes. `before` is the source before it, `found` its parse result, and `label` the
--- first word of its line.
-abbrev pub IsPicked : Options → List ℕ → List ℕ → Option Found → List ℕ → Type 0
-IsPicked options before text found label = Picks options.shown label (IsBad options before text found)
+-- The literal `text` is selected. `is_bad` says that it is invalid. The kinds in a list are those of `syn`'s grammar.
+abbrev pub IsPickedBy : Shown → List ℕ → Type 0 → Type 0
+IsPickedBy (asked.Only list) text is_bad = (label : List ℕ) × IsLabelOf text label × Picks (asked.Only list) label is_bad
+IsPickedBy shown text is_bad = Picks shown [] is_bad
+
+-- The options select the literal `text`, in bytes. `before` is the source before it, and `reading` its parse result by Rust's grammar.
+abbrev pub IsPicked : Options → List ℕ → List ℕ → Option Reading → Type 0
+IsPicked options before text reading = IsPickedBy options.shown (chars text) (IsBad options before text reading)
 
 -- The output for the literal `text` at the range `lo..hi` of the source `whole`: its lines if the options select it, else nothing.
 abbrev pub IsShownLiteral : Options → List ℕ → List ℕ → ℕ → ℕ → List ℕ → Type 0
 IsShownLiteral options whole text lo hi shown =
-    (label : List ℕ) × (bytes : List ℕ) × (found : Option Found) × IsLabelOf text label × (chars bytes ≡ text)
-    × IsFoundIn bytes found
-    × ((IsPicked options (bytes_before whole lo) bytes found label
+    (bytes : List ℕ) × (reading : Option Reading) × (chars bytes ≡ text)
+    × (LooksForFlaws options → IsReadIn bytes reading)
+    × ((IsPicked options (bytes_before whole lo) bytes reading
     × IsPickedLine (borrowed_texts options.finds.now) options whole text lo hi shown)
-    ⊎ ((IsPicked options (bytes_before whole lo) bytes found label → ⊥) × (shown ≡ [])))
+    ⊎ ((IsPicked options (bytes_before whole lo) bytes reading → ⊥) × (shown ≡ [])))
 
 -- The output for a stray character: its line if stray characters are findings that aren't allowed, else nothing.
 abbrev pub IsShownStray : Bool → Options → List ℕ → List ℕ → ℕ → ℕ → List ℕ → Type 0

@@ -17,15 +17,13 @@ use Rattle.rl_sources.specs.declared.step.Step.TheVariants.{More, End, Error}
 use Rattle.rl_style.specs.Calls.{CallState, Outside, calls_seen}
 use Rattle.rl_style.specs.declared.calls.Calls.{Calls}
 use Rattle.rl_sources.specs.Called.{calls_past_all}
-use Rattle.rl_sources.specs.Options.{ends_at_strays, finds_strays, options_at}
+use Rattle.rl_sources.specs.Options.{LooksForFlaws, ends_at_strays, finds_strays, options_at}
 use Rattle.rl_sources.specs.Places.{IsPlaceIn}
-use Rattle.rl_sources.specs.Findings.{IsFoundIn, IsRight, IsRightText, IsWrong}
+use Rattle.rl_sources.specs.Findings.{IsFoundIn, IsReadIn, IsRight, IsRightText, IsWrong}
+use Rattle.rl_sources.specs.declared.finding.Wrong.{Wrong}
+use Rattle.rl_strict.specs.declared.strict_reading.Reading.{Reading}
 use Rattle.rl_output.specs.Spots.{bytes_before}
 use Rattle.rl_sources.specs.Scans.{ShowsSource, ShowsUpTo, IsErrorAt, IsErrorLine, IsShownToken}
-
--- The options need the errors of literals: errors are explained, or only invalid literals are shown.
-abbrev pub LooksForFlaws : Options → Type 0
-LooksForFlaws options = IsTrue options.explains ⊎ (options.shown ≡ Bad)
 
 -- The scan needs the positions of tokens relative to macro calls: it looks for errors, and judges literals inside macro calls
 -- differently.
@@ -74,15 +72,20 @@ pub record BeginsRest (token : SourceToken) (text rest : List ℕ) : Type 0 wher
   pub after : List ℕ
   pub begins : chars rest ≡ chars token.text.now ++ after
 
--- The literal occurs in the text. Its parse result is correct, and so is its error if the options need errors.
+-- `wrong` is the error of the literal `text` after the source `before`, or `None` if the literal has none, or the options don't need
+-- errors.
+pub record IsJudged (options : Options) (before text : List ℕ) (wrong : Option Wrong) : Type 0 where
+  pub reading : Option Reading
+  pub is_read : LooksForFlaws options → IsReadIn text reading
+  pub some : IfSome wrong (IsWrong options before text reading)
+  pub none : IfNone wrong (LooksForFlaws options → IsRight options before text reading)
+  pub asked : IfSome wrong (λ why. LooksForFlaws options)
+
+-- The literal occurs in the text. Its parse result by `syn`'s grammar is correct, and so is its error if the options need errors.
 pub record IsLiteralOf (options : Options) (text : List ℕ) (literal : Literal) : Type 0 where
   pub begins : BeginsRest literal.token.now text literal.rest.now
-  pub is_read : IsFoundIn literal.token.now.text.now literal.found.now
-  pub wrong : IfSome literal.wrong (IsWrong options (bytes_before (chars text) literal.token.now.lo)
-      literal.token.now.text.now literal.found.now)
-  pub right : IfNone literal.wrong
-      (LooksForFlaws options → IsRight options (bytes_before (chars text) literal.token.now.lo)
-      literal.token.now.text.now literal.found.now)
+  pub is_found : IsFoundIn literal.token.now.text.now literal.found.now
+  pub is_judged : IsJudged options (bytes_before (chars text) literal.token.now.lo) literal.token.now.text.now literal.wrong
 
 -- The cursor over tokens and the table of positions belong to one text.
 pub record IsCursorOver (tokens : CursorState) (places : List ℕ) : Type 0 where

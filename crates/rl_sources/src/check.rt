@@ -1,18 +1,22 @@
 //! Finds the error of a literal in a Rust source, as rustc does.
 
-ghost use Rattle.std.specs.Prelude.{◌≡◌, ◌≢◌, ◌↔◌, [], None, Some, IsFalse, IsTrue, IfNone, IfSome};
+ghost use Rattle.std.specs.Prelude.{◌≡◌, ◌↔◌, None, Some, IsFalse, IsTrue, IfNone, IfSome, false, option_map};
 ghost use Rattle.std.specs.Str.{chars};
-ghost use Rattle.rl_syntax.specs.declared.kind.Kind.TheVariants.{Float};
-ghost use Rattle.rl_lenient.specs.Founds.{IsFound, suffix_in};
-ghost use Rattle.rl_sources.specs.Findings.{FindsFlaw, FindsNoFlaw, HasFoundError, HasFoundType, IsFoundIn, IsRight, IsRightText, IsWrong, IsWrongText};
-ghost use Rattle.rl_sources.specs.Steps.{LooksForFlaws};
+ghost use Rattle.rl_syntax.specs.Texts.{IsTail};
+ghost use Rattle.rl_strict.specs.LineEnds.{lf_text};
+ghost use Rattle.rl_strict.specs.Readings.{IsReadingOf};
+ghost use Rattle.rl_strict.specs.StrictShapes.{IsToken};
+ghost use Rattle.rl_strict.specs.declared.line_ends.LineEnds.TheVariants.{File};
+ghost use Rattle.rl_sources.specs.Findings.{FindsFlaw, FindsNoFlaw, HasReadError, HasReadType, IsRight, IsRightText, IsWrong, IsWrongText, typed_parts as parts_of};
+ghost use Rattle.rl_sources.specs.Options.{LooksForFlaws};
+ghost use Rattle.rl_sources.specs.Steps.{IsJudged};
 
 use crate::finding::Wrong;
 use crate::options::Options;
-use rl_flaws::{TypeError, may_be_negated, type_error};
-use rl_lenient::{Found, parse_literal};
+use rl_flaws::{TypeError, may_be_negated, type_error_of};
 use rl_output::Shown;
-use rl_strict::{Flaw, LineEnds, explain_missing_value, read};
+use rl_strict::limits::flaw_if_above_128_bits;
+use rl_strict::{Flaw, LineEnds, Reading, read};
 use rl_syntax::Kind;
 
 /// Whether literals are checked for errors: if `options` request the reasons of errors, or only invalid literals.
@@ -22,90 +26,97 @@ pub(crate) fn looks_for_flaws(options: &Options<'_>) -> bool
     options.explains || matches!(options.shown, Shown::Bad)
 }
 
-/// Whether Rust has a type for the literal `text` in every context: it isn't a float, and has no suffix.
-fn has_type_alone(text: &str, found: &Found) -> bool
-    requires { IsFound text.now found.now }
-    ensures { IsTrue result ↔ (found.now.kind ≢ Float) × (suffix_in text.now found.now.body ≡ []) }
+/// Returns the parts of a literal that its type depends on: its kind, the number that an integer represents, and its suffix. Returns
+/// `None` if the literal has a type in any case.
+#[inline(always)]
+fn typed_parts<'t>(text: &'t str, reading: &Reading) -> Option<(Kind, u128, &'t str)>
+    requires { IsReadingOf File false text.now reading.now }
+    ensures parts { option_map (λ p. (p.0, p.1, p.2.now)) result ≡ parts_of text.now reading.now }
+    ensures following { IfSome result (λ p. IsTail text.now p.2.now) }
 {
-    !matches!(found.kind, Kind::Float) && found.suffix_in(text).is_empty()
+    match reading {
+        Reading::Text(kind, body) | Reading::Unit(kind, body, _) => {
+            Some((*kind, 0, &text[body.suffix_at..]))
+        }
+        Reading::Integer(Some(magnitude), suffix_at) => {
+            Some((Kind::Int, *magnitude, &text[*suffix_at..]))
+        }
+        Reading::Float(suffix_at) => Some((Kind::Float, 0, &text[*suffix_at..])),
+        Reading::Integer(None, _) | Reading::Truth(_) => None,
+    }
 }
 
 /// Returns the reason why Rust has no type for the literal `text`, or `None` if it has one.
 ///
-/// `before` is the source before the literal. `found` is the parse result of the literal, and `None` gives `None`. For an integer
-/// or another literal without a suffix `before` isn't read.
-fn type_error_of(before: &str, text: &str, found: &Option<Found>) -> Option<TypeError>
-    requires { IsFoundIn text.now found.now }
-    ensures some { IfSome result (HasFoundError before.now text.now found.now) }
-    ensures none { IfNone result (HasFoundType before.now text.now found.now) }
+/// `before` is the source before the literal, and `reading` the literal's parse result. For an integer or another literal without a
+/// suffix `before` isn't read.
+fn type_error_after(before: &str, text: &str, reading: &Reading) -> Option<TypeError>
+    requires { IsReadingOf File false text.now reading.now }
+    ensures some { IfSome result (HasReadError before.now text.now (Some reading.now)) }
+    ensures none { IfNone result (HasReadType before.now text.now (Some reading.now)) }
 {
-    match found {
-        Some(found) if has_type_alone(text, found) => None,
-        Some(found) => type_error(text, found, may_be_negated(before)),
-        None => None,
+    let (kind, magnitude, suffix) = typed_parts(text, reading)?;
+    if suffix.is_empty() && !matches!(kind, Kind::Float) {
+        return None;
     }
+    type_error_of(kind, text, magnitude, suffix, may_be_negated(before))
 }
 
-/// Returns the first flaw of the literal `text`. With `any_value` an integer above 128 bits has no flaw, as in a macro's argument.
-fn flaw_in(any_value: bool, text: &str) -> Option<Flaw>
+/// Returns the flaw of the literal `text` if it is an integer above 128 bits. With `any_value` such an integer has no flaw, as in a
+/// macro's argument. `reading` is the literal's parse result.
+fn value_flaw(any_value: bool, text: &str, reading: &Reading) -> Option<Flaw>
+    requires read { IsReadingOf File false text.now reading.now }
+    requires token { IsToken (lf_text (chars text.now)) }
     ensures some { IfSome result (FindsFlaw any_value (chars text.now)) }
     ensures none { IfNone result (FindsNoFlaw any_value (chars text.now)) }
 {
-    if !any_value {
-        return explain_missing_value(text, LineEnds::File, false);
+    if any_value {
+        return None;
     }
-    match read(text, LineEnds::File, false) {
-        Ok(_) => None,
-        Err(flaw) => Some(flaw),
-    }
+    flaw_if_above_128_bits(text, *reading)
 }
 
-/// Returns the error of the literal `text` that follows from its context, or `None`.
+/// Returns the error of the literal `text`, which is a token, or `None` if it has none.
 ///
-/// The literal has no flaw. `before` is the source before it, and `found` is its parse result. The error is a reserved prefix, or,
-/// unless any suffix is allowed, a missing type.
-fn find_wrong_in_context(
+/// `before` is the source before the literal, and `reading` its parse result. The error is that of an integer above 128 bits, a
+/// reserved prefix, or a missing type. If any suffix is allowed, it is a reserved prefix.
+fn find_wrong(
     options: &Options<'_>,
     before: &str,
     text: &str,
-    found: &Option<Found>,
+    reading: &Reading,
 ) -> Option<Wrong>
-    requires found { IsFoundIn text.now found.now }
-    requires no_flaw { FindsNoFlaw options.now.any_suffix (chars text.now) }
-    ensures some { IfSome result (IsWrong options.now before.now text.now found.now) }
-    ensures none { IfNone result (IsRight options.now before.now text.now found.now) }
+    requires read { IsReadingOf File false text.now reading.now }
+    requires token { IsToken (lf_text (chars text.now)) }
+    ensures some { IfSome result (IsWrong options.now before.now text.now (Some reading.now)) }
+    ensures none { IfNone result (IsRight options.now before.now text.now (Some reading.now)) }
 {
+    if let Some(flaw) = value_flaw(options.any_suffix, text, reading) {
+        return Some(Wrong::Flaw(flaw));
+    }
     if options.edition.reserves(before, text) {
         return Some(Wrong::Reserved);
     }
     if options.any_suffix {
         return None;
     }
-    match type_error_of(before, text, found) {
+    match type_error_after(before, text, reading) {
         Some(error) => Some(Wrong::Type(error)),
         None => None,
     }
 }
 
-/// Returns the error of the literal `text`, or `None` if it has none or `options` don't need errors.
-///
-/// `before` is the source before the literal, and `found` is its parse result.
-pub(crate) fn find_wrong(
-    options: &Options<'_>,
-    before: &str,
-    text: &str,
-    found: &Option<Found>,
-) -> Option<Wrong>
-    requires { IsFoundIn text.now found.now }
-    ensures some { IfSome result (IsWrong options.now before.now text.now found.now) }
-    ensures none { IfNone result (LooksForFlaws options.now → IsRight options.now before.now text.now found.now) }
+/// Returns the error of the literal `text`, or `None` if it has none or `options` don't need errors. `before` is the source before the
+/// literal.
+pub(crate) fn judge(options: &Options<'_>, before: &str, text: &str) -> Option<Wrong>
+    ensures { IsJudged options.now before.now text.now result }
 {
     if !looks_for_flaws(options) {
         return None;
     }
-    match flaw_in(options.any_suffix, text) {
-        Some(flaw) => Some(Wrong::Flaw(flaw)),
-        None => find_wrong_in_context(options, before, text, found),
+    match read(text, LineEnds::File, false) {
+        Ok(reading) => find_wrong(options, before, text, &reading),
+        Err(flaw) => Some(Wrong::Flaw(flaw)),
     }
 }
 
@@ -116,8 +127,7 @@ pub(crate) fn is_right(options: &Options<'_>, before: &str, text: &str) -> bool
     ensures right { IsTrue result → LooksForFlaws options.now → IsRightText options.now before.now text.now }
     ensures wrong { IsFalse result → IsWrongText options.now before.now text.now }
 {
-    let found = parse_literal(text);
-    find_wrong(options, before, text, &found).is_none()
+    judge(options, before, text).is_none()
 }
 
 /// Returns the error that the output explains: `wrong` if `explains` is true, else `None`.

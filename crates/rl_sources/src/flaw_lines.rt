@@ -5,7 +5,7 @@ ghost use Rattle.std.specs.Str.{chars};
 ghost use Rattle.rl_syntax.specs.Texts.{byte_len};
 ghost use Rattle.rl_strict.specs.declared.flaws.FlawKind.TheVariants.{TooLarge};
 ghost use Rattle.rl_program.specs.Lines.{Appends};
-ghost use Rattle.rl_sources.specs.Findings.{FindsFlaw, IsFlawFinding, IsLimitFinding, IsWholeFinding, IsWrong};
+ghost use Rattle.rl_sources.specs.Findings.{FindsFlaw, IsFlawFinding, IsLimitFinding, IsWholeFinding, HasWrong};
 ghost use Rattle.rl_output.specs.Spots.{bytes_before};
 ghost use Rattle.rl_sources.specs.Held.{IsCutAt};
 ghost use Rattle.rl_sources.specs.Scans.{AreAllFlawLines, AreReasonLines, IsLimitLine, IsReservedLine, IsTypeLine};
@@ -136,10 +136,10 @@ fn push_reserved<'t, A: Allocator>(
     places: &mut Places<'t>,
 ) -> Result<(), AllocError>
     requires rest { BeginsRest literal.now.token.now places.old literal.now.rest.now }
-    requires wrong { IsWrong options.now (bytes_before (chars places.old) literal.now.token.now.lo)
-        literal.now.token.now.text.now literal.now.found.now Wrong.Reserved }
+    requires wrong { HasWrong options.now (bytes_before (chars places.old) literal.now.token.now.lo)
+        literal.now.token.now.text.now Wrong.Reserved }
     ensures shown { OnOk result (Appends
-        (IsReservedLine options.now (chars places.old) literal.now.token.now.text.now literal.now.found.now
+        (IsReservedLine options.now (chars places.old) literal.now.token.now.text.now
         literal.now.token.now.lo)
         (chars (string_bytes out.old)) (chars (string_bytes out.new))) }
     ensures same { places.new ≡ places.old }
@@ -164,10 +164,10 @@ fn push_typeless<'t, A: Allocator>(
     error: TypeError,
 ) -> Result<(), AllocError>
     requires rest { BeginsRest literal.now.token.now places.old literal.now.rest.now }
-    requires wrong { IsWrong options.now (bytes_before (chars places.old) literal.now.token.now.lo)
-        literal.now.token.now.text.now literal.now.found.now (Wrong.Type error) }
+    requires wrong { HasWrong options.now (bytes_before (chars places.old) literal.now.token.now.lo)
+        literal.now.token.now.text.now (Wrong.Type error) }
     ensures shown { OnOk result (Appends
-        (IsTypeLine options.now (chars places.old) literal.now.token.now.text.now literal.now.found.now
+        (IsTypeLine options.now (chars places.old) literal.now.token.now.text.now
         literal.now.token.now.lo)
         (chars (string_bytes out.old)) (chars (string_bytes out.new))) }
     ensures same { places.new ≡ places.old }
@@ -187,10 +187,10 @@ pub(crate) fn push_error_lines<'t, A: Allocator>(
     wrong: Wrong,
 ) -> Result<(), AllocError>
     requires rest { BeginsRest literal.now.token.now places.old literal.now.rest.now }
-    requires wrong { IsWrong options.now (bytes_before (chars places.old) literal.now.token.now.lo)
-        literal.now.token.now.text.now literal.now.found.now wrong }
+    requires wrong { HasWrong options.now (bytes_before (chars places.old) literal.now.token.now.lo)
+        literal.now.token.now.text.now wrong }
     ensures shown { OnOk result (Appends
-        (AreReasonLines options.now (chars places.old) literal.now.token.now.text.now literal.now.found.now
+        (AreReasonLines options.now (chars places.old) literal.now.token.now.text.now
         literal.now.token.now.lo)
         (chars (string_bytes out.old)) (chars (string_bytes out.new))) }
     ensures same { places.new ≡ places.old }

@@ -14,7 +14,7 @@ pub(crate) struct Literal<'a, 't> {
     pub(crate) token: &'a SourceToken<'t>,
     /// The end of the source that begins with the literal.
     pub(crate) rest: &'t str,
-    /// The parse result of the literal's text, or `None` if it can't be parsed.
+    /// The parse result of the literal's text by `syn`'s grammar, or `None` if it can't be parsed.
     pub(crate) found: &'a Option<Found>,
     /// The error of the literal, if the options request errors and it has one.
     pub(crate) wrong: Option<Wrong>,

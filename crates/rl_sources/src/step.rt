@@ -19,7 +19,7 @@ ghost use Rattle.rl_style.specs.Calls.{advance_calls, calls_seen, is_in_call};
 ghost use Rattle.rl_sources.specs.Options.{options_at as options_in};
 
 use crate::allowed::allows_id;
-use crate::check::{find_wrong, is_right, looks_for_flaws, reason_of};
+use crate::check::{is_right, judge, looks_for_flaws, reason_of};
 use crate::find_match::first_match_range;
 use crate::flaw_lines::push_error_lines;
 use crate::json::push_json_literal;
@@ -305,7 +305,7 @@ fn push_literal_token<'t, A: Allocator + Copy>(
 {
     let found = parse_literal(token.text);
     let before = places.before(token.lo);
-    let wrong = find_wrong(options, before, token.text, &found);
+    let wrong = judge(options, before, token.text);
     let label = label_of(kind_of(&found));
     if !options.shown.picks(label, wrong.is_some()) {
         return Ok(());

@@ -24,4 +24,4 @@ pub use crate::rl_flaws::kind_guess::guess_kind;
 pub use crate::rl_flaws::number_types::{NumberType, max_integer, type_named};
 pub use crate::rl_flaws::piece_ends::is_flaw_of_unit;
 pub use crate::rl_flaws::pieces::{Piece, Pieces};
-pub use crate::rl_flaws::type_errors::{TypeError, type_error};
+pub use crate::rl_flaws::type_errors::{TypeError, type_error, type_error_of};

@@ -135,6 +135,32 @@ fn float_error(text: &str, numeral: &str, suffix: &str, negated: bool) -> Option
     }
 }
 
+/// Returns the reason why Rust has no type for a literal of the kind `kind`, or `None` if Rust has a type for it.
+///
+/// [`type_error`] says which reasons there are. `text` is the text of the literal, and `suffix` is its suffix. `magnitude` is the
+/// number that an integer represents. Other literals have none, and any number may be passed. `negated` is true if a minus may
+/// precede the literal. Nothing is allocated.
+#[inline]
+pub fn type_error_of(
+    kind: Kind,
+    text: &str,
+    magnitude: u128,
+    suffix: &str,
+    negated: bool,
+) -> Option<TypeError> {
+    if matches!(kind, Kind::Float) {
+        return float_error(text, before(text, suffix), suffix, negated);
+    }
+    if suffix.is_empty() {
+        return None;
+    }
+    match kind {
+        Kind::Int => integer_error(text, suffix, magnitude, negated),
+        Kind::Bool => None,
+        _ => Some(TypeError::QuotedSuffix),
+    }
+}
+
 /// Returns the reason why Rust has no type for a literal, or `None` if Rust has a type for it.
 ///
 /// The reason is a suffix that isn't the name of a fitting type, or a number that is out of its type's range. An integer
@@ -145,16 +171,11 @@ fn float_error(text: &str, numeral: &str, suffix: &str, negated: bool) -> Option
 /// `128i8` is in range. Nothing is allocated.
 #[inline]
 pub fn type_error(text: &str, found: &Found, negated: bool) -> Option<TypeError> {
-    let suffix = found.suffix_in(text);
-    if matches!(found.kind, Kind::Float) {
-        return float_error(text, before(text, suffix), suffix, negated);
-    }
-    if suffix.is_empty() {
-        return None;
-    }
-    match found.kind {
-        Kind::Int => integer_error(text, suffix, found.magnitude, negated),
-        Kind::Bool => None,
-        _ => Some(TypeError::QuotedSuffix),
-    }
+    type_error_of(
+        found.kind,
+        text,
+        found.magnitude,
+        found.suffix_in(text),
+        negated,
+    )
 }

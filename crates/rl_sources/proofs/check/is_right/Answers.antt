@@ -1,8 +1,10 @@
-use Rattle.rl_sources.proofs.StepLemmas.{wrong_text}
+use Rattle.rl_sources.proofs.StepLemmas.{right_text, wrong_text}
 use Rattle.rl_sources.proofs.check.is_right.Goals as goal
 
+pub returns-clause-right : goal.returns-clause-right
+returns-clause-right c right looks = right_text c.args.options.now c.args.before.now c.args.text.now
+    c.judge.result c.is_none.result c.judge.ensures c.is_none.ensures right looks
+
 pub returns-clause-wrong : goal.returns-clause-wrong
-returns-clause-wrong c bad = wrong_text c.args.options.now c.args.before.now c.args.text.now c.parse_literal-found.result
-    c.find_wrong.result c.is_none.result
-    (record { none = c.parse_literal-found.ensures.none; some = c.parse_literal-found.ensures.found })
-    c.find_wrong.ensures.some c.is_none.ensures bad
+returns-clause-wrong c bad = wrong_text c.args.options.now c.args.before.now c.args.text.now
+    c.judge.result c.is_none.result c.judge.ensures c.is_none.ensures bad

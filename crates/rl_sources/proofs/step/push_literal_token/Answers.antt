@@ -1,7 +1,7 @@
 use Rattle.rl_syntax.proofs.Common.{chars, on_ok_weaker, refl, string_bytes}
 use Rattle.std.proofs.lemmas.Bool.{false≢true}
-use Rattle.rl_sources.specs.Findings.{IsFoundIn}
 use Rattle.rl_output.specs.Spots.{bytes_before}
+use Rattle.rl_sources.specs.Steps.{IsJudged}
 use Rattle.rl_sources.proofs.StepLemmas.{found_label, not_picked, picked_line, picks_found}
 use Rattle.rl_sources.proofs.ScanLemmas.{rest_boundary}
 use Rattle.rl_sources.proofs.step.push_literal_token.Goals as goal
@@ -12,17 +12,12 @@ returns-then-not-picks-clause-shown g c =
     let is_label = found_label text c.label_of-label.result.now c.kind_of.result c.parse_literal-found.result
     c.parse_literal-found.ensures.none
     c.parse_literal-found.ensures.found c.kind_of.ensures c.label_of-label.ensures in
-    let read : IsFoundIn text c.parse_literal-found.result = record {
-      none = c.parse_literal-found.ensures.none;
-      some = c.parse_literal-found.ensures.found;
-    } in
+    let judged : IsJudged c.args.options.now (bytes_before (chars c.args.places.now) c.args.token.lo) text c.judge-wrong.result =
+    rw c.before-before.ensures at c.judge-wrong.ensures in
     let picks = picks_found c.args.options.now (bytes_before (chars c.args.places.now) c.args.token.lo) text
-    c.parse_literal-found.result _ _ _ _ c.is_some.ensures
-    (rw c.before-before.ensures at c.find_wrong-wrong.ensures.some)
-    (rw c.before-before.ensures at c.find_wrong-wrong.ensures.none)
-    c.if-not-picks.ensures in
-    not_picked c.args.options.now (chars c.args.places.now) text c.parse_literal-found.result _ c.args.token.lo c.args.token.hi
-    (chars (string_bytes c.args.out.now)) is_label read (λ p. false≢true (picks.1 p))
+    _ _ judged _ _ c.is_some.ensures is_label c.if-not-picks.ensures in
+    not_picked c.args.options.now (chars c.args.places.now) text _ c.args.token.lo c.args.token.hi
+    (chars (string_bytes c.args.out.now)) judged (λ p. false≢true (picks.1 p))
 
 pub before-before-requires : goal.before-before-requires
 before-before-requires g c = rest_boundary c.args.places.now c.args.places.now c.args.rest.now c.args.token.lo
@@ -32,9 +27,8 @@ before-before-requires g c = rest_boundary c.args.places.now c.args.places.now c
 pub push_picked-requires : goal.push_picked-requires
 push_picked-requires g c = record {
   begins = c.requires;
-  is_read = record { none = c.parse_literal-found.ensures.none; some = c.parse_literal-found.ensures.found };
-  wrong = rw c.before-before.ensures at c.find_wrong-wrong.ensures.some;
-  right = rw c.before-before.ensures at c.find_wrong-wrong.ensures.none;
+  is_found = record { none = c.parse_literal-found.ensures.none; some = c.parse_literal-found.ensures.found };
+  is_judged = rw c.before-before.ensures at c.judge-wrong.ensures;
 }
 
 pub returns-clause-shown : goal.returns-clause-shown
@@ -43,15 +37,9 @@ returns-clause-shown g c =
     let is_label = found_label text c.label_of-label.result.now c.kind_of.result c.parse_literal-found.result
     c.parse_literal-found.ensures.none
     c.parse_literal-found.ensures.found c.kind_of.ensures c.label_of-label.ensures in
-    let read : IsFoundIn text c.parse_literal-found.result = record {
-      none = c.parse_literal-found.ensures.none;
-      some = c.parse_literal-found.ensures.found;
-    } in
+    let judged : IsJudged c.args.options.now (bytes_before (chars c.args.places.now) c.args.token.lo) text c.judge-wrong.result =
+    rw c.before-before.ensures at c.judge-wrong.ensures in
     let picks = picks_found c.args.options.now (bytes_before (chars c.args.places.now) c.args.token.lo) text
-    c.parse_literal-found.result _ _ _ _ c.is_some.ensures
-    (rw c.before-before.ensures at c.find_wrong-wrong.ensures.some)
-    (rw c.before-before.ensures at c.find_wrong-wrong.ensures.none)
-    c.if-not-picks.ensures in
-    on_ok_weaker c.push_picked.result (picked_line c.args.options.now (chars c.args.places.now) text c.parse_literal-found.result
-    _
-    c.args.token.lo c.args.token.hi _ _ is_label read (picks.0 refl)) c.push_picked.ensures.shown
+    _ _ judged _ _ c.is_some.ensures is_label c.if-not-picks.ensures in
+    on_ok_weaker c.push_picked.result (picked_line c.args.options.now (chars c.args.places.now) text _
+    c.args.token.lo c.args.token.hi _ _ judged (picks.0 refl)) c.push_picked.ensures.shown

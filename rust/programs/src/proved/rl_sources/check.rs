@@ -3,10 +3,10 @@
 
 use crate::rl_sources::finding::Wrong;
 use crate::rl_sources::options::Options;
-use crate::rl_flaws::{TypeError, may_be_negated, type_error};
-use crate::rl_lenient::{Found, parse_literal};
+use crate::rl_flaws::{TypeError, may_be_negated, type_error_of};
 use crate::rl_output::Shown;
-use crate::rl_strict::{Flaw, LineEnds, explain_missing_value, read};
+use crate::rl_strict::limits::flaw_if_above_128_bits;
+use crate::rl_strict::{Flaw, LineEnds, Reading, read};
 use crate::rl_syntax::Kind;
 
 /// Whether literals are checked for errors: if `options` request the reasons of errors, or only invalid literals.
@@ -14,71 +14,77 @@ pub(crate) fn looks_for_flaws(options: &Options<'_>) -> bool {
     options.explains || matches!(options.shown, Shown::Bad)
 }
 
-/// Whether Rust has a type for the literal `text` in every context: it isn't a float, and has no suffix.
-fn has_type_alone(text: &str, found: &Found) -> bool {
-    !matches!(found.kind, Kind::Float) && found.suffix_in(text).is_empty()
+/// Returns the parts of a literal that its type depends on: its kind, the number that an integer represents, and its suffix. Returns
+/// `None` if the literal has a type in any case.
+#[inline(always)]
+fn typed_parts<'t>(text: &'t str, reading: &Reading) -> Option<(Kind, u128, &'t str)> {
+    match reading {
+        Reading::Text(kind, body) | Reading::Unit(kind, body, _) => {
+            Some((*kind, 0, &text[body.suffix_at..]))
+        }
+        Reading::Integer(Some(magnitude), suffix_at) => {
+            Some((Kind::Int, *magnitude, &text[*suffix_at..]))
+        }
+        Reading::Float(suffix_at) => Some((Kind::Float, 0, &text[*suffix_at..])),
+        Reading::Integer(None, _) | Reading::Truth(_) => None,
+    }
 }
 
 /// Returns the reason why Rust has no type for the literal `text`, or `None` if it has one.
 ///
-/// `before` is the source before the literal. `found` is the parse result of the literal, and `None` gives `None`. For an integer
-/// or another literal without a suffix `before` isn't read.
-fn type_error_of(before: &str, text: &str, found: &Option<Found>) -> Option<TypeError> {
-    match found {
-        Some(found) if has_type_alone(text, found) => None,
-        Some(found) => type_error(text, found, may_be_negated(before)),
-        None => None,
+/// `before` is the source before the literal, and `reading` the literal's parse result. For an integer or another literal without a
+/// suffix `before` isn't read.
+fn type_error_after(before: &str, text: &str, reading: &Reading) -> Option<TypeError> {
+    let (kind, magnitude, suffix) = typed_parts(text, reading)?;
+    if suffix.is_empty() && !matches!(kind, Kind::Float) {
+        return None;
     }
+    type_error_of(kind, text, magnitude, suffix, may_be_negated(before))
 }
 
-/// Returns the first flaw of the literal `text`. With `any_value` an integer above 128 bits has no flaw, as in a macro's argument.
-fn flaw_in(any_value: bool, text: &str) -> Option<Flaw> {
-    if !any_value {
-        return explain_missing_value(text, LineEnds::File, false);
+/// Returns the flaw of the literal `text` if it is an integer above 128 bits. With `any_value` such an integer has no flaw, as in a
+/// macro's argument. `reading` is the literal's parse result.
+fn value_flaw(any_value: bool, text: &str, reading: &Reading) -> Option<Flaw> {
+    if any_value {
+        return None;
     }
-    match read(text, LineEnds::File, false) {
-        Ok(_) => None,
-        Err(flaw) => Some(flaw),
-    }
+    flaw_if_above_128_bits(text, *reading)
 }
 
-/// Returns the error of the literal `text` that follows from its context, or `None`.
+/// Returns the error of the literal `text`, which is a token, or `None` if it has none.
 ///
-/// The literal has no flaw. `before` is the source before it, and `found` is its parse result. The error is a reserved prefix, or,
-/// unless any suffix is allowed, a missing type.
-fn find_wrong_in_context(
+/// `before` is the source before the literal, and `reading` its parse result. The error is that of an integer above 128 bits, a
+/// reserved prefix, or a missing type. If any suffix is allowed, it is a reserved prefix.
+fn find_wrong(
     options: &Options<'_>,
     before: &str,
     text: &str,
-    found: &Option<Found>,
+    reading: &Reading,
 ) -> Option<Wrong> {
+    if let Some(flaw) = value_flaw(options.any_suffix, text, reading) {
+        return Some(Wrong::Flaw(flaw));
+    }
     if options.edition.reserves(before, text) {
         return Some(Wrong::Reserved);
     }
     if options.any_suffix {
         return None;
     }
-    match type_error_of(before, text, found) {
+    match type_error_after(before, text, reading) {
         Some(error) => Some(Wrong::Type(error)),
         None => None,
     }
 }
 
-/// Returns the error of the literal `text`, or `None` if it has none or `options` don't need errors.
-///
-/// `before` is the source before the literal, and `found` is its parse result.
-pub(crate) fn find_wrong(
-    options: &Options<'_>,
-    before: &str,
-    text: &str,
-    found: &Option<Found>,
-) -> Option<Wrong> {
+/// Returns the error of the literal `text`, or `None` if it has none or `options` don't need errors. `before` is the source before the
+/// literal.
+pub(crate) fn judge(options: &Options<'_>, before: &str, text: &str) -> Option<Wrong> {
     if !looks_for_flaws(options) {
         return None;
     }
-    match flaw_in(options.any_suffix, text) {
-        Some(flaw) => Some(Wrong::Flaw(flaw)),
-        None => find_wrong_in_context(options, before, text, found),
+    match read(text, LineEnds::File, false) {
+        Ok(reading) => find_wrong(options, before, text, &reading),
+        Err(flaw) => Some(Wrong::Flaw(flaw)),
     }
 }
 
@@ -86,8 +92,7 @@ pub(crate) fn find_wrong(
 ///
 /// `before` is the source before the literal.
 pub(crate) fn is_right(options: &Options<'_>, before: &str, text: &str) -> bool {
-    let found = parse_literal(text);
-    find_wrong(options, before, text, &found).is_none()
+    judge(options, before, text).is_none()
 }
 
 /// Returns the error that the output explains: `wrong` if `explains` is true, else `None`.

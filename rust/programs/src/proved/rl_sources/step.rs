@@ -3,7 +3,7 @@
 
 use crate::rattle_std::prelude::{String};
 use crate::rl_sources::allowed::allows_id;
-use crate::rl_sources::check::{find_wrong, is_right, looks_for_flaws, reason_of};
+use crate::rl_sources::check::{is_right, judge, looks_for_flaws, reason_of};
 use crate::rl_sources::find_match::first_match_range;
 use crate::rl_sources::flaw_lines::push_error_lines;
 use crate::rl_sources::json::push_json_literal;
@@ -217,7 +217,7 @@ fn push_literal_token<'t, A: Allocator + Copy>(
 ) -> Result<(), AllocError> {
     let found = parse_literal(token.text);
     let before = places.before(token.lo);
-    let wrong = find_wrong(options, before, token.text, &found);
+    let wrong = judge(options, before, token.text);
     let label = label_of(kind_of(&found));
     if !options.shown.picks(label, wrong.is_some()) {
         return Ok(());
