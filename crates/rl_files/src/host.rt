@@ -1,11 +1,12 @@
 //! Files of the operating system.
 
-ghost use Rattle.std.specs.Prelude.{◌≡◌, ◌≢◌, ◌<◌, ◌≤◌, ◌++◌, length, string_bytes, IfOk, IfErr, IfSome};
+ghost use Rattle.std.specs.Prelude.{◌≡◌, ◌≢◌, ◌<◌, ◌≤◌, length, string_bytes, IfOk, IfErr, IfSome};
 ghost use Rattle.rl_files.specs.SystemErrors.{read_error};
 ghost use Rattle.rl_files.specs.Entries.{is_dots as dots, with_slash as slash_after};
 
 use crate::replace::Replace;
 use crate::tree::{PathError, Tree};
+use crate::walk::path_in;
 use crate::whole_file::replace_file;
 use std::alloc::{AllocError, Allocator};
 use std::fs::File;
@@ -79,15 +80,6 @@ fn with_slash<A: Allocator>(alloc: A, path: &str) -> Result<String<A>, AllocErro
     Ok(directory)
 }
 
-/// Returns two texts as one.
-fn joined<A: Allocator>(alloc: A, first: &str, second: &str) -> Result<String<A>, AllocError>
-    ensures { IfOk result (λ text. string_bytes text ≡ first.now ++ second.now) }
-{
-    let mut text = String::from_str(alloc, first)?;
-    text.push_str(second)?;
-    Ok(text)
-}
-
 /// Whether a name in a directory is `.` or `..`: the directory itself, or the directory that contains it.
 fn is_dots(name: &[u8]) -> bool
     ensures { result ≡ dots name.now }
@@ -108,7 +100,8 @@ fn directory_or_file<R: Files>(rt: &R, path: &str) -> io::Result<Option<bool>> {
 }
 
 /// Appends a name in a directory to `names`, unless it is `.` or `..`, or the name of a link or a device. A slash follows the name of
-/// a directory. The system isn't asked about a name that isn't UTF-8, since it would need a path that is UTF-8.
+/// a directory. If the name isn't UTF-8, it is appended unchanged, because the standard library asks the system only about paths
+/// that are UTF-8.
 fn push_entry<A: Allocator + Copy, R: Files>(
     rt: &R,
     alloc: A,
@@ -119,9 +112,9 @@ fn push_entry<A: Allocator + Copy, R: Files>(
     if is_dots(name.as_slice()) {
         return Ok(());
     }
-    if let Ok(text) = std::str::from_utf8(name.as_slice()) {
-        let path = joined(alloc, directory, text)?;
-        match directory_or_file(rt, path.as_str())? {
+    let path = path_in(alloc, directory, name.as_slice())?;
+    if let Ok(path) = std::str::from_utf8(path.as_slice()) {
+        match directory_or_file(rt, path)? {
             Some(true) => name.push(b'/')?,
             Some(false) => {}
             None => return Ok(()),

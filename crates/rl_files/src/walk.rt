@@ -185,7 +185,11 @@ fn is_wanted(selection: Selection<'_>, in_package: bool, name: &[u8]) -> bool
 }
 
 /// Returns the path of a name in a directory.
-fn path_in<A: Allocator>(alloc: A, directory: &str, name: &[u8]) -> Result<Vec<u8, A>, AllocError>
+pub(crate) fn path_in<A: Allocator>(
+    alloc: A,
+    directory: &str,
+    name: &[u8],
+) -> Result<Vec<u8, A>, AllocError>
     ensures { IfOk result (λ path. path.items ≡ path_of directory.now name.now) }
 {
     let mut path = Vec::new(alloc);
@@ -235,11 +239,7 @@ fn is_pruned(selection: Selection<'_>, from: usize, path: &[u8]) -> bool
 
 /// Returns the entry to visit for a path below the directory that the user passed. `from` is the length of this directory.
 #[tactic(auto, using(crate::proofs::PathTextLemmas::utf8_is, crate::proofs::PathTextLemmas::utf8_is_not))]
-fn pending_of<A: Allocator>(
-    alloc: A,
-    from: usize,
-    path: &[u8],
-) -> Result<WalkEntry<A>, AllocError>
+fn pending_of<A: Allocator>(alloc: A, from: usize, path: &[u8]) -> Result<WalkEntry<A>, AllocError>
     ensures { IfOk result (λ pending. waypoint pending ≡ waypoint_at from path.now) }
 {
     let text = match std::str::from_utf8(path) {
@@ -358,7 +358,14 @@ impl<A: Allocator> Walk<A> {
     {
         let in_package = are_of_package(names.as_slice());
         while let Some(name) = names.pop() {
-            self.push_name(alloc, selection, in_package, from, directory, name.as_slice())?;
+            self.push_name(
+                alloc,
+                selection,
+                in_package,
+                from,
+                directory,
+                name.as_slice(),
+            )?;
         }
         Ok(())
     }

@@ -140,7 +140,11 @@ fn is_wanted(selection: Selection<'_>, in_package: bool, name: &[u8]) -> bool {
 }
 
 /// Returns the path of a name in a directory.
-fn path_in<A: Allocator>(alloc: A, directory: &str, name: &[u8]) -> Result<Vec<u8, A>, AllocError> {
+pub(crate) fn path_in<A: Allocator>(
+    alloc: A,
+    directory: &str,
+    name: &[u8],
+) -> Result<Vec<u8, A>, AllocError> {
     let mut path = Vec::new(alloc);
     path.extend_from_slice(directory.as_bytes())?;
     if !is_directory(directory.as_bytes()) {
@@ -179,11 +183,7 @@ fn is_pruned(selection: Selection<'_>, from: usize, path: &[u8]) -> bool {
 }
 
 /// Returns the entry to visit for a path below the directory that the user passed. `from` is the length of this directory.
-fn pending_of<A: Allocator>(
-    alloc: A,
-    from: usize,
-    path: &[u8],
-) -> Result<WalkEntry<A>, AllocError> {
+fn pending_of<A: Allocator>(alloc: A, from: usize, path: &[u8]) -> Result<WalkEntry<A>, AllocError> {
     let text = match crate::rattle_std::str::from_utf8(path) {
         Ok(text) => String::from_str(alloc, text)?,
         Err(_) => return Ok(WalkEntry::BadPath(escaped(alloc, path)?)),
@@ -282,7 +282,14 @@ impl<A: Allocator> Walk<A> {
         A: Copy, {
         let in_package = are_of_package(names.as_slice());
         while let Some(name) = names.pop() {
-            self.push_name(alloc, selection, in_package, from, directory, name.as_slice())?;
+            self.push_name(
+                alloc,
+                selection,
+                in_package,
+                from,
+                directory,
+                name.as_slice(),
+            )?;
         }
         Ok(())
     }
