@@ -1,39 +1,42 @@
 -- Lemmas about the order of names, and about the steps of a walk.
-use Rattle.std.proofs.Common.{◌≡◌, inl, inr, ℕ, ◌+◌, ◌<◌, List, [], ◌∷◌, ◌++◌, length, refl, sym, ap, ◌∙◌, subst, arith, string_bytes}
-use Rattle.std.specs.Prelude.{String, Option, Some, None, Ok, Err, IfSome, ◌⊎◌}
+use Rattle.std.proofs.Common.{◌≡◌, inl, inr, ℕ, ◌+◌, ◌<◌, List, [], ◌∷◌, ◌++◌, length, refl, sym, ap, ◌∙◌, subst, arith}
+use Rattle.std.specs.Prelude.{Vec, Option, Some, None, Ok, Err, IfSome, ◌⊎◌}
 use Rattle.std.specs.List.Sorted.{IsSorted, IsPermutation}
 use Rattle.std.specs.Cmp.Lexicographic.{slice_cmp}
 use Rattle.std.specs.Ordering.{nat_cmp}
-use Rattle.std.specs.String.{string_cmp}
+use Rattle.std.specs.declared.cmp.Ordering.{Ordering}
 use Rattle.std.proofs.lemmas.List.{get_or-map, length-map}
 use Rattle.std.proofs.lemmas.List.Sorted.{IsPermutation-map}
-use Rattle.rl_files.specs.Trees.{World, string_texts}
+use Rattle.rl_files.specs.Trees.{World, names_bytes}
 use Rattle.rl_files.specs.declared.walk.Selection.{Selection}
 use Rattle.rl_files.specs.declared.walk.WalkError.TheVariants.{TooManyDirectories}
 use Rattle.rl_files.specs.declared.tree.PathError.{PathError}
-use Rattle.rl_files.specs.declared.tree.PathError.TheVariants.{NotADirectory, OutOfMemory, NameNotUtf8, PathNotUtf8}
-use Rattle.rl_files.specs.Walks.{Waypoint, AtDirectory, AtFile, AtBadName, AtBadPath, Visited, FileAt, ErrorAt, Visits, VisitsNothing, VisitsFile, VisitsBadName, VisitsBadPath, EntersDirectory, MissesDirectory, IsGivenFile, WalksOn, VisitsFirst, VisitsNone, EntersInOrder, EntersInTurn, EntersNone, EntersNext, EndsEarly, given_length, waypoints_in}
+use Rattle.rl_files.specs.declared.tree.PathError.TheVariants.{NotADirectory, OutOfMemory, PathNotUtf8}
+use Rattle.rl_files.specs.Walks.{Waypoint, AtDirectory, AtFile, AtBadPath, Visited, FileAt, ErrorAt, Visits, VisitsNothing, VisitsFile, VisitsBadPath, EntersDirectory, MissesDirectory, IsGivenFile, WalksOn, VisitsFirst, VisitsNone, EntersInOrder, EntersInTurn, EntersNone, EntersNext, EndsEarly, given_length, waypoints_in}
 
--- If strings are in order, the lists of their bytes are in order.
-pub texts_sorted : {A : Type 0} (xs : List (String A)) → IsSorted string_cmp xs
-    → IsSorted (slice_cmp nat_cmp) (string_texts xs)
+-- If names are in order, the lists of their bytes are in order.
+abbrev pub name_cmp : {A : Type 0} → Vec ℕ A → Vec ℕ A → Ordering
+name_cmp x y = slice_cmp nat_cmp x.items y.items
+
+pub texts_sorted : {A : Type 0} (xs : List (Vec ℕ A)) → IsSorted name_cmp xs
+    → IsSorted (slice_cmp nat_cmp) (names_bytes xs)
 texts_sorted [] h k d low high = absurd (omega arith)
 texts_sorted {A} (x ∷ xs) h k d low high =
     let short : k + 1 < length (x ∷ xs) = subst (λ (n : ℕ). k + 1 < n)
-    (length-map (x ∷ xs) (λ (s : String A). string_bytes s)) high in
-    let second = get_or-map (λ (s : String A). string_bytes s) (x ∷ xs) (k + 1) x d short in
-    let first = get_or-map (λ (s : String A). string_bytes s) (x ∷ xs) k x d (omega (arith, short)) in
+    (length-map (x ∷ xs) (λ (s : Vec ℕ A). s.items)) high in
+    let second = get_or-map (λ (s : Vec ℕ A). s.items) (x ∷ xs) (k + 1) x d short in
+    let first = get_or-map (λ (s : Vec ℕ A). s.items) (x ∷ xs) k x d (omega (arith, short)) in
     rw (second, first) (h k x low short)
 
 -- The sorted names of a directory become the entries that the walk visits next.
-pub enters : {A : Type 0} (selection : Selection) (from : ℕ) (directory : List ℕ) (names sorted : List (String A)) (old new : List Waypoint)
-    → IsPermutation names sorted → IsSorted string_cmp sorted → new
-    ≡ waypoints_in selection from directory (string_texts sorted)
-    ++ old → EntersInOrder selection from directory (string_texts names) old new
+pub enters : {A : Type 0} (selection : Selection) (from : ℕ) (directory : List ℕ) (names sorted : List (Vec ℕ A)) (old new : List Waypoint)
+    → IsPermutation names sorted → IsSorted name_cmp sorted → new
+    ≡ waypoints_in selection from directory (names_bytes sorted)
+    ++ old → EntersInOrder selection from directory (names_bytes names) old new
 enters {A} selection from directory names sorted old new same inorder is = (
-  string_texts sorted,
+  names_bytes sorted,
   (
-    IsPermutation-map (λ (s : String A). string_bytes s) names sorted same,
+    IsPermutation-map (λ (s : Vec ℕ A). s.items) names sorted same,
     texts_sorted sorted
         inorder,
   ),
@@ -56,13 +59,6 @@ pub go_file : (selection : Selection) (holds : Option World) (old mid rest : Lis
 go_file selection None old mid rest path on is = tt
 go_file selection (Some w) old mid rest path on is = λ visited m. on (FileAt path ∷ visited)
     (subst (λ (z : List Waypoint). Visits selection w z (FileAt path ∷ visited)) (sym is) (VisitsFile m))
-
--- If the next entry of a walk is a name that isn't UTF-8, the walk reports the name.
-pub go_bad_name : (selection : Selection) (holds : Option World) (old mid rest : List Waypoint) (path : List ℕ) → WalksOn selection holds old mid → mid
-    ≡ AtBadName path ∷ rest → VisitsFirst selection holds old (ErrorAt path NameNotUtf8) rest
-go_bad_name selection None old mid rest path on is = tt
-go_bad_name selection (Some w) old mid rest path on is = λ visited m. on (ErrorAt path NameNotUtf8 ∷ visited)
-    (subst (λ (z : List Waypoint). Visits selection w z (ErrorAt path NameNotUtf8 ∷ visited)) (sym is) (VisitsBadName m))
 
 -- If the next entry of a walk is a path that isn't UTF-8, the walk reports the path.
 pub go_bad_path : (selection : Selection) (holds : Option World) (old mid rest : List Waypoint) (path : List ℕ) → WalksOn selection holds old mid → mid
@@ -103,8 +99,6 @@ go_enter selection (Some w) old mid rest new given path names on is found (sorte
 pub some_visits : (selection : Selection) (w : World) (waypoints : List Waypoint) → (visits : List Visited) × Visits selection w waypoints visits
 some_visits selection w [] = ([], VisitsNothing)
 some_visits selection w (AtFile path ∷ rest) = let more = some_visits selection w rest in (FileAt path ∷ more.0, VisitsFile more.1)
-some_visits selection w (AtBadName path ∷ rest) = let more = some_visits selection w rest in
-    (ErrorAt path NameNotUtf8 ∷ more.0, VisitsBadName more.1)
 some_visits selection w (AtBadPath path ∷ rest) = let more = some_visits selection w rest in
     (ErrorAt path PathNotUtf8 ∷ more.0, VisitsBadPath more.1)
 some_visits selection w (AtDirectory given path ∷ rest) = let more = some_visits selection w rest in

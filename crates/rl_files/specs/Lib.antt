@@ -1,5 +1,6 @@
 pub mod Trees
 pub mod Walks
+pub mod Entries
 pub mod MemoryTrees
 pub mod Replacements
 pub mod SystemErrors

@@ -1,12 +1,12 @@
 -- The contents of a tree of files. Paths, names and contents are lists of bytes.
-use Rattle.std.specs.Prelude.{◌≡◌, ◌⊎◌, ℕ, List, map, String, string_bytes, Option, IfSome}
+use Rattle.std.specs.Prelude.{◌≡◌, ◌⊎◌, ℕ, List, map, String, string_bytes, Vec, Option, IfSome}
 use Rattle.std.specs.declared.result.Result.{Result}
 use Rattle.std.specs.declared.result.Result.TheVariants.{Ok, Err}
 use Rattle.rl_files.specs.declared.tree.PathError.{PathError}
 use Rattle.rl_files.specs.declared.tree.PathError.TheVariants.{OutOfMemory}
 
 -- The contents of a tree of files. `bytes` returns the bytes of the file at a path, or the reason why it can't be read. `names`
--- returns the names in a directory, in any order. A directory's name ends with a slash, and a name that isn't UTF-8 is empty.
+-- returns the names in a directory, in any order. If the name of a directory is UTF-8, a slash follows it.
 pub record World : Type 0 where
   pub bytes : List ℕ → Result (List ℕ) PathError
   pub names : List ℕ → Result (List (List ℕ)) PathError
@@ -20,3 +20,7 @@ Finds holds look (Err error) = (error ≡ OutOfMemory) ⊎ IfSome holds (λ w. l
 -- The bytes of each string in a list.
 abbrev pub string_texts : {A : Type 0} → List (String A) → List (List ℕ)
 string_texts names = map string_bytes names
+
+-- The bytes of each name in a list.
+abbrev pub names_bytes : {A : Type 0} → List (Vec ℕ A) → List (List ℕ)
+names_bytes names = map (λ name. name.items) names

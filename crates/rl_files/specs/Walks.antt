@@ -1,23 +1,25 @@
 -- A walk through directories: the files that it visits, and their order.
-use Rattle.std.specs.Prelude.{◌≡◌, ◌⊎◌, ℕ, ◌==◌, Bool, cond, not, ◌&&◌, ◌||◌, ◌+◌, ◌-◌, List, [], ◌∷◌, ◌++◌, map, take, drop, length, codes, string_bytes, Option, Some, None, IfSome, ⊤}
+use Rattle.std.specs.Prelude.{◌≡◌, ◌⊎◌, ℕ, ◌==◌, Bool, false, cond, not, ◌&&◌, ◌||◌, ◌+◌, ◌-◌, List, [], ◌∷◌, ◌++◌, map, take, drop, length, codes, string_bytes, Option, Some, None, IfSome, ⊤}
+use Prim.Native.Char.{code}
+use Rattle.std.specs.Char.{is_ascii}
 use Rattle.std.specs.Fmt.{decimal}
-use Rattle.std.specs.List.{starts_with, ends_with, flat_map, list_any}
-use Rattle.std.specs.Str.{bytes_eq}
+use Rattle.std.specs.List.{starts_with, ends_with, flat_map, list_all, list_any}
+use Rattle.std.specs.Str.{bytes_eq, is_utf8}
 use Rattle.std.specs.List.Sorted.{IsSorted, IsPermutation}
 use Rattle.std.specs.Cmp.Lexicographic.{slice_cmp}
 use Rattle.std.specs.Ordering.{nat_cmp}
 use Rattle.std.specs.declared.result.Result.TheVariants.{Ok, Err}
 use Rattle.rl_files.specs.declared.tree.PathError.{PathError}
-use Rattle.rl_files.specs.declared.tree.PathError.TheVariants.{NotFound, PermissionDenied, IsADirectory, NotADirectory, PathTooLong, NameNotUtf8, PathNotUtf8, NotUtf8, TooLong, OutOfMemory, NotAFile, Changed, NoRoom, ReadOnly, DirectoryDenied, OwnerChanges, ReadFailed, WriteFailed}
+use Rattle.rl_files.specs.declared.tree.PathError.TheVariants.{NotFound, PermissionDenied, IsADirectory, NotADirectory, PathTooLong, PathNotUtf8, NotUtf8, TooLong, OutOfMemory, NotAFile, Changed, NoRoom, ReadOnly, DirectoryDenied, OwnerChanges, ReadFailed, WriteFailed}
 use Rattle.rl_files.specs.declared.walk.WalkError.{WalkError}
 use Rattle.rl_files.specs.declared.walk.WalkError.TheVariants as walk
 use Rattle.rl_files.specs.declared.walk.WalkEntry.{WalkEntry}
-use Rattle.rl_files.specs.declared.walk.WalkEntry.TheVariants.{Directory, File, BadName, BadPath}
+use Rattle.rl_files.specs.declared.walk.WalkEntry.TheVariants.{Directory, File, BadPath}
 use Rattle.rl_files.specs.declared.walk.Selection.{Selection}
 use Rattle.rl_files.specs.declared.walk.Visit.{Visit}
 use Rattle.rl_files.specs.declared.walk.Visit.TheVariants as visit
 use Rattle.rl_files.specs.Globs.{is_excluded, borrowed_texts}
-use Rattle.rl_files.specs.PathTexts.{is_marked, unmarked}
+use Rattle.rl_files.specs.PathTexts.{bytes_shown, is_marked, unmarked}
 use Rattle.rl_files.specs.Trees.{World}
 
 -- The message of the reason why a path can't be read, or why its file can't be replaced.
@@ -27,7 +29,6 @@ path_error_message PermissionDenied = codes "permission denied"
 path_error_message IsADirectory = codes "is a directory"
 path_error_message NotADirectory = codes "not a directory"
 path_error_message PathTooLong = codes "path too long"
-path_error_message NameNotUtf8 = codes "skipped a name that is not UTF-8"
 path_error_message PathNotUtf8 = codes "skipped a path that is not UTF-8"
 path_error_message (NotUtf8 at) = codes "not UTF-8 at byte " ++ decimal at
 path_error_message TooLong = codes "longer than 1 GiB"
@@ -46,7 +47,7 @@ abbrev pub walk_error_message : WalkError → List ℕ
 walk_error_message walk.OutOfMemory = codes "out of memory"
 walk_error_message walk.TooManyDirectories = codes "too many directories"
 
--- Whether a name is that of a directory: the name ends with a slash.
+-- Whether a name or a path is that of a directory: it ends with a slash.
 abbrev pub is_directory : List ℕ → Bool
 is_directory name = ends_with ◌==◌ name (codes "/")
 
@@ -69,12 +70,26 @@ is_left_out in_package name =
 abbrev pub has_one_of : List (List ℕ) → List ℕ → Bool
 has_one_of extensions name = list_any (λ extension. has_extension extension name) extensions
 
+-- Whether a dot is in a list of bytes, with only ASCII after the dot.
+abbrev pub has_dot_before_ascii : List ℕ → Bool
+has_dot_before_ascii [] = false
+has_dot_before_ascii (b ∷ bs) = ((b == code ".") && list_all is_ascii bs) || has_dot_before_ascii bs
+
+-- Whether a name has an extension in ASCII: a dot that isn't the first byte, and only ASCII after the dot.
+abbrev pub has_ascii_extension : List ℕ → Bool
+has_ascii_extension name = has_dot_before_ascii (drop 1 name)
+
+-- Whether a name that isn't UTF-8 may be the name of a directory: it has no extension in ASCII.
+abbrev pub may_be_directory : List ℕ → Bool
+may_be_directory name = not (is_utf8 name) && not (has_ascii_extension name)
+
 -- Whether a walk visits a name. Directories and files with a selected extension are visited, unless the name is left
--- out. A name that isn't UTF-8 is empty, and is visited to be reported.
+-- out. A name that isn't UTF-8 is visited to be reported, if it may be the name of a directory, or of a file with a
+-- selected extension.
 abbrev pub is_wanted : Selection → Bool → List ℕ → Bool
 is_wanted selection in_package name =
     (selection.all || not (is_left_out in_package name))
-    && (is_directory name || (has_one_of (borrowed_texts selection.extensions.now) name || (length name == 0)))
+    && (is_directory name || (has_one_of (borrowed_texts selection.extensions.now) name || may_be_directory name))
 
 -- The path of a name in a directory.
 abbrev pub path_in : List ℕ → List ℕ → List ℕ
@@ -82,12 +97,11 @@ path_in directory name = cond (is_directory directory) directory (directory ++ c
 
 -- An entry that a walk still has to visit. `AtDirectory` is the path of a directory below one that the user passed,
 -- with the length of the passed directory in the path. Without that length, the user passed the path itself, which may
--- also be a file. `AtFile` is a file. `AtBadName` is a directory with a name that isn't UTF-8. `AtBadPath` is a path
--- that the user passed and that isn't UTF-8, with its bytes escaped.
+-- also be a file. `AtFile` is a file. `AtBadPath` is a path that isn't UTF-8, which the user passed or which is in a
+-- directory. Its bytes are escaped.
 pub data Waypoint : Type 0 where
   AtDirectory : (from : Option ℕ) → (path : List ℕ) → Waypoint
   AtFile : (path : List ℕ) → Waypoint
-  AtBadName : (directory : List ℕ) → Waypoint
   AtBadPath : (path : List ℕ) → Waypoint
 
 -- A result of a walk: a file to read, or a path that can't be read.
@@ -98,7 +112,6 @@ pub data Visited : Type 0 where
 abbrev pub waypoint : {A : Type 0} → WalkEntry A → Waypoint
 waypoint (Directory from path) = AtDirectory from (string_bytes path)
 waypoint (File path) = AtFile (string_bytes path)
-waypoint (BadName directory) = AtBadName (string_bytes directory)
 waypoint (BadPath path) = AtBadPath (string_bytes path)
 
 abbrev pub visited : {A : Type 0} → Visit A → Visited
@@ -119,10 +132,11 @@ abbrev pub given_length : Option ℕ → List ℕ → ℕ
 given_length None path = cond (is_directory path) (length path) (length path + 1)
 given_length (Some from) path = from
 
--- The entry to visit for a name in a directory. `from` is the length of the directory that the user passed.
-abbrev pub waypoint_of : ℕ → List ℕ → List ℕ → Waypoint
-waypoint_of from directory name = cond (is_directory name) (AtDirectory (Some from) (path_in directory name))
-    (cond (length name == 0) (AtBadName directory) (AtFile (path_in directory name)))
+-- The entry to visit for a path below the directory that the user passed. `from` is the length of this directory.
+abbrev pub waypoint_at : ℕ → List ℕ → Waypoint
+waypoint_at from path = cond (is_utf8 path)
+    (cond (is_directory path) (AtDirectory (Some from) path) (AtFile path))
+    (AtBadPath (bytes_shown path))
 
 -- Whether an excluding pattern matches the path of a name in a directory. The first `from` bytes of the path aren't
 -- compared.
@@ -134,7 +148,7 @@ is_pruned selection from directory name =
 abbrev pub waypoints_of : Selection → Bool → ℕ → List ℕ → List ℕ → List Waypoint
 waypoints_of selection in_package from directory name =
     cond (is_wanted selection in_package name && not (is_pruned selection from directory name))
-    (waypoint_of from directory name ∷ []) []
+    (waypoint_at from (path_in directory name) ∷ []) []
 
 -- The entries to visit for the names in a directory.
 abbrev pub waypoints_in : Selection → ℕ → List ℕ → List (List ℕ) → List Waypoint
@@ -151,8 +165,6 @@ pub data Visits (selection : Selection) (w : World) : List Waypoint → List Vis
   VisitsNothing : Visits selection w [] []
   VisitsFile : {path : List ℕ} {rest : List Waypoint} {visits : List Visited} → Visits selection w rest visits
       → Visits selection w (AtFile path ∷ rest) (FileAt path ∷ visits)
-  VisitsBadName : {directory : List ℕ} {rest : List Waypoint} {visits : List Visited} → Visits selection w rest visits
-      → Visits selection w (AtBadName directory ∷ rest) (ErrorAt directory NameNotUtf8 ∷ visits)
   VisitsBadPath : {path : List ℕ} {rest : List Waypoint} {visits : List Visited} → Visits selection w rest visits
       → Visits selection w (AtBadPath path ∷ rest) (ErrorAt path PathNotUtf8 ∷ visits)
   EntersDirectory : {from : Option ℕ} {path : List ℕ} {rest : List Waypoint} {visits : List Visited}

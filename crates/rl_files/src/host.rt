@@ -1,14 +1,16 @@
 //! Files of the operating system.
 
-ghost use Rattle.std.specs.Prelude.{◌≡◌, ◌≢◌, ◌<◌, ◌≤◌, length, IfOk, IfErr, IfSome};
+ghost use Rattle.std.specs.Prelude.{◌≡◌, ◌≢◌, ◌<◌, ◌≤◌, length, string_bytes, IfOk, IfErr, IfSome};
 ghost use Rattle.rl_files.specs.SystemErrors.{read_error};
+ghost use Rattle.rl_files.specs.Entries.{is_dots as dots, with_slash as slash_after};
 
 use crate::replace::Replace;
 use crate::tree::{PathError, Tree};
+use crate::walk::path_in;
 use crate::whole_file::replace_file;
-use std::alloc::Allocator;
-use std::fs::{DirEntry, File};
-use std::io::{ErrorKind, Read};
+use std::alloc::{AllocError, Allocator};
+use std::fs::File;
+use std::io::{BufRead, BufReader, ErrorKind, Read};
 use std::rt::Files;
 use std::{fs, io};
 
@@ -35,45 +37,6 @@ pub(crate) fn error_of(kind: ErrorKind) -> PathError
         ErrorKind::InvalidFilename => PathError::PathTooLong,
         ErrorKind::OutOfMemory => PathError::OutOfMemory,
         _ => PathError::ReadFailed,
-    }
-}
-
-/// Whether `error` is the standard library's own error for a name that isn't UTF-8.
-pub(crate) fn is_bad_name(error: &io::Error) -> bool {
-    error.kind() == ErrorKind::InvalidFilename && error.raw_os_error().is_none()
-}
-
-/// Returns the name of a directory's entry: a file's name, or a directory's name and a slash. Returns `None` for links and devices,
-/// and for an entry that has vanished since it was listed.
-fn name_of_entry<A: Allocator, R: Files, B: Allocator>(
-    alloc: A,
-    entry: &DirEntry<R, B>,
-) -> io::Result<Option<String<A>>> {
-    let kind = match entry.file_type() {
-        Ok(kind) => kind,
-        Err(e) if e.kind() == ErrorKind::NotFound => return Ok(None),
-        Err(e) => return Err(e),
-    };
-    if !kind.is_dir() && !kind.is_file() {
-        return Ok(None);
-    }
-    let mut name = String::from_str(alloc, entry.file_name())?;
-    if kind.is_dir() {
-        name.push('/')?;
-    }
-    Ok(Some(name))
-}
-
-/// Returns the name of a directory's entry: a file's name, or a directory's name and a slash. It is empty if the name isn't UTF-8.
-/// Returns `None` for links and devices, and for an entry that has vanished since it was listed.
-fn name_of<A: Allocator, R: Files + Drop, B: Allocator>(
-    alloc: A,
-    entry: io::Result<DirEntry<R, B>>,
-) -> io::Result<Option<String<A>>> {
-    match entry {
-        Ok(entry) => name_of_entry(alloc, &entry),
-        Err(e) if is_bad_name(&e) => Ok(Some(String::new(alloc))),
-        Err(e) => Err(e),
     }
 }
 
@@ -105,29 +68,81 @@ fn is_too_long<R: Files>(rt: &R, path: &str) -> bool {
     }
 }
 
-/// Returns the names of the files and directories in a directory. A directory's name ends with a slash. A name that isn't UTF-8 is
+/// Returns the path of a directory with a slash at its end, so that the system follows a link to a directory. An empty path stays
 /// empty.
-fn list_directory<A: Allocator + Copy, R: Files + Alloc + Clone + Drop>(
+fn with_slash<A: Allocator>(alloc: A, path: &str) -> Result<String<A>, AllocError>
+    ensures { IfOk result (λ directory. string_bytes directory ≡ slash_after path.now) }
+{
+    let mut directory = String::from_str(alloc, path)?;
+    if !path.is_empty() && !path.as_bytes().ends_with(b"/".as_slice()) {
+        directory.push('/')?;
+    }
+    Ok(directory)
+}
+
+/// Whether a name in a directory is `.` or `..`: the directory itself, or the directory that contains it.
+fn is_dots(name: &[u8]) -> bool
+    ensures { result ≡ dots name.now }
+{
+    name == b".".as_slice() || name == b"..".as_slice()
+}
+
+/// Returns `true` for a directory and `false` for a file. Returns `None` for a link or a device, and for a path that has vanished
+/// since it was listed.
+fn directory_or_file<R: Files>(rt: &R, path: &str) -> io::Result<Option<bool>> {
+    match fs::symlink_metadata(rt, path) {
+        Ok(about) if about.is_dir() => Ok(Some(true)),
+        Ok(about) if about.is_file() => Ok(Some(false)),
+        Ok(_) => Ok(None),
+        Err(e) if e.kind() == ErrorKind::NotFound => Ok(None),
+        Err(e) => Err(e),
+    }
+}
+
+/// Appends a name in a directory to `names`, unless it is `.` or `..`, or the name of a link or a device. A slash follows the name of
+/// a directory. If the name isn't UTF-8, it is appended unchanged, because the standard library asks the system only about paths
+/// that are UTF-8.
+fn push_entry<A: Allocator + Copy, R: Files>(
+    rt: &R,
+    alloc: A,
+    directory: &str,
+    mut name: Vec<u8, A>,
+    names: &mut Vec<Vec<u8, A>, A>,
+) -> io::Result<()> {
+    if is_dots(name.as_slice()) {
+        return Ok(());
+    }
+    let path = path_in(alloc, directory, name.as_slice())?;
+    if let Ok(path) = std::str::from_utf8(path.as_slice()) {
+        match directory_or_file(rt, path)? {
+            Some(true) => name.push(b'/')?,
+            Some(false) => {}
+            None => return Ok(()),
+        }
+    }
+    names.push(name)?;
+    Ok(())
+}
+
+/// Returns the names of the files and directories in a directory. A slash follows the name of a directory, if the name is UTF-8.
+///
+/// The system returns the names as one text, in which a NUL ends each name. It returns only whole names, so each read needs space for
+/// the longest name. A `BufReader` reads 8,192 bytes at once.
+fn list_directory<A: Allocator + Copy, R: Files>(
     rt: &R,
     alloc: A,
     path: &str,
-) -> io::Result<Vec<String<A>, A>>
-where
-    R::A: Clone,
-{
+) -> io::Result<Vec<Vec<u8, A>, A>> {
     let mut names = Vec::new(alloc);
-    for entry in fs::read_dir(rt, path)? {
-        if let Some(name) = name_of(alloc, entry)? {
-            names.push(name)?;
-        }
+    let directory = with_slash(alloc, path)?;
+    let entries = rt.open_dir(directory.as_str())?;
+    for name in BufReader::new(alloc, entries)?.split(alloc, 0) {
+        push_entry(rt, alloc, directory.as_str(), name?, &mut names)?;
     }
     Ok(names)
 }
 
-impl<R: Files + Input + Alloc + Clone + Drop> Tree for Host<'_, R>
-where
-    R::A: Clone,
-{
+impl<R: Files + Input> Tree for Host<'_, R> {
     ghost use Rattle.std.specs.Prelude.{None};
 
     ghost holds = { λ _. None };
@@ -149,7 +164,7 @@ where
         &self,
         alloc: A,
         path: &str,
-    ) -> Result<Vec<String<A>, A>, PathError> {
+    ) -> Result<Vec<Vec<u8, A>, A>, PathError> {
         if path == "-" {
             return Err(PathError::NotADirectory);
         }

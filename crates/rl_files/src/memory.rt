@@ -2,7 +2,7 @@
 
 ghost use Rattle.std.specs.Prelude.{◌≡◌, IfOk};
 ghost use Rattle.rl_files.specs.Replacements.{replacing, replacement_of, why_unwritable};
-ghost use Rattle.rl_files.specs.Trees.{string_texts};
+ghost use Rattle.rl_files.specs.Trees.{names_bytes};
 ghost use Rattle.rl_files.specs.MemoryTrees.{held, listed, words, file_at, directory_at};
 
 use crate::replace::Replace;
@@ -24,7 +24,7 @@ pub struct MemoryDirectory<'a> {
     /// The path of the directory.
     pub path: &'a str,
     /// The names in the directory, or the reason why they can't be read.
-    pub names: Result<&'a [&'a str], PathError>,
+    pub names: Result<&'a [&'a [u8]], PathError>,
 }
 
 /// Files and directories in memory.
@@ -54,7 +54,7 @@ fn find_file<'a>(files: &[MemoryFile<'a>], path: &str) -> Result<&'a [u8], PathE
 fn find_directory<'a>(
     directories: &[MemoryDirectory<'a>],
     path: &str,
-) -> Result<&'a [&'a str], PathError>
+) -> Result<&'a [&'a [u8]], PathError>
     ensures { listed result ≡ directory_at directories.now path.now }
 {
     let mut rest = directories;
@@ -79,14 +79,14 @@ fn copy_bytes<A: Allocator>(alloc: A, bytes: &[u8]) -> Result<Vec<u8, A>, AllocE
 /// Returns a copy of the names `names`, in memory from `alloc`.
 fn copy_names<A: Allocator + Copy>(
     alloc: A,
-    names: &[&str],
-) -> Result<Vec<String<A>, A>, AllocError>
-    ensures { IfOk result (λ copy. string_texts copy.items ≡ words names.now) }
+    names: &[&[u8]],
+) -> Result<Vec<Vec<u8, A>, A>, AllocError>
+    ensures { IfOk result (λ copy. names_bytes copy.items ≡ words names.now) }
 {
     let mut copy = Vec::new(alloc);
     let mut rest = names;
     while let [name, after @ ..] = rest {
-        copy.push(String::from_str(alloc, name)?)?;
+        copy.push(copy_bytes(alloc, name)?)?;
         rest = after;
     }
     Ok(copy)
@@ -112,7 +112,7 @@ impl Tree for MemoryTree<'_> {
         &self,
         alloc: A,
         path: &str,
-    ) -> Result<Vec<String<A>, A>, PathError> {
+    ) -> Result<Vec<Vec<u8, A>, A>, PathError> {
         match find_directory(self.directories, path) {
             Ok(names) => match copy_names(alloc, names) {
                 Ok(copy) => Ok(copy),

@@ -1,7 +1,7 @@
 //! Represents paths as texts. A path that isn't UTF-8 is represented by its escaped bytes and a NUL, which no path contains.
 
 ghost use Rattle.std.specs.Prelude.{◌≡◌, ◌++◌, OnOk, IfOk, MatchOption, false, true, string_bytes};
-ghost use Rattle.rl_files.specs.PathTexts.{byte_shown, is_marked as marked, path_text as text_of, shown_path, unmarked};
+ghost use Rattle.rl_files.specs.PathTexts.{byte_shown, bytes_shown, is_marked as marked, path_text as text_of, unmarked};
 
 use std::alloc::{AllocError, Allocator};
 
@@ -16,9 +16,9 @@ fn push_byte<A: Allocator>(out: &mut String<A>, byte: u8) -> Result<(), AllocErr
     write!(out, "\\x{byte:02x}")
 }
 
-/// Returns the escaped bytes of a path that isn't UTF-8, and a NUL.
-fn escaped<A: Allocator>(alloc: A, bytes: &[u8]) -> Result<String<A>, AllocError>
-    ensures { IfOk result (λ text. string_bytes text ≡ shown_path bytes.now) }
+/// Returns the escaped bytes of a path that isn't UTF-8.
+pub(crate) fn escaped<A: Allocator>(alloc: A, bytes: &[u8]) -> Result<String<A>, AllocError>
+    ensures { IfOk result (λ text. string_bytes text ≡ bytes_shown bytes.now) }
 {
     let mut text = String::new(alloc);
     let mut rest = bytes;
@@ -26,7 +26,6 @@ fn escaped<A: Allocator>(alloc: A, bytes: &[u8]) -> Result<String<A>, AllocError
         push_byte(&mut text, *byte)?;
         rest = after;
     }
-    text.push('\0')?;
     Ok(text)
 }
 
@@ -41,7 +40,11 @@ pub fn path_text<A: Allocator>(alloc: A, bytes: &[u8]) -> Result<String<A>, Allo
 {
     match std::str::from_utf8(bytes) {
         Ok(text) => String::from_str(alloc, text),
-        Err(_) => escaped(alloc, bytes),
+        Err(_) => {
+            let mut text = escaped(alloc, bytes)?;
+            text.push('\0')?;
+            Ok(text)
+        }
     }
 }
 

@@ -16,9 +16,7 @@ pub enum PathError {
     NotADirectory,
     /// The path is longer than the system allows.
     PathTooLong,
-    /// A name in the directory isn't UTF-8.
-    NameNotUtf8,
-    /// The path isn't UTF-8.
+    /// The path, or the target of the link at the path, isn't UTF-8.
     PathNotUtf8,
     /// The file isn't UTF-8. The field is the offset of the first invalid byte.
     NotUtf8(usize),
@@ -57,7 +55,6 @@ impl fmt::Display for PathError {
             PathError::IsADirectory => write!(f, "is a directory"),
             PathError::NotADirectory => write!(f, "not a directory"),
             PathError::PathTooLong => write!(f, "path too long"),
-            PathError::NameNotUtf8 => write!(f, "skipped a name that is not UTF-8"),
             PathError::PathNotUtf8 => write!(f, "skipped a path that is not UTF-8"),
             PathError::NotUtf8(at) => write!(f, "not UTF-8 at byte {at}"),
             PathError::TooLong => write!(f, "longer than 1 GiB"),
@@ -79,7 +76,7 @@ pub trait Tree {
     ghost use Rattle.std.specs.Prelude.{map, string_bytes, Option, MatchResult, IfSome, ◌≡◌, ◌⊎◌};
     ghost use Rattle.std.specs.declared.result.Result.TheVariants.{Ok, Err};
     ghost use Rattle.rl_files.specs.declared.tree.PathError.TheVariants.{OutOfMemory};
-    ghost use Rattle.rl_files.specs.Trees.{World, string_texts};
+    ghost use Rattle.rl_files.specs.Trees.{World, names_bytes};
 
     ghost holds: { Self → Option World };
 
@@ -93,9 +90,10 @@ pub trait Tree {
             (λ found. IfSome (holds self.now) (λ w. w.bytes path.now ≡ Ok found.items))
             (λ error. (error ≡ OutOfMemory) ⊎ IfSome (holds self.now) (λ w. w.bytes path.now ≡ Err error)) };
 
-    /// Returns the names in the directory at a path, in any order.
+    /// Returns the names in the directory at a path, in any order. Each name is a list of bytes.
     ///
-    /// A directory's name ends with a slash. A name that isn't UTF-8 is an empty text. Links and devices are left out.
+    /// If the name of a directory is UTF-8, a slash follows it. If a name isn't UTF-8, the slash may be missing. Links and devices
+    /// are left out, except those with a name that isn't UTF-8.
     ///
     /// # Errors
     ///
@@ -105,8 +103,8 @@ pub trait Tree {
         &self,
         alloc: A,
         path: &str,
-    ) -> Result<Vec<String<A>, A>, PathError>
+    ) -> Result<Vec<Vec<u8, A>, A>, PathError>
         ensures { MatchResult result
-            (λ found. IfSome (holds self.now) (λ w. w.names path.now ≡ Ok (string_texts found.items)))
+            (λ found. IfSome (holds self.now) (λ w. w.names path.now ≡ Ok (names_bytes found.items)))
             (λ error. (error ≡ OutOfMemory) ⊎ IfSome (holds self.now) (λ w. w.names path.now ≡ Err error)) };
 }

@@ -1,12 +1,15 @@
 //! Walks through directories: determines the files to read, and their order.
 
 ghost use Rattle.std.specs.Prelude.{◌≡◌, ◌≢◌, None, [], ◌∷◌, ◌++◌, drop, OnOk, IfOk, MatchBool, MatchOption, MatchResult, string_bytes};
+ghost use Rattle.std.specs.Char.{is_ascii as ascii};
+ghost use Rattle.std.specs.List.{list_all};
+ghost use Rattle.std.specs.Str.{is_utf8 as utf8};
 ghost use Rattle.rl_files.specs.Globs.{is_excluded as excluded, borrowed_texts};
-ghost use Rattle.rl_files.specs.Trees.{string_texts};
-ghost use Rattle.rl_files.specs.Walks.{has_extension as has_ending, are_of_package as of_package, is_left_out as left_out, is_wanted as wanted, has_one_of as has_ending_of, is_directory as directory, given_length as base, path_in as path_of, waypoint, waypoint_of, visited, waypoints_of, waypoints_in, given_waypoint, given_waypoints, EndsEarly, EntersInOrder, WalksOn, VisitsFirst, VisitsNone};
+ghost use Rattle.rl_files.specs.Trees.{names_bytes, string_texts};
+ghost use Rattle.rl_files.specs.Walks.{has_extension as has_ending, has_ascii_extension as ends_in_ascii, are_of_package as of_package, is_left_out as left_out, is_wanted as wanted, has_one_of as has_ending_of, is_directory as directory, may_be_directory as maybe_directory, given_length as base, path_in as path_of, waypoint, waypoint_at, visited, waypoints_of, waypoints_in, given_waypoint, given_waypoints, EndsEarly, EntersInOrder, WalksOn, VisitsFirst, VisitsNone};
 
 use crate::glob::is_excluded;
-use crate::path_texts::escaped_non_utf8_path;
+use crate::path_texts::{escaped, escaped_non_utf8_path};
 use crate::tree::{PathError, Tree};
 use std::alloc::{AllocError, Allocator, Global};
 use std::fmt;
@@ -34,9 +37,7 @@ pub enum WalkEntry<A: Allocator = Global> {
     Directory(Option<usize>, String<A>),
     /// A file in a directory.
     File(String<A>),
-    /// A directory with a name that isn't UTF-8. The path is that of the directory.
-    BadName(String<A>),
-    /// A path that the user passed and that isn't UTF-8. Its bytes are escaped.
+    /// A path that isn't UTF-8, which the user passed or which is in a directory. Its bytes are escaped.
     BadPath(String<A>),
 }
 
@@ -88,24 +89,23 @@ impl<A: Allocator> Model for Walk<A> {
     ghost view = { λ w. reverse (map waypoint w.pending.items) };
 }
 
-/// Whether a name is that of a directory: it ends with a slash.
-fn is_directory(name: &str) -> bool
+/// Whether a name or a path is that of a directory: it ends with a slash.
+fn is_directory(name: &[u8]) -> bool
     ensures { result ≡ directory name.now }
 {
-    name.as_bytes().ends_with(b"/".as_slice())
+    name.ends_with(b"/".as_slice())
 }
 
 /// Whether a name ends with a dot and `extension`.
-fn has_extension(extension: &str, name: &str) -> bool
+fn has_extension(extension: &str, name: &[u8]) -> bool
     ensures { result ≡ has_ending extension.now name.now }
 {
-    let bytes = name.as_bytes();
     let ending = extension.as_bytes();
-    bytes.ends_with(ending) && bytes[..bytes.len() - ending.len()].ends_with(b".".as_slice())
+    name.ends_with(ending) && name[..name.len() - ending.len()].ends_with(b".".as_slice())
 }
 
 /// Whether a name ends with a dot and one of the `extensions`.
-fn has_one_of(extensions: &[&str], name: &str) -> bool
+fn has_one_of(extensions: &[&str], name: &[u8]) -> bool
     ensures { result ≡ has_ending_of (borrowed_texts extensions.now) name.now }
 {
     let mut rest = extensions;
@@ -119,12 +119,12 @@ fn has_one_of(extensions: &[&str], name: &str) -> bool
 }
 
 /// Whether the names in a directory include `Cargo.toml`, so that it is a Cargo package.
-fn are_of_package<A: Allocator>(names: &[String<A>]) -> bool
-    ensures { result ≡ of_package (string_texts names.now) }
+fn are_of_package<A: Allocator>(names: &[Vec<u8, A>]) -> bool
+    ensures { result ≡ of_package (names_bytes names.now) }
 {
     let mut rest = names;
     while let [name, after @ ..] = rest {
-        if name.as_str() == "Cargo.toml" {
+        if name.as_slice() == b"Cargo.toml".as_slice() {
             return true;
         }
         rest = after;
@@ -133,30 +133,71 @@ fn are_of_package<A: Allocator>(names: &[String<A>]) -> bool
 }
 
 /// Whether a name is left out: a hidden one, and in a Cargo package the directory `target`, into which Cargo builds.
-fn is_left_out(in_package: bool, name: &str) -> bool
+fn is_left_out(in_package: bool, name: &[u8]) -> bool
     ensures { result ≡ left_out in_package name.now }
 {
-    name.as_bytes().starts_with(b".".as_slice()) || in_package && name == "target/"
+    name.starts_with(b".".as_slice()) || in_package && name == b"target/".as_slice()
+}
+
+/// Whether all bytes are ASCII.
+fn is_ascii(bytes: &[u8]) -> bool
+    ensures { result ≡ list_all ascii bytes.now }
+{
+    bytes.iter().all(|b| b.is_ascii())
+}
+
+/// Whether a name has an extension in ASCII: a dot that isn't the first byte, and only ASCII after the dot.
+fn has_ascii_extension(name: &[u8]) -> bool
+    ensures { result ≡ ends_in_ascii name.now }
+{
+    let mut rest = bytes_from(name, 1);
+    while let [byte, after @ ..] = rest {
+        if *byte == b'.' && is_ascii(after) {
+            return true;
+        }
+        rest = after;
+    }
+    false
+}
+
+/// Whether bytes are UTF-8.
+#[tactic(auto, using(crate::proofs::PathTextLemmas::utf8_is, crate::proofs::PathTextLemmas::utf8_is_not))]
+fn is_utf8(bytes: &[u8]) -> bool
+    ensures { result ≡ utf8 bytes.now }
+{
+    std::str::from_utf8(bytes).is_ok()
+}
+
+/// Whether a name that isn't UTF-8 may be the name of a directory: it has no extension in ASCII.
+fn may_be_directory(name: &[u8]) -> bool
+    ensures { result ≡ maybe_directory name.now }
+{
+    !is_utf8(name) && !has_ascii_extension(name)
 }
 
 /// Whether a walk visits a name. Directories and files with a selected extension are visited, unless the name is left out. A name
-/// that isn't UTF-8 is visited to be reported.
-fn is_wanted(selection: Selection<'_>, in_package: bool, name: &str) -> bool
+/// that isn't UTF-8 is visited to be reported, if it may be the name of a directory, or of a file with a selected extension.
+fn is_wanted(selection: Selection<'_>, in_package: bool, name: &[u8]) -> bool
     ensures { result ≡ wanted selection.entry in_package name.now }
 {
     (selection.all || !is_left_out(in_package, name))
-        && (is_directory(name) || has_one_of(selection.extensions, name) || name.is_empty())
+        && (is_directory(name) || has_one_of(selection.extensions, name) || may_be_directory(name))
 }
 
 /// Returns the path of a name in a directory.
-fn path_in<A: Allocator>(alloc: A, directory: &str, name: &str) -> Result<String<A>, AllocError>
-    ensures { IfOk result (λ path. string_bytes path ≡ path_of directory.now name.now) }
+pub(crate) fn path_in<A: Allocator>(
+    alloc: A,
+    directory: &str,
+    name: &[u8],
+) -> Result<Vec<u8, A>, AllocError>
+    ensures { IfOk result (λ path. path.items ≡ path_of directory.now name.now) }
 {
-    let mut path = String::from_str(alloc, directory)?;
-    if !is_directory(directory) {
-        path.push_str("/")?;
+    let mut path = Vec::new(alloc);
+    path.extend_from_slice(directory.as_bytes())?;
+    if !is_directory(directory.as_bytes()) {
+        path.extend_from_slice(b"/".as_slice())?;
     }
-    path.push_str(name)?;
+    path.extend_from_slice(name)?;
     Ok(path)
 }
 
@@ -174,7 +215,7 @@ fn argument_len(from: Option<usize>, path: &str) -> usize
 {
     match from {
         Some(from) => from,
-        None if is_directory(path) => path.len(),
+        None if is_directory(path.as_bytes()) => path.len(),
         None => path.len() + 1,
     }
 }
@@ -190,31 +231,25 @@ fn bytes_from(bytes: &[u8], from: usize) -> &[u8]
 }
 
 /// Whether a pattern of `selection` excludes a path. The first `from` bytes of the path aren't compared.
-fn is_pruned(selection: Selection<'_>, from: usize, path: &str) -> bool
+fn is_pruned(selection: Selection<'_>, from: usize, path: &[u8]) -> bool
     ensures { result ≡ excluded (borrowed_texts selection.entry.excludes.now) (drop from path.now) }
 {
-    is_excluded(selection.excludes, bytes_from(path.as_bytes(), from))
+    is_excluded(selection.excludes, bytes_from(path, from))
 }
 
-/// Returns the entry to visit for a name in a directory. `path` is the path of the name, and `from` the length of the directory
-/// that the user passed.
-fn pending_of<A: Allocator>(
-    alloc: A,
-    from: usize,
-    directory: &str,
-    name: &str,
-    path: String<A>,
-) -> Result<WalkEntry<A>, AllocError>
-    requires { string_bytes path ≡ path_of directory.now name.now }
-    ensures { IfOk result (λ pending. waypoint pending ≡ waypoint_of from directory.now name.now) }
+/// Returns the entry to visit for a path below the directory that the user passed. `from` is the length of this directory.
+#[tactic(auto, using(crate::proofs::PathTextLemmas::utf8_is, crate::proofs::PathTextLemmas::utf8_is_not))]
+fn pending_of<A: Allocator>(alloc: A, from: usize, path: &[u8]) -> Result<WalkEntry<A>, AllocError>
+    ensures { IfOk result (λ pending. waypoint pending ≡ waypoint_at from path.now) }
 {
-    if is_directory(name) {
-        return Ok(WalkEntry::Directory(Some(from), path));
+    let text = match std::str::from_utf8(path) {
+        Ok(text) => String::from_str(alloc, text)?,
+        Err(_) => return Ok(WalkEntry::BadPath(escaped(alloc, path)?)),
+    };
+    if is_directory(path) {
+        return Ok(WalkEntry::Directory(Some(from), text));
     }
-    if name.len() == 0 {
-        return Ok(WalkEntry::BadName(String::from_str(alloc, directory)?));
-    }
-    Ok(WalkEntry::File(path))
+    Ok(WalkEntry::File(text))
 }
 
 /// Returns the entry to visit for a path that the user passed.
@@ -288,7 +323,7 @@ impl<A: Allocator> Walk<A> {
         in_package: bool,
         from: usize,
         directory: &str,
-        name: &str,
+        name: &[u8],
     ) -> Result<(), AllocError>
     where
         A: Copy,
@@ -299,10 +334,10 @@ impl<A: Allocator> Walk<A> {
             return Ok(());
         }
         let path = path_in(alloc, directory, name)?;
-        if is_pruned(selection, from, path.as_str()) {
+        if is_pruned(selection, from, path.as_slice()) {
             return Ok(());
         }
-        let pending = pending_of(alloc, from, directory, name, path)?;
+        let pending = pending_of(alloc, from, path.as_slice())?;
         self.push(pending)
     }
 
@@ -314,16 +349,23 @@ impl<A: Allocator> Walk<A> {
         selection: Selection<'_>,
         from: usize,
         directory: &str,
-        names: &mut Vec<String<A>, A>,
+        names: &mut Vec<Vec<u8, A>, A>,
     ) -> Result<(), AllocError>
     where
         A: Copy,
         ensures { OnOk result (self.new
-            ≡ waypoints_in selection.entry from directory.now (string_texts names.old.items) ++ self.old) }
+            ≡ waypoints_in selection.entry from directory.now (names_bytes names.old.items) ++ self.old) }
     {
         let in_package = are_of_package(names.as_slice());
         while let Some(name) = names.pop() {
-            self.push_name(alloc, selection, in_package, from, directory, name.as_str())?;
+            self.push_name(
+                alloc,
+                selection,
+                in_package,
+                from,
+                directory,
+                name.as_slice(),
+            )?;
         }
         Ok(())
     }
@@ -336,12 +378,12 @@ impl<A: Allocator> Walk<A> {
         selection: Selection<'_>,
         from: usize,
         directory: &str,
-        names: &mut Vec<String<A>, A>,
+        names: &mut Vec<Vec<u8, A>, A>,
     ) -> Result<(), AllocError>
     where
         A: Copy,
         ensures { OnOk result
-            (EntersInOrder selection.entry from directory.now (string_texts names.old.items) self.old self.new) }
+            (EntersInOrder selection.entry from directory.now (names_bytes names.old.items) self.old self.new) }
     {
         names.sort_unstable();
         self.push_names(alloc, selection, from, directory, names)?;
@@ -372,9 +414,6 @@ impl<A: Allocator> Walk<A> {
             };
             match pending {
                 WalkEntry::File(path) => return Ok(Some(Visit::File(path))),
-                WalkEntry::BadName(directory) => {
-                    return Ok(Some(Visit::Failed(directory, PathError::NameNotUtf8)));
-                }
                 WalkEntry::BadPath(path) => {
                     return Ok(Some(Visit::Failed(path, PathError::PathNotUtf8)));
                 }

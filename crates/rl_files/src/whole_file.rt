@@ -6,7 +6,7 @@ ghost use Rattle.std.specs.Fs.{permissions_mode, IsReadonly};
 ghost use Rattle.rl_files.specs.Replacements.{path_beside as beside};
 ghost use Rattle.rl_files.specs.SystemErrors.{write_error, create_error};
 
-use crate::host::{error_of, is_bad_name, read_all};
+use crate::host::{error_of, read_all};
 use crate::tree::PathError;
 use std::alloc::{AllocError, Allocator};
 use std::fs::{File, Metadata, OpenFile, OpenOptions, Permissions};
@@ -53,6 +53,11 @@ fn path_beside<A: Allocator>(alloc: A, path: &str, number: u32) -> Result<String
     ensures { IfOk result (λ path_of_new. string_bytes path_of_new ≡ beside path.now number) }
 {
     format!(in alloc; "{path}.rl_scan-{number}")
+}
+
+/// Whether `error` is the standard library's own error for a path that isn't UTF-8.
+fn is_not_utf8(error: &io::Error) -> bool {
+    error.kind() == ErrorKind::InvalidFilename && error.raw_os_error().is_none()
 }
 
 /// Returns the path of a file: `path`, or the target if `path` is a symbolic link.
@@ -274,7 +279,7 @@ pub(crate) fn replace_file<A: Allocator + Copy, R: Files + Alloc>(
 ) -> Result<(), PathError> {
     let real = match real_path(rt, alloc, path) {
         Ok(real) => real,
-        Err(e) if is_bad_name(&e) => return Err(PathError::NameNotUtf8),
+        Err(e) if is_not_utf8(&e) => return Err(PathError::PathNotUtf8),
         Err(e) => return Err(error_of(e.kind())),
     };
     let about = metadata_of(rt, real.as_str())?;

@@ -8,7 +8,7 @@ use Rattle.rl_files.specs.Replacements.{Replacement}
 use Rattle.rl_files.specs.Visible.{visible}
 use Rattle.rl_files.specs.Walks.{path_error_message}
 use Rattle.rl_files.specs.declared.tree.PathError.{PathError}
-use Rattle.rl_files.specs.declared.tree.PathError.TheVariants.{NotFound, NameNotUtf8, PathNotUtf8}
+use Rattle.rl_files.specs.declared.tree.PathError.TheVariants.{NotFound, PathNotUtf8}
 use Rattle.rl_lexer.specs.declared.lex_error.LexKind.{LexKind}
 use Rattle.rl_flaws.specs.declared.before.Edition.{Edition}
 use Rattle.rl_flaws.specs.declared.before.Edition.TheVariants.{E2021}
@@ -249,9 +249,8 @@ pub record IsListReport (command : Command) (path : List ℕ) (printed : Finding
   pub count : printed.count ≡ 0
   pub rules : printed.rules ≡ []
 
--- An error ends a call with status 2. A name in a directory, or a path, that isn't UTF-8 is skipped with a warning.
+-- An error ends a call with status 2. A path that isn't UTF-8 is skipped with a warning.
 abbrev pub is_error : PathError → Bool
-is_error NameNotUtf8 = false
 is_error PathNotUtf8 = false
 is_error _ = true
 

@@ -334,11 +334,11 @@ pub(crate) fn report_text<A: Allocator + Copy>(
     })
 }
 
-/// Whether an error ends a call with status 2. A name in a directory, or a path, that isn't UTF-8 is skipped, with a warning.
+/// Whether an error ends a call with status 2. A path that isn't UTF-8 is skipped, with a warning.
 fn is_error(error: PathError) -> bool
     ensures { result ≡ fails error }
 {
-    !matches!(error, PathError::NameNotUtf8 | PathError::PathNotUtf8)
+    !matches!(error, PathError::PathNotUtf8)
 }
 
 /// Returns the hint after the error of a path. It is empty unless the path doesn't exist.

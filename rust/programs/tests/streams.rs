@@ -108,6 +108,98 @@ fn paths_that_are_not_texts() {
     assert_eq!(done.status.code(), Some(0));
 }
 
+/// Runs `rl_scan -l` in the directory. Returns the paths that it prints, the text on standard error, and its exit status.
+fn read_in(directory: &Path, options: &[&str]) -> (String, String, Option<i32>) {
+    let mut command = rl_scan();
+    let command = command.arg("-l").args(options).arg(".");
+    let done = command.current_dir(directory).output().unwrap();
+    let [out, said] = [done.stdout, done.stderr].map(|text| String::from_utf8(text).unwrap());
+    (out, said, done.status.code())
+}
+
+/// Returns the warnings about these escaped paths.
+fn skipped(paths: &[&str]) -> String {
+    let lines = paths
+        .iter()
+        .map(|path| format!("rl_scan: ./{path}: skipped a path that is not UTF-8\n"));
+    lines.collect()
+}
+
+/// In a directory, a name that isn't UTF-8 is skipped with a warning, and the other files are read. There is no warning about a
+/// hidden name, an excluded name, and a name with another extension. A directory whose name isn't UTF-8 is skipped too.
+#[test]
+fn names_that_are_not_texts() {
+    let directory = Path::new(env!("CARGO_TARGET_TMPDIR")).join("names_that_are_not_texts");
+    let _ = fs::remove_dir_all(&directory);
+    let inner = [&b"e\xe9"[..], b".f\xe9", "\u{e9}".as_bytes()];
+    for name in inner {
+        fs::create_dir_all(directory.join(OsStr::from_bytes(name))).unwrap();
+    }
+    let files = [
+        &b"a.rs"[..],
+        b"b\xe9.rs",
+        b".c\xe9.rs",
+        b"d\xe9.txt",
+        b"e\xe9/x.rs",
+        b".f\xe9/x.rs",
+        b"g.2\xe9",
+        b"\xc3\xa9/\\\xff.rs",
+        b"\xc3\xa9/z.rs",
+    ];
+    for name in files {
+        fs::write(directory.join(OsStr::from_bytes(name)), "1").unwrap();
+    }
+    let read = "./a.rs\n./\u{e9}/z.rs\n";
+    // The names without an extension may be those of directories.
+    let [e, f, g] = ["e\\xe9", ".f\\xe9", "g.2\\xe9"];
+    let below = "\\xc3\\xa9/\\x5c\\xff.rs";
+    for (options, out, paths, status) in [
+        (&[][..], read, &["b\\xe9.rs", e, g, below][..], 0),
+        (
+            &["--all"],
+            read,
+            &[".c\\xe9.rs", f, "b\\xe9.rs", e, g, below],
+            0,
+        ),
+        (&["--extension", "txt"], "", &["d\\xe9.txt", e, g], 2),
+        // A `?` of a pattern is one byte.
+        (
+            &["--exclude", "??", "--exclude", "b?.rs"],
+            "./a.rs\n",
+            &[g],
+            0,
+        ),
+        (
+            &["--exclude", "*\u{e9}*"],
+            "./a.rs\n",
+            &["b\\xe9.rs", e, g],
+            0,
+        ),
+    ] {
+        let mut said = skipped(paths);
+        if status == 2 {
+            said.push_str("rl_scan: there was no file to read\n");
+        }
+        let expected = (out.to_owned(), said, Some(status));
+        assert_eq!(read_in(&directory, options), expected, "{options:?}");
+    }
+}
+
+/// The names of a directory need more space than one read of the directory has.
+#[test]
+fn names_that_are_long() {
+    let directory = Path::new(env!("CARGO_TARGET_TMPDIR")).join("names_that_are_long");
+    fs::create_dir_all(&directory).unwrap();
+    let mut expected = String::new();
+    for number in 100..500 {
+        // Each name has 255 bytes, which is the most that Linux accepts.
+        let name = format!("{number}{}.rs", "x".repeat(249));
+        fs::write(directory.join(&name), "1").unwrap();
+        expected.push_str(&format!("./{name}\n"));
+    }
+    assert_eq!(read_in(&directory, &[]), (expected, String::new(), Some(0)));
+}
+
 /// An empty path isn't a file, and a second argument is one too many.
 #[test]
 fn empty_arguments() {

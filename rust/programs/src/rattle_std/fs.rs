@@ -1,19 +1,18 @@
-//! A replacement for Rattle's `std::fs`: reading files, creating and renaming files, and listing directories. Paths and names are
-//! texts.
+//! A replacement for Rattle's `std::fs`: reading files, creating and renaming files, and listing directories. Paths are texts, and
+//! the names in a directory are bytes.
 //!
 //! It is more limited than Rattle's module: there is one file system, and files are opened only in the ways that the sources need.
 //! Rust's own calls that copy a path or a name end the process if there is no memory for the copy. So the available memory is
 //! checked before each of these calls.
 
-use super::alloc::{has_room, AllocError, Allocator, Global};
+use super::alloc::{has_room, Allocator};
 use super::io::{Error, ErrorKind, Read, Result, Write};
 use super::path::PathBuf;
 use super::rt::{Alloc, Files};
 use super::string::String;
 use super::vec::Vec;
-use core::marker::PhantomData;
-use std::fs::FileType;
 use std::io::{Read as _, Write as _};
+use std::os::unix::ffi::OsStrExt;
 
 pub use std::fs::{Metadata, Permissions};
 
@@ -150,88 +149,40 @@ pub fn remove_file<R: Files>(_rt: &R, path: &str) -> Result<()> {
     Ok(std::fs::remove_file(copied(path)?)?)
 }
 
-/// An entry of a directory.
-pub struct DirEntry<R, A: Allocator = Global> {
-    path: String<A>,
-    of: PhantomData<R>,
-}
-
-impl<R, A: Allocator> DirEntry<R, A> {
-    /// Returns the type of the entry, which may be a link. The call reads the type from the system by the entry's path. So it fails
-    /// if the entry was removed, or if the directory can't be searched.
-    pub fn file_type(&self) -> Result<FileType> {
-        Ok(std::fs::symlink_metadata(copied(self.path.as_str())?)?.file_type())
-    }
-
-    /// The entry's name, without its directory.
-    pub fn file_name(&self) -> &str {
-        let path = self.path.as_str();
-        path.rsplit_once('/').map_or(path, |(_, name)| name)
-    }
-}
-
-/// An iterator over the entries of a directory, except `.` and `..`.
+/// An open directory. It is read as the names in it, except `.` and `..`, each ended by a NUL.
 ///
-/// A name that isn't UTF-8 is the error `InvalidFilename` without an error number of the system. The entries after it follow. If
-/// the directory is removed, there are no more entries.
-pub struct ReadDir<R, A: Allocator = Global> {
-    entries: std::fs::ReadDir,
-    /// The directory's path, which ends with a slash if it isn't empty.
-    path: String<A>,
-    alloc: A,
-    of: PhantomData<R>,
-}
+/// A read returns one name. Rattle's reads return as many names as the buffer has room for, also `.` and `..`. If the directory is
+/// removed, there are no more names.
+pub struct Dir(std::fs::ReadDir);
 
-/// Opens the directory at the path, to list its entries.
-pub fn read_dir<R: Files + Alloc>(rt: &R, path: &str) -> Result<ReadDir<R, R::A>> {
-    let alloc = rt.alloc();
-    let mut with_slash = String::from_str(alloc, path)?;
-    if !path.is_empty() && !path.ends_with('/') {
-        with_slash.push('/')?;
-    }
-    Ok(ReadDir {
-        entries: listed(with_slash.as_str())?,
-        path: with_slash,
-        alloc,
-        of: PhantomData,
-    })
-}
+/// The system's error number of a read into a buffer that is too short for the next name.
+const TOO_SHORT: i32 = 22;
 
-/// Opens the directory, or returns an error if there is no memory for two copies of its path.
-fn listed(path: &str) -> Result<std::fs::ReadDir> {
-    if !has_room(2 * path.len() + DIRECTORY) {
-        return Err(Error::of(ErrorKind::OutOfMemory));
-    }
-    Ok(std::fs::read_dir(path)?)
-}
-
-impl<R, A: Allocator> Iterator for ReadDir<R, A> {
-    type Item = Result<DirEntry<R, A>>;
-
-    fn next(&mut self) -> Option<Self::Item> {
-        if !has_room(NAME) {
-            return Some(Err(Error::of(ErrorKind::OutOfMemory)));
+impl Dir {
+    /// Opens the directory at the path, or returns an error if there is no memory for two copies of the path.
+    pub(super) fn open(path: &str) -> Result<Dir> {
+        if !has_room(2 * path.len() + DIRECTORY) {
+            return Err(Error::of(ErrorKind::OutOfMemory));
         }
-        Some(match self.entries.next()? {
-            Ok(entry) => match entry.file_name().to_str() {
-                Some(name) => joined(self.alloc, &self.path, name).map_err(Error::from),
-                None => Err(Error::of(ErrorKind::InvalidFilename)),
-            },
-            Err(error) => Err(Error::from(error)),
-        })
+        Ok(Dir(std::fs::read_dir(path)?))
     }
 }
 
-fn joined<R, A: Allocator>(
-    alloc: A,
-    directory: &str,
-    name: &str,
-) -> core::result::Result<DirEntry<R, A>, AllocError> {
-    let mut path = String::with_capacity(alloc, directory.len() + name.len())?;
-    path.push_str(directory)?;
-    path.push_str(name)?;
-    Ok(DirEntry {
-        path,
-        of: PhantomData,
-    })
+impl Read for Dir {
+    fn read(&mut self, buf: &mut [u8]) -> Result<usize> {
+        if !has_room(NAME) {
+            return Err(Error::of(ErrorKind::OutOfMemory));
+        }
+        let Some(entry) = self.0.next() else {
+            return Ok(0);
+        };
+        let name = entry?.file_name();
+        let name = name.as_bytes();
+        let Some(room) = buf.get_mut(..=name.len()) else {
+            return Err(std::io::Error::from_raw_os_error(TOO_SHORT).into());
+        };
+        room[..name.len()].copy_from_slice(name);
+        room[name.len()] = 0;
+        Ok(room.len())
+    }
 }

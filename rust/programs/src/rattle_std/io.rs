@@ -31,7 +31,7 @@ pub enum ErrorKind {
     Interrupted,
     IsADirectory,
     NotADirectory,
-    /// The name or the path is too long. Without an error number of the system: the name in a directory isn't UTF-8.
+    /// The name or the path is too long. Without an error number of the system: the path of a link's target isn't UTF-8.
     InvalidFilename,
     /// The path contains a NUL.
     InvalidInput,
@@ -473,7 +473,7 @@ fn text_of<A: Allocator>(bytes: Vec<u8, A>) -> Result<String<A>> {
 /// The number of bytes in the buffer of a reader or a writer.
 const AHEAD: usize = 8192;
 
-/// A buffered reader, which can be read in pieces. Only the program `rl_rows` uses it.
+/// A buffered reader, which can be read in pieces.
 pub struct BufReader<R, A: Allocator> {
     inner: R,
     /// The buffer. The bytes from `start` to `end` are read and not yet consumed.

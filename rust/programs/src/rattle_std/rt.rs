@@ -1,12 +1,12 @@
 //! A replacement for Rattle's `std::rt`, and for `Alloc` of its prelude: the handles that a program receives. A handle determines
 //! which parts of the system the program can reach.
 //!
-//! It is more limited than Rattle's module: `Files` has only one method, since `fs` has only one file system. Rattle's `Files` has
+//! It is more limited than Rattle's module: `Files` has only two methods, since `fs` has only one file system. Rattle's `Files` has
 //! a method for each call.
 
 use super::alloc::{Allocator, Global};
-use super::fs::{File, OpenFile};
-use super::io::{Read, Stderr, Stdin, Stdout, Write};
+use super::fs::{Dir, File, OpenFile};
+use super::io::{Read, Result, Stderr, Stdin, Stdout, Write};
 
 /// A handle that gives access to an allocator.
 pub trait Alloc {
@@ -18,6 +18,11 @@ pub trait Alloc {
 /// A handle that gives access to files and directories.
 pub trait Files {
     type File: Read + Write + OpenFile;
+
+    type Dir: Read;
+
+    /// Opens the directory at the path. It is read as the names in it, each ended by a NUL.
+    fn open_dir(&self, path: &str) -> Result<Self::Dir>;
 
     /// Converts an open file of the system to the file type of this handle.
     fn opened(&self, file: File) -> Self::File;
@@ -66,6 +71,12 @@ impl Alloc for HostRuntime {
 
 impl Files for HostRuntime {
     type File = File;
+
+    type Dir = Dir;
+
+    fn open_dir(&self, path: &str) -> Result<Dir> {
+        Dir::open(path)
+    }
 
     fn opened(&self, file: File) -> File {
         file

@@ -4,6 +4,7 @@
 //! items are copied only if they are `Copy`, and a list can't be cloned or sorted.
 
 use super::alloc::{asks, may_hold, AllocError, AllocFailed, Allocator, Global};
+use core::cmp::Ordering;
 use core::fmt;
 use core::mem::take;
 use core::ops::{Deref, DerefMut};
@@ -162,6 +163,18 @@ impl<T: PartialEq, A: Allocator> PartialEq for Vec<T, A> {
 }
 
 impl<T: Eq, A: Allocator> Eq for Vec<T, A> {}
+
+impl<T: PartialOrd, A: Allocator> PartialOrd for Vec<T, A> {
+    fn partial_cmp(&self, other: &Self) -> Option<Ordering> {
+        self.items.partial_cmp(&other.items)
+    }
+}
+
+impl<T: Ord, A: Allocator> Ord for Vec<T, A> {
+    fn cmp(&self, other: &Self) -> Ordering {
+        self.items.cmp(&other.items)
+    }
+}
 
 impl<T: fmt::Debug, A: Allocator> fmt::Debug for Vec<T, A> {
     fn fmt(&self, f: &mut fmt::Formatter<'_>) -> fmt::Result {

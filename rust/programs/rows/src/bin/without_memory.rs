@@ -9,10 +9,10 @@
 
 use navyspindle_programs::rattle_std::env::{self, VarError};
 use navyspindle_programs::rattle_std::fs::{
-    canonicalize, metadata, read_dir, remove_file, rename, symlink_metadata, File,
+    canonicalize, metadata, remove_file, rename, symlink_metadata, File,
 };
 use navyspindle_programs::rattle_std::io::{ErrorKind, Read, Result, Stdin, Stdout, Write};
-use navyspindle_programs::rattle_std::rt::HostRuntime;
+use navyspindle_programs::rattle_std::rt::{Files, HostRuntime};
 use std::{hint, mem, process};
 
 /// The most bytes that the program allocates.
@@ -42,7 +42,7 @@ fn lacks_room<T>(answer: Result<T>) -> bool {
 /// Whether no call that copies a path or a name is made.
 fn copies_nothing(path: &str) -> bool {
     let rt = HostRuntime::new();
-    let Ok(mut entries) = read_dir(&rt, path) else {
+    let Ok(mut entries) = rt.open_dir(path) else {
         panic!("{path} is listed")
     };
     take_all(1);
@@ -52,7 +52,7 @@ fn copies_nothing(path: &str) -> bool {
         && lacks_room(canonicalize(&rt, path))
         && lacks_room(rename(&rt, path, path))
         && lacks_room(remove_file(&rt, path))
-        && entries.next().is_some_and(lacks_room)
+        && lacks_room(entries.read(&mut [0; 256]))
         && matches!(env::var(&rt, "PATH"), Err(VarError::OutOfMemory))
 }
 
@@ -65,7 +65,7 @@ fn uses_no_stream() -> bool {
 /// Whether no directory is opened. The system needs some 32 KB for an open directory.
 fn lists_nothing(path: &str) -> bool {
     take_all(20_000);
-    lacks_room(read_dir(&HostRuntime::new(), path))
+    lacks_room(HostRuntime::new().open_dir(path))
 }
 
 fn main() {

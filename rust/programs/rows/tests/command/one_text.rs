@@ -1,7 +1,6 @@
 //! A file tree with one text.
 
 use navyspindle_programs::rattle_std::alloc::Allocator;
-use navyspindle_programs::rattle_std::string::String as Line;
 use navyspindle_programs::rattle_std::vec::Vec as List;
 use navyspindle_programs::rl_files::{PathError, Tree};
 
@@ -17,7 +16,7 @@ impl Tree for OneText {
         &self,
         _alloc: A,
         _path: &str,
-    ) -> Result<List<Line<A>, A>, PathError> {
+    ) -> Result<List<List<u8, A>, A>, PathError> {
         Err(PathError::NotADirectory)
     }
 }

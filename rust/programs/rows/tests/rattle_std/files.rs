@@ -4,12 +4,12 @@ use crate::directory::Directory;
 use crate::fakes::{list_of, text, told};
 use crate::rattle_std::env::{self, VarError};
 use crate::rattle_std::fs::{
-    canonicalize, metadata, read_dir, remove_file, rename, symlink_metadata, File, OpenFile,
+    canonicalize, metadata, remove_file, rename, symlink_metadata, Dir, File, OpenFile,
     OpenOptions, Permissions,
 };
 use crate::rattle_std::io::{Error, ErrorKind, Read, Result, Write};
 use crate::rattle_std::os::unix::fs::{chown, OpenOptionsExt};
-use crate::rattle_std::rt::HostRuntime;
+use crate::rattle_std::rt::{Files, HostRuntime};
 use std::ffi::OsStr;
 use std::os::unix::ffi::OsStrExt;
 use std::os::unix::fs::{symlink, MetadataExt, PermissionsExt};
@@ -25,7 +25,7 @@ fn directory(name: &str) -> Directory {
 fn both(path: &str) -> (String, String) {
     let rt = HostRuntime::new();
     let opened = told(File::open(&rt, path).map(|_| "opened"));
-    (opened, told(read_dir(&rt, path).map(|_| "listed")))
+    (opened, told(rt.open_dir(path).map(|_| "listed")))
 }
 
 fn assert_both(path: &str, opened: &str, listed: &str) {
@@ -74,9 +74,8 @@ fn long_paths() {
     let all = format!("/{}", "./".repeat(2048));
     let path = &all[..4094];
     assert_both(path, "Ok(\"opened\")", "Ok(\"listed\")");
-    // Listing appends a slash to a directory's path.
     let path = format!("{}/.", &all[..4093]);
-    assert_both(&path, "Ok(\"opened\")", TOO_LONG);
+    assert_both(&path, "Ok(\"opened\")", "Ok(\"listed\")");
     assert_neither(&format!("{path}/"), TOO_LONG);
     assert_neither(&format!("{path}/\0"), NO_PATH);
 }
@@ -116,35 +115,52 @@ fn files_up_to_a_limit() {
     }
 }
 
-/// Returns a sorted line for each entry of a directory: its name, and whether it is a directory, a file and a link.
-fn listed(path: &str) -> vec::Vec<String> {
-    let Ok(entries) = read_dir(&HostRuntime::new(), path) else {
+/// Opens the directory at the path.
+fn opened(path: &str) -> Dir {
+    let Ok(opened) = HostRuntime::new().open_dir(path) else {
         panic!("{path} is listed")
     };
-    let mut lines: vec::Vec<String> = entries
-        .map(|entry| {
-            let entry = match entry {
-                Ok(entry) => entry,
-                Err(error) => return told::<()>(Err(error)),
-            };
-            let kind = entry
-                .file_type()
-                .map(|kind| (kind.is_dir(), kind.is_file(), kind.is_symlink()));
-            format!("{} {}", entry.file_name(), told(kind))
-        })
-        .collect();
-    lines.sort();
-    lines
+    opened
+}
+
+/// Returns the sorted names in a directory, as each read returns them.
+fn listed(path: &str) -> vec::Vec<vec::Vec<u8>> {
+    let mut names = vec::Vec::new();
+    let mut directory = opened(path);
+    let mut buf = [1; 256];
+    while let Ok(count @ 1..) = directory.read(&mut buf) {
+        names.push(buf[..count].to_vec());
+    }
+    names.sort();
+    names
 }
 
 #[test]
-fn names_that_are_not_texts() {
+fn names_in_a_directory() {
     let here = directory("odd");
+    fs::create_dir(here.join("dir")).expect("the directory can be made");
     fs::write(here.join("a"), "").expect("the file can be written");
     fs::write(here.join(OsStr::from_bytes(b"b\xff")), "").expect("the file can be written");
-    let told = listed(&path_in(&here, ""));
-    let error = "Err(InvalidFilename, None)";
-    assert_eq!(told, [error, "a Ok((false, true, false))"]);
+    symlink("nowhere", here.join("broken")).expect("the link can be made");
+    let here = path_in(&here, "");
+    for path in [&here, &format!("{here}//")] {
+        let expected = [&b"a\0"[..], b"broken\0", b"b\xff\0", b"dir\0"];
+        assert_eq!(listed(path), expected);
+    }
+}
+
+/// A read returns only a whole name, so the buffer needs space for the name and its NUL.
+#[test]
+fn names_without_space() {
+    let here = directory("space");
+    let name = "n".repeat(255);
+    fs::write(here.join(&name), "").expect("the file can be written");
+    let here = path_in(&here, "");
+    let read = |space: usize| told(opened(&here).read(&mut vec![0; space]));
+    assert_eq!(read(0), "Err(InvalidInput, Some(22))");
+    assert_eq!(read(255), "Err(InvalidInput, Some(22))");
+    assert_eq!(read(256), "Ok(256)");
+    assert_eq!(listed(&here), [format!("{name}\0").into_bytes()]);
 }
 
 #[test]
@@ -154,53 +170,39 @@ fn kinds_of_entries() {
     fs::write(here.join("file"), "1").expect("the file can be written");
     symlink("file", here.join("link")).expect("the link can be made");
     symlink("nowhere", here.join("broken")).expect("the link can be made");
-    let here = path_in(&here, "");
-    for path in [&here, &format!("{here}//")] {
-        let expected = [
-            "broken Ok((false, false, true))",
-            "dir Ok((true, false, false))",
-            "file Ok((false, true, false))",
-            "link Ok((false, false, true))",
-        ];
-        assert_eq!(listed(path), expected);
+    for (name, expected) in [
+        ("broken", "Ok((false, false, true))"),
+        ("dir", "Ok((true, false, false))"),
+        ("file", "Ok((false, true, false))"),
+        ("link", "Ok((false, false, true))"),
+        ("no", MISSING),
+    ] {
+        let about = symlink_metadata(&HostRuntime::new(), &path_in(&here, name));
+        let kind = about.map(|about| (about.is_dir(), about.is_file(), about.is_symlink()));
+        assert_eq!(told(kind), expected, "{name}");
     }
 }
 
+/// If an open directory is removed, it has no more names.
 #[test]
 fn a_directory_that_vanishes() {
     let here = directory("vanishes");
     let path = path_in(&here, "inner");
-    let rt = HostRuntime::new();
-    let begin = || {
-        fs::create_dir(&path).expect("the directory can be made");
-        fs::write(here.join("inner/a"), "x").expect("the file can be written");
-        let Ok(mut entries) = read_dir(&rt, &path) else {
-            panic!("{path} is listed")
-        };
-        match entries.next() {
-            Some(Ok(entry)) => (entries, entry),
-            _ => panic!("{path} has an entry"),
-        }
-    };
-
-    let (mut entries, entry) = begin();
+    fs::create_dir(&path).expect("the directory can be made");
+    fs::write(here.join("inner/a"), "x").expect("the file can be written");
+    let mut buf = [1; 256];
+    let mut inner = opened(&path);
+    assert_eq!(told(inner.read(&mut buf)), "Ok(2)");
+    assert_eq!(&buf[..3], b"a\0\x01");
     fs::remove_dir_all(&path).expect("the directory can be removed");
-    assert_eq!(entry.file_name(), "a");
-    assert_eq!(told(entry.file_type()), MISSING);
-    assert!(entries.next().is_none());
+    assert_eq!(told(inner.read(&mut buf)), "Ok(0)");
     assert_neither(&path, MISSING);
 
-    let (_, entry) = begin();
-    fs::rename(&path, here.join("moved")).expect("the directory can be moved");
-    assert_eq!(told(entry.file_type()), MISSING);
-
     fs::create_dir(&path).expect("the directory can be made");
-    let Ok(mut entries) = read_dir(&rt, &path) else {
-        panic!("{path} is listed")
-    };
+    let mut inner = opened(&path);
     fs::remove_dir(&path).expect("the directory can be removed");
-    assert!(entries.next().is_none());
-    assert!(entries.next().is_none());
+    assert_eq!(told(inner.read(&mut buf)), "Ok(0)");
+    assert_eq!(told(inner.read(&mut buf)), "Ok(0)");
 }
 
 /// This test must run as a user other than root, because root may do everything.
@@ -225,8 +227,7 @@ fn what_is_denied() {
         assert_both(&path_in(&here, "unreadable"), denied, NO_DIRECTORY);
         assert_neither(&path_in(&here, "unlistable"), denied);
         assert_neither(&path_in(&here, "unsearchable/a"), denied);
-        let there = listed(&path_in(&here, "unsearchable"));
-        assert_eq!(there, [format!("a {denied}")]);
+        assert_eq!(listed(&path_in(&here, "unsearchable")), [b"a\0"]);
     }
     deny("unlistable", 0o755);
     deny("unsearchable", 0o755);

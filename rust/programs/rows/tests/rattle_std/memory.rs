@@ -342,3 +342,12 @@ fn texts_are_ordered_by_characters() {
     assert!(of("aa") < of("ab"));
     assert!(of("a") < of("aa"));
 }
+
+#[test]
+fn lists_are_ordered_by_items() {
+    let of = |items: &[u8]| crate::fakes::list_of(items);
+    let mut lists = [of(b"b"), of(b"ab"), of(b"a\xff"), of(b""), of(b"a")];
+    lists.sort_unstable();
+    let expected = [&b""[..], b"a", b"ab", b"a\xff", b"b"];
+    assert_eq!(lists.each_ref().map(Vec::as_slice), expected);
+}

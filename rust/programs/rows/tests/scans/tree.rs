@@ -1,7 +1,6 @@
 //! A small directory in memory, with files and directories that can't be read or written.
 
 use navyspindle_programs::rattle_std::alloc::Allocator;
-use navyspindle_programs::rattle_std::string::String;
 use navyspindle_programs::rattle_std::vec::Vec;
 use navyspindle_programs::rl_files::{PathError, Tree, Unwritable};
 
@@ -195,26 +194,27 @@ fn bytes_at(path: &str) -> Result<&'static [u8], PathError> {
 }
 
 /// Returns the names in the directory at the path, separated by `|`.
-fn names_at(path: &str) -> Result<&'static str, PathError> {
-    match path {
+fn names_at(path: &str) -> Result<&'static [u8], PathError> {
+    Ok(match path {
         "." => {
-            Ok("n.rs|b/|t\n.rs|b.rs|Cargo.toml|x.txt|.git/|target/|none.rs|a.rs|locked/||targets/")
+            b"n.rs|b/|t\n.rs|b.rs|Cargo.toml|x.txt|.git/|target/|none.rs|a.rs|locked/|!\xe9|targets/"
         }
-        "./b/" => Ok("c.rs"),
-        "./.git/" | "./target/" => Ok("x.rs"),
-        "named" => Ok("|a.rs"),
-        "package" => Ok("target/|src/|Cargo.toml|.hidden/"),
-        "package/src/" => Ok("target/|.rs|x.rs.in"),
-        "package/target/" | "package/src/target/" | "package/.hidden/" => Ok("x.rs"),
-        "./targets/" => Ok("none"),
-        "globs" => Ok("x1.rs|gen/|b/|b.rs|a.rs"),
-        "globs/b/" => Ok("gen.rs|deep/|a.rs"),
-        "globs/b/deep/" => Ok("x12.rs|gen/"),
-        "globs/gen" | "globs/gen/" | "globs/b/deep/gen/" => Ok("a.rs"),
-        "fix" => Ok("script.rs|other.rs|none.rs|full.rs|bad.rs|a.rs"),
-        "./locked/" => Err(PathError::PermissionDenied),
-        _ => Err(PathError::NotADirectory),
-    }
+        "./b/" => b"c.rs",
+        "./.git/" | "./target/" => b"x.rs",
+        "named" => b"f.1\xe9|d\xe9.txt|.c\xe9.rs|b\xe9.rs|.g\xe9|a.rs|e\xe9",
+        "\u{e9}/d" => b"\x7f\\\xff.rs|\xc3\xa9.txt",
+        "package" => b"target/|src/|Cargo.toml|.hidden/",
+        "package/src/" => b"target/|.rs|x.rs.in",
+        "package/target/" | "package/src/target/" | "package/.hidden/" => b"x.rs",
+        "./targets/" => b"none",
+        "globs" => b"x1.rs|gen/|b/|b.rs|a.rs",
+        "globs/b/" => b"gen.rs|deep/|a.rs",
+        "globs/b/deep/" => b"x12.rs|gen/",
+        "globs/gen" | "globs/gen/" | "globs/b/deep/gen/" => b"a.rs",
+        "fix" => b"script.rs|other.rs|none.rs|full.rs|bad.rs|a.rs",
+        "./locked/" => return Err(PathError::PermissionDenied),
+        _ => return Err(PathError::NotADirectory),
+    })
 }
 
 impl Tree for Sample {
@@ -226,10 +226,10 @@ impl Tree for Sample {
         &self,
         alloc: A,
         path: &str,
-    ) -> Result<Vec<String<A>, A>, PathError> {
+    ) -> Result<Vec<Vec<u8, A>, A>, PathError> {
         let mut names = Vec::new(alloc);
-        for name in names_at(path)?.split('|') {
-            assert!(names.push(String::from_str(alloc, name).unwrap()).is_ok());
+        for name in names_at(path)?.split(|byte| *byte == b'|') {
+            assert!(names.push(Vec::from_slice(alloc, name).unwrap()).is_ok());
         }
         Ok(names)
     }

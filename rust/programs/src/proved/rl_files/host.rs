@@ -4,10 +4,11 @@
 use crate::rattle_std::prelude::{Alloc, Drop, Input, String, Vec};
 use crate::rl_files::replace::Replace;
 use crate::rl_files::tree::{PathError, Tree};
+use crate::rl_files::walk::path_in;
 use crate::rl_files::whole_file::replace_file;
-use crate::rattle_std::alloc::Allocator;
-use crate::rattle_std::fs::{DirEntry, File};
-use crate::rattle_std::io::{ErrorKind, Read};
+use crate::rattle_std::alloc::{AllocError, Allocator};
+use crate::rattle_std::fs::File;
+use crate::rattle_std::io::{BufRead, BufReader, ErrorKind, Read};
 use crate::rattle_std::rt::Files;
 use crate::rattle_std::{fs, io};
 
@@ -34,45 +35,6 @@ pub(crate) fn error_of(kind: ErrorKind) -> PathError {
     }
 }
 
-/// Whether `error` is the standard library's own error for a name that isn't UTF-8.
-pub(crate) fn is_bad_name(error: &io::Error) -> bool {
-    error.kind() == ErrorKind::InvalidFilename && error.raw_os_error().is_none()
-}
-
-/// Returns the name of a directory's entry: a file's name, or a directory's name and a slash. Returns `None` for links and devices,
-/// and for an entry that has vanished since it was listed.
-fn name_of_entry<A: Allocator, R: Files, B: Allocator>(
-    alloc: A,
-    entry: &DirEntry<R, B>,
-) -> io::Result<Option<String<A>>> {
-    let kind = match entry.file_type() {
-        Ok(kind) => kind,
-        Err(e) if e.kind() == ErrorKind::NotFound => return Ok(None),
-        Err(e) => return Err(e),
-    };
-    if !kind.is_dir() && !kind.is_file() {
-        return Ok(None);
-    }
-    let mut name = String::from_str(alloc, entry.file_name())?;
-    if kind.is_dir() {
-        name.push('/')?;
-    }
-    Ok(Some(name))
-}
-
-/// Returns the name of a directory's entry: a file's name, or a directory's name and a slash. It is empty if the name isn't UTF-8.
-/// Returns `None` for links and devices, and for an entry that has vanished since it was listed.
-fn name_of<A: Allocator, R: Files + Drop, B: Allocator>(
-    alloc: A,
-    entry: io::Result<DirEntry<R, B>>,
-) -> io::Result<Option<String<A>>> {
-    match entry {
-        Ok(entry) => name_of_entry(alloc, &entry),
-        Err(e) if is_bad_name(&e) => Ok(Some(String::new(alloc))),
-        Err(e) => Err(e),
-    }
-}
-
 /// Returns all bytes of a reader, or the error `TooLong` if it has more than `LONGEST` bytes. At most one byte above `LONGEST` is
 /// read.
 pub(crate) fn read_all<A: Allocator, R: Read + Drop>(
@@ -96,29 +58,77 @@ fn is_too_long<R: Files>(rt: &R, path: &str) -> bool {
     }
 }
 
-/// Returns the names of the files and directories in a directory. A directory's name ends with a slash. A name that isn't UTF-8 is
+/// Returns the path of a directory with a slash at its end, so that the system follows a link to a directory. An empty path stays
 /// empty.
-fn list_directory<A: Allocator + Copy, R: Files + Alloc + Clone + Drop>(
+fn with_slash<A: Allocator>(alloc: A, path: &str) -> Result<String<A>, AllocError> {
+    let mut directory = String::from_str(alloc, path)?;
+    if !path.is_empty() && !path.as_bytes().ends_with(b"/".as_slice()) {
+        directory.push('/')?;
+    }
+    Ok(directory)
+}
+
+/// Whether a name in a directory is `.` or `..`: the directory itself, or the directory that contains it.
+fn is_dots(name: &[u8]) -> bool {
+    name == b".".as_slice() || name == b"..".as_slice()
+}
+
+/// Returns `true` for a directory and `false` for a file. Returns `None` for a link or a device, and for a path that has vanished
+/// since it was listed.
+fn directory_or_file<R: Files>(rt: &R, path: &str) -> io::Result<Option<bool>> {
+    match fs::symlink_metadata(rt, path) {
+        Ok(about) if about.is_dir() => Ok(Some(true)),
+        Ok(about) if about.is_file() => Ok(Some(false)),
+        Ok(_) => Ok(None),
+        Err(e) if e.kind() == ErrorKind::NotFound => Ok(None),
+        Err(e) => Err(e),
+    }
+}
+
+/// Appends a name in a directory to `names`, unless it is `.` or `..`, or the name of a link or a device. A slash follows the name of
+/// a directory. If the name isn't UTF-8, it is appended unchanged, because the standard library asks the system only about paths
+/// that are UTF-8.
+fn push_entry<A: Allocator + Copy, R: Files>(
+    rt: &R,
+    alloc: A,
+    directory: &str,
+    mut name: Vec<u8, A>,
+    names: &mut Vec<Vec<u8, A>, A>,
+) -> io::Result<()> {
+    if is_dots(name.as_slice()) {
+        return Ok(());
+    }
+    let path = path_in(alloc, directory, name.as_slice())?;
+    if let Ok(path) = crate::rattle_std::str::from_utf8(path.as_slice()) {
+        match directory_or_file(rt, path)? {
+            Some(true) => name.push(b'/')?,
+            Some(false) => {}
+            None => return Ok(()),
+        }
+    }
+    names.push(name)?;
+    Ok(())
+}
+
+/// Returns the names of the files and directories in a directory. A slash follows the name of a directory, if the name is UTF-8.
+///
+/// The system returns the names as one text, in which a NUL ends each name. It returns only whole names, so each read needs space for
+/// the longest name. A `BufReader` reads 8,192 bytes at once.
+fn list_directory<A: Allocator + Copy, R: Files>(
     rt: &R,
     alloc: A,
     path: &str,
-) -> io::Result<Vec<String<A>, A>>
-where
-    R::A: Clone,
-{
+) -> io::Result<Vec<Vec<u8, A>, A>> {
     let mut names = Vec::new(alloc);
-    for entry in fs::read_dir(rt, path)? {
-        if let Some(name) = name_of(alloc, entry)? {
-            names.push(name)?;
-        }
+    let directory = with_slash(alloc, path)?;
+    let entries = rt.open_dir(directory.as_str())?;
+    for name in BufReader::new(alloc, entries)?.split(alloc, 0) {
+        push_entry(rt, alloc, directory.as_str(), name?, &mut names)?;
     }
     Ok(names)
 }
 
-impl<R: Files + Input + Alloc + Clone + Drop> Tree for Host<'_, R>
-where
-    R::A: Clone,
-{
+impl<R: Files + Input> Tree for Host<'_, R> {
     fn bytes<A: Allocator>(&self, alloc: A, path: &str) -> Result<Vec<u8, A>, PathError> {
         if path == "-" {
             return read_all(alloc, self.rt.reader());
@@ -136,7 +146,7 @@ where
         &self,
         alloc: A,
         path: &str,
-    ) -> Result<Vec<String<A>, A>, PathError> {
+    ) -> Result<Vec<Vec<u8, A>, A>, PathError> {
         if path == "-" {
             return Err(PathError::NotADirectory);
         }

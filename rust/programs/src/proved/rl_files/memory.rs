@@ -21,7 +21,7 @@ pub struct MemoryDirectory<'a> {
     /// The path of the directory.
     pub path: &'a str,
     /// The names in the directory, or the reason why they can't be read.
-    pub names: Result<&'a [&'a str], PathError>,
+    pub names: Result<&'a [&'a [u8]], PathError>,
 }
 
 /// Files and directories in memory.
@@ -49,7 +49,7 @@ fn find_file<'a>(files: &[MemoryFile<'a>], path: &str) -> Result<&'a [u8], PathE
 fn find_directory<'a>(
     directories: &[MemoryDirectory<'a>],
     path: &str,
-) -> Result<&'a [&'a str], PathError> {
+) -> Result<&'a [&'a [u8]], PathError> {
     let mut rest = directories;
     while let [directory, after @ ..] = rest {
         if directory.path == path {
@@ -70,12 +70,12 @@ fn copy_bytes<A: Allocator>(alloc: A, bytes: &[u8]) -> Result<Vec<u8, A>, AllocE
 /// Returns a copy of the names `names`, in memory from `alloc`.
 fn copy_names<A: Allocator + Copy>(
     alloc: A,
-    names: &[&str],
-) -> Result<Vec<String<A>, A>, AllocError> {
+    names: &[&[u8]],
+) -> Result<Vec<Vec<u8, A>, A>, AllocError> {
     let mut copy = Vec::new(alloc);
     let mut rest = names;
     while let [name, after @ ..] = rest {
-        copy.push(String::from_str(alloc, name)?)?;
+        copy.push(copy_bytes(alloc, name)?)?;
         rest = after;
     }
     Ok(copy)
@@ -96,7 +96,7 @@ impl Tree for MemoryTree<'_> {
         &self,
         alloc: A,
         path: &str,
-    ) -> Result<Vec<String<A>, A>, PathError> {
+    ) -> Result<Vec<Vec<u8, A>, A>, PathError> {
         match find_directory(self.directories, path) {
             Ok(names) => match copy_names(alloc, names) {
                 Ok(copy) => Ok(copy),

@@ -13,15 +13,14 @@ fn push_byte<A: Allocator>(out: &mut String<A>, byte: u8) -> Result<(), AllocErr
     write!(out, "\\x{byte:02x}")
 }
 
-/// Returns the escaped bytes of a path that isn't UTF-8, and a NUL.
-fn escaped<A: Allocator>(alloc: A, bytes: &[u8]) -> Result<String<A>, AllocError> {
+/// Returns the escaped bytes of a path that isn't UTF-8.
+pub(crate) fn escaped<A: Allocator>(alloc: A, bytes: &[u8]) -> Result<String<A>, AllocError> {
     let mut text = String::new(alloc);
     let mut rest = bytes;
     while let [byte, after @ ..] = rest {
         push_byte(&mut text, *byte)?;
         rest = after;
     }
-    text.push('\0')?;
     Ok(text)
 }
 
@@ -33,7 +32,11 @@ fn escaped<A: Allocator>(alloc: A, bytes: &[u8]) -> Result<String<A>, AllocError
 pub fn path_text<A: Allocator>(alloc: A, bytes: &[u8]) -> Result<String<A>, AllocError> {
     match crate::rattle_std::str::from_utf8(bytes) {
         Ok(text) => String::from_str(alloc, text),
-        Err(_) => escaped(alloc, bytes),
+        Err(_) => {
+            let mut text = escaped(alloc, bytes)?;
+            text.push('\0')?;
+            Ok(text)
+        }
     }
 }
 

@@ -1,7 +1,7 @@
 // Rendered from crates/rl_files/src/tree.rt by tools/render, which erases contracts: change that file, and render again.
 //! A trait for trees of files. It returns the bytes of a file, and the names in a directory.
 
-use crate::rattle_std::prelude::{String, Vec};
+use crate::rattle_std::prelude::{Vec};
 use crate::rattle_std::alloc::Allocator;
 use crate::rattle_std::fmt;
 
@@ -18,9 +18,7 @@ pub enum PathError {
     NotADirectory,
     /// The path is longer than the system allows.
     PathTooLong,
-    /// A name in the directory isn't UTF-8.
-    NameNotUtf8,
-    /// The path isn't UTF-8.
+    /// The path, or the target of the link at the path, isn't UTF-8.
     PathNotUtf8,
     /// The file isn't UTF-8. The field is the offset of the first invalid byte.
     NotUtf8(usize),
@@ -54,7 +52,6 @@ impl fmt::Display for PathError {
             PathError::IsADirectory => write!(f, "is a directory"),
             PathError::NotADirectory => write!(f, "not a directory"),
             PathError::PathTooLong => write!(f, "path too long"),
-            PathError::NameNotUtf8 => write!(f, "skipped a name that is not UTF-8"),
             PathError::PathNotUtf8 => write!(f, "skipped a path that is not UTF-8"),
             PathError::NotUtf8(at) => write!(f, "not UTF-8 at byte {at}"),
             PathError::TooLong => write!(f, "longer than 1 GiB"),
@@ -80,9 +77,10 @@ pub trait Tree {
     /// Returns the reason why the file can't be read, or `OutOfMemory` if an allocation fails.
     fn bytes<A: Allocator>(&self, alloc: A, path: &str) -> Result<Vec<u8, A>, PathError>;
 
-    /// Returns the names in the directory at a path, in any order.
+    /// Returns the names in the directory at a path, in any order. Each name is a list of bytes.
     ///
-    /// A directory's name ends with a slash. A name that isn't UTF-8 is an empty text. Links and devices are left out.
+    /// If the name of a directory is UTF-8, a slash follows it. If a name isn't UTF-8, the slash may be missing. Links and devices
+    /// are left out, except those with a name that isn't UTF-8.
     ///
     /// # Errors
     ///
@@ -92,5 +90,5 @@ pub trait Tree {
         &self,
         alloc: A,
         path: &str,
-    ) -> Result<Vec<String<A>, A>, PathError>;
+    ) -> Result<Vec<Vec<u8, A>, A>, PathError>;
 }

@@ -3,7 +3,7 @@
 
 use crate::rattle_std::prelude::{String, Vec};
 use crate::rl_files::glob::is_excluded;
-use crate::rl_files::path_texts::escaped_non_utf8_path;
+use crate::rl_files::path_texts::{escaped, escaped_non_utf8_path};
 use crate::rl_files::tree::{PathError, Tree};
 use crate::rattle_std::alloc::{AllocError, Allocator, Global};
 use crate::rattle_std::fmt;
@@ -29,9 +29,7 @@ pub enum WalkEntry<A: Allocator = Global> {
     Directory(Option<usize>, String<A>),
     /// A file in a directory.
     File(String<A>),
-    /// A directory with a name that isn't UTF-8. The path is that of the directory.
-    BadName(String<A>),
-    /// A path that the user passed and that isn't UTF-8. Its bytes are escaped.
+    /// A path that isn't UTF-8, which the user passed or which is in a directory. Its bytes are escaped.
     BadPath(String<A>),
 }
 
@@ -67,20 +65,19 @@ pub struct Walk<A: Allocator = Global> {
     pending: Vec<WalkEntry<A>, A>,
 }
 
-/// Whether a name is that of a directory: it ends with a slash.
-fn is_directory(name: &str) -> bool {
-    name.as_bytes().ends_with(b"/".as_slice())
+/// Whether a name or a path is that of a directory: it ends with a slash.
+fn is_directory(name: &[u8]) -> bool {
+    name.ends_with(b"/".as_slice())
 }
 
 /// Whether a name ends with a dot and `extension`.
-fn has_extension(extension: &str, name: &str) -> bool {
-    let bytes = name.as_bytes();
+fn has_extension(extension: &str, name: &[u8]) -> bool {
     let ending = extension.as_bytes();
-    bytes.ends_with(ending) && bytes[..bytes.len() - ending.len()].ends_with(b".".as_slice())
+    name.ends_with(ending) && name[..name.len() - ending.len()].ends_with(b".".as_slice())
 }
 
 /// Whether a name ends with a dot and one of the `extensions`.
-fn has_one_of(extensions: &[&str], name: &str) -> bool {
+fn has_one_of(extensions: &[&str], name: &[u8]) -> bool {
     let mut rest = extensions;
     while let [extension, after @ ..] = rest {
         if has_extension(extension, name) {
@@ -92,10 +89,10 @@ fn has_one_of(extensions: &[&str], name: &str) -> bool {
 }
 
 /// Whether the names in a directory include `Cargo.toml`, so that it is a Cargo package.
-fn are_of_package<A: Allocator>(names: &[String<A>]) -> bool {
+fn are_of_package<A: Allocator>(names: &[Vec<u8, A>]) -> bool {
     let mut rest = names;
     while let [name, after @ ..] = rest {
-        if name.as_str() == "Cargo.toml" {
+        if name.as_slice() == b"Cargo.toml".as_slice() {
             return true;
         }
         rest = after;
@@ -104,24 +101,56 @@ fn are_of_package<A: Allocator>(names: &[String<A>]) -> bool {
 }
 
 /// Whether a name is left out: a hidden one, and in a Cargo package the directory `target`, into which Cargo builds.
-fn is_left_out(in_package: bool, name: &str) -> bool {
-    name.as_bytes().starts_with(b".".as_slice()) || in_package && name == "target/"
+fn is_left_out(in_package: bool, name: &[u8]) -> bool {
+    name.starts_with(b".".as_slice()) || in_package && name == b"target/".as_slice()
+}
+
+/// Whether all bytes are ASCII.
+fn is_ascii(bytes: &[u8]) -> bool {
+    bytes.iter().all(|b| b.is_ascii())
+}
+
+/// Whether a name has an extension in ASCII: a dot that isn't the first byte, and only ASCII after the dot.
+fn has_ascii_extension(name: &[u8]) -> bool {
+    let mut rest = bytes_from(name, 1);
+    while let [byte, after @ ..] = rest {
+        if *byte == b'.' && is_ascii(after) {
+            return true;
+        }
+        rest = after;
+    }
+    false
+}
+
+/// Whether bytes are UTF-8.
+fn is_utf8(bytes: &[u8]) -> bool {
+    crate::rattle_std::str::from_utf8(bytes).is_ok()
+}
+
+/// Whether a name that isn't UTF-8 may be the name of a directory: it has no extension in ASCII.
+fn may_be_directory(name: &[u8]) -> bool {
+    !is_utf8(name) && !has_ascii_extension(name)
 }
 
 /// Whether a walk visits a name. Directories and files with a selected extension are visited, unless the name is left out. A name
-/// that isn't UTF-8 is visited to be reported.
-fn is_wanted(selection: Selection<'_>, in_package: bool, name: &str) -> bool {
+/// that isn't UTF-8 is visited to be reported, if it may be the name of a directory, or of a file with a selected extension.
+fn is_wanted(selection: Selection<'_>, in_package: bool, name: &[u8]) -> bool {
     (selection.all || !is_left_out(in_package, name))
-        && (is_directory(name) || has_one_of(selection.extensions, name) || name.is_empty())
+        && (is_directory(name) || has_one_of(selection.extensions, name) || may_be_directory(name))
 }
 
 /// Returns the path of a name in a directory.
-fn path_in<A: Allocator>(alloc: A, directory: &str, name: &str) -> Result<String<A>, AllocError> {
-    let mut path = String::from_str(alloc, directory)?;
-    if !is_directory(directory) {
-        path.push_str("/")?;
+pub(crate) fn path_in<A: Allocator>(
+    alloc: A,
+    directory: &str,
+    name: &[u8],
+) -> Result<Vec<u8, A>, AllocError> {
+    let mut path = Vec::new(alloc);
+    path.extend_from_slice(directory.as_bytes())?;
+    if !is_directory(directory.as_bytes()) {
+        path.extend_from_slice(b"/".as_slice())?;
     }
-    path.push_str(name)?;
+    path.extend_from_slice(name)?;
     Ok(path)
 }
 
@@ -135,7 +164,7 @@ fn is_given(from: Option<usize>) -> bool {
 fn argument_len(from: Option<usize>, path: &str) -> usize {
     match from {
         Some(from) => from,
-        None if is_directory(path) => path.len(),
+        None if is_directory(path.as_bytes()) => path.len(),
         None => path.len() + 1,
     }
 }
@@ -149,26 +178,20 @@ fn bytes_from(bytes: &[u8], from: usize) -> &[u8] {
 }
 
 /// Whether a pattern of `selection` excludes a path. The first `from` bytes of the path aren't compared.
-fn is_pruned(selection: Selection<'_>, from: usize, path: &str) -> bool {
-    is_excluded(selection.excludes, bytes_from(path.as_bytes(), from))
+fn is_pruned(selection: Selection<'_>, from: usize, path: &[u8]) -> bool {
+    is_excluded(selection.excludes, bytes_from(path, from))
 }
 
-/// Returns the entry to visit for a name in a directory. `path` is the path of the name, and `from` the length of the directory
-/// that the user passed.
-fn pending_of<A: Allocator>(
-    alloc: A,
-    from: usize,
-    directory: &str,
-    name: &str,
-    path: String<A>,
-) -> Result<WalkEntry<A>, AllocError> {
-    if is_directory(name) {
-        return Ok(WalkEntry::Directory(Some(from), path));
+/// Returns the entry to visit for a path below the directory that the user passed. `from` is the length of this directory.
+fn pending_of<A: Allocator>(alloc: A, from: usize, path: &[u8]) -> Result<WalkEntry<A>, AllocError> {
+    let text = match crate::rattle_std::str::from_utf8(path) {
+        Ok(text) => String::from_str(alloc, text)?,
+        Err(_) => return Ok(WalkEntry::BadPath(escaped(alloc, path)?)),
+    };
+    if is_directory(path) {
+        return Ok(WalkEntry::Directory(Some(from), text));
     }
-    if name.len() == 0 {
-        return Ok(WalkEntry::BadName(String::from_str(alloc, directory)?));
-    }
-    Ok(WalkEntry::File(path))
+    Ok(WalkEntry::File(text))
 }
 
 /// Returns the entry to visit for a path that the user passed.
@@ -230,7 +253,7 @@ impl<A: Allocator> Walk<A> {
         in_package: bool,
         from: usize,
         directory: &str,
-        name: &str,
+        name: &[u8],
     ) -> Result<(), AllocError>
     where
         A: Copy, {
@@ -238,10 +261,10 @@ impl<A: Allocator> Walk<A> {
             return Ok(());
         }
         let path = path_in(alloc, directory, name)?;
-        if is_pruned(selection, from, path.as_str()) {
+        if is_pruned(selection, from, path.as_slice()) {
             return Ok(());
         }
-        let pending = pending_of(alloc, from, directory, name, path)?;
+        let pending = pending_of(alloc, from, path.as_slice())?;
         self.push(pending)
     }
 
@@ -253,13 +276,20 @@ impl<A: Allocator> Walk<A> {
         selection: Selection<'_>,
         from: usize,
         directory: &str,
-        names: &mut Vec<String<A>, A>,
+        names: &mut Vec<Vec<u8, A>, A>,
     ) -> Result<(), AllocError>
     where
         A: Copy, {
         let in_package = are_of_package(names.as_slice());
         while let Some(name) = names.pop() {
-            self.push_name(alloc, selection, in_package, from, directory, name.as_str())?;
+            self.push_name(
+                alloc,
+                selection,
+                in_package,
+                from,
+                directory,
+                name.as_slice(),
+            )?;
         }
         Ok(())
     }
@@ -272,7 +302,7 @@ impl<A: Allocator> Walk<A> {
         selection: Selection<'_>,
         from: usize,
         directory: &str,
-        names: &mut Vec<String<A>, A>,
+        names: &mut Vec<Vec<u8, A>, A>,
     ) -> Result<(), AllocError>
     where
         A: Copy, {
@@ -300,9 +330,6 @@ impl<A: Allocator> Walk<A> {
             };
             match pending {
                 WalkEntry::File(path) => return Ok(Some(Visit::File(path))),
-                WalkEntry::BadName(directory) => {
-                    return Ok(Some(Visit::Failed(directory, PathError::NameNotUtf8)));
-                }
                 WalkEntry::BadPath(path) => {
                     return Ok(Some(Visit::Failed(path, PathError::PathNotUtf8)));
                 }

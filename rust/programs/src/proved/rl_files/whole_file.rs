@@ -3,7 +3,7 @@
 //! old or its new bytes.
 
 use crate::rattle_std::prelude::{Alloc, String, format};
-use crate::rl_files::host::{error_of, is_bad_name, read_all};
+use crate::rl_files::host::{error_of, read_all};
 use crate::rl_files::tree::PathError;
 use crate::rattle_std::alloc::{AllocError, Allocator};
 use crate::rattle_std::fs::{File, Metadata, OpenFile, OpenOptions, Permissions};
@@ -44,6 +44,11 @@ fn create_error_of(kind: ErrorKind) -> PathError {
 /// Returns the path of a new file in the directory of `path`: `path`, `.rl_scan-` and the number.
 fn path_beside<A: Allocator>(alloc: A, path: &str, number: u32) -> Result<String<A>, AllocError> {
     format!(in alloc; "{path}.rl_scan-{number}")
+}
+
+/// Whether `error` is the standard library's own error for a path that isn't UTF-8.
+fn is_not_utf8(error: &io::Error) -> bool {
+    error.kind() == ErrorKind::InvalidFilename && error.raw_os_error().is_none()
 }
 
 /// Returns the path of a file: `path`, or the target if `path` is a symbolic link.
@@ -253,7 +258,7 @@ pub(crate) fn replace_file<A: Allocator + Copy, R: Files + Alloc>(
 ) -> Result<(), PathError> {
     let real = match real_path(rt, alloc, path) {
         Ok(real) => real,
-        Err(e) if is_bad_name(&e) => return Err(PathError::NameNotUtf8),
+        Err(e) if is_not_utf8(&e) => return Err(PathError::PathNotUtf8),
         Err(e) => return Err(error_of(e.kind())),
     };
     let about = metadata_of(rt, real.as_str())?;

@@ -1,5 +1,5 @@
 use Rattle.std.proofs.Common.{arith}
-use Rattle.rl_files.proofs.WalkLemmas.{go_start, go_none, go_file, go_bad_name, go_bad_path, go_missing, go_given, go_enter, entered_none, entered_next, ended_early}
+use Rattle.rl_files.proofs.WalkLemmas.{go_start, go_none, go_file, go_bad_path, go_missing, go_given, go_enter, entered_none, entered_next, ended_early}
 use Rattle.rl_files.proofs.walk.Walk.next.Goals as goal
 
 pub returns-in_default : goal.returns-in_default
@@ -7,10 +7,6 @@ returns-in_default g c = go_none c.args.selection _ _ _ c.loop.invariant.on c.in
 
 pub returns-in-File : goal.returns-in-File
 returns-in-File g c = go_file c.args.selection _ _ _ _ _ c.loop.invariant.on (rw c.in-File.is at c.in-Some.ensures)
-
-pub returns-in-BadName : goal.returns-in-BadName
-returns-in-BadName g c = go_bad_name c.args.selection _ _ _ _ _ c.loop.invariant.on
-    (rw c.in-BadName.is at c.in-Some.ensures)
 
 pub returns-in-BadPath : goal.returns-in-BadPath
 returns-in-BadPath g c = go_bad_path c.args.selection _ _ _ _ _ c.loop.invariant.on
