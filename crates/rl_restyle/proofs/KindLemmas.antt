@@ -14,7 +14,7 @@ one_kind text (Some k) None (v, x, is) none = absurd (none k v x is)
 one_kind text None (Some l) none (w, y, are) = absurd (none l w y are)
 one_kind text None None none nothing = refl
 
--- A text has one label. So a literal is of none of the kinds in a list if its label isn't one of the words in the list.
+-- A text has one label. So a literal isn't of the kinds in a list if its label isn't one of the words in the list.
 pub no_kind : (list text label : List ℕ) → IsLabelOf text label → (Names list label → ⊥) → (other : List ℕ)
     → IsLabelOf text other → Names list other → ⊥
 no_kind list text label (kind, is, label_is) none other (own, are, other_is) names =

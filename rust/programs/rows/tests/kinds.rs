@@ -209,9 +209,8 @@ const KINDS: [&str; 9] = [
 ];
 
 /// Literals that the rules `drop_underscores`, `exponent_letter` and `fewest_hashes` or the rule `drop_quote_escapes` change, and
-/// their kinds. `1_0f32` is an integer with a suffix by `syn`'s grammar. The last one has a suffix of floats, and is above 128 bits,
-/// so it isn't a literal of this grammar.
-const LITERALS: [(&str, &str); 17] = [
+/// their kinds. `1_0f32` is an integer with a suffix by `syn`'s grammar. An integer above 128 bits is `Verbatim`.
+const LITERALS: [(&str, &str); 18] = [
     ("\"\\'\"", "Str"),
     ("r#\"a\"#", "Str"),
     ("\"\\'\"s", "Str"),
@@ -228,10 +227,8 @@ const LITERALS: [(&str, &str); 17] = [
     ("1_0.5", "Float"),
     ("1E5", "Float"),
     ("1E5f64", "Float"),
-    (
-        "3402823669209384634634633746074317682114560_0f64",
-        "Verbatim",
-    ),
+    ("3_40282366920938463463374607431768211456", "Verbatim"),
+    ("3_40282366920938463463374607431768211456f64", "Verbatim"),
 ];
 
 /// A literal is rewritten with `--only KIND` if `--only KIND` without another mode prints it.
