@@ -1,4 +1,4 @@
-use Rattle.rl_syntax.proofs.Common.{chars, sym}
+use Rattle.rl_syntax.proofs.Common.{chars}
 use Rattle.rl_restyle.proofs.NewTexts.{literal_text}
 use Rattle.rl_restyle.proofs.texts.text_of.Goals as goal
 
