@@ -28,7 +28,7 @@ unfoldable pub options : List OptionEntry
 options =
     option_entry (codes "--bad") None (Sets Bad) modes.Printing ∷
     option_entry (codes "--invisible") None (Sets Hidden) modes.Printing ∷
-    option_entry (codes "--only") None (Takes takes.Kinds) modes.Printing ∷
+    option_entry (codes "--only") None (Takes takes.Kinds) modes.All ∷
     option_entry (codes "--find") (Some (code "e")) (Takes takes.Text) modes.Printing ∷
     option_entry (codes "--ignore-case") (Some (code "i")) (Sets IgnoreCase) modes.Find ∷
     option_entry (codes "--word") (Some (code "w")) (Sets WholeWords) modes.Find ∷

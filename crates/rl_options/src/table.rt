@@ -43,7 +43,7 @@ const OPTIONS: [OptionRow; 41] = [
         name: "--only",
         letter: None,
         effect: Effect::Takes(Operand::Kinds),
-        modes: Modes::Printing,
+        modes: Modes::All,
     },
     OptionRow {
         name: "--find",

@@ -7,7 +7,7 @@ use Rattle.rl_style.specs.Restyled.{IsEdited}
 use Rattle.rl_style.specs.declared.style.Style.{Style}
 use Rattle.rl_restyle.specs.Edits.{Restyles, placed_edits}
 use Rattle.rl_restyle.specs.Places.{AreEditsIn}
-use Rattle.rl_restyle.specs.declared.edit.Macros.{Macros}
+use Rattle.rl_restyle.specs.declared.edit.Choice.{Choice}
 
 -- Edits of the end of a text are edits of the whole text. The end begins at the byte offset `at`.
 stand_on : (text front old new : List ℕ) (at : ℕ) (ws : List CutSource) (es : List (Option (List ℕ)))
@@ -45,6 +45,6 @@ stand_on text front old new at (w ∷ ws) (Some written ∷ es) is at_is (gap, a
     )
 
 -- The ranges of the edits of a rewritten source are in its old text.
-pub edits_stand : (style : Style) (macros : Macros) (t new : List ℕ) (edits : List (ℕ × ℕ × List ℕ))
-    → Restyles style macros t new edits → AreEditsIn t edits
-edits_stand style macros t new edits r = rw r.edits_are (stand_on t [] t new 0 r.cuts r.texts refl refl r.is_edited)
+pub edits_stand : (style : Style) (choice : Choice) (t new : List ℕ) (edits : List (ℕ × ℕ × List ℕ))
+    → Restyles style choice t new edits → AreEditsIn t edits
+edits_stand style choice t new edits r = rw r.edits_are (stand_on t [] t new 0 r.cuts r.texts refl refl r.is_edited)

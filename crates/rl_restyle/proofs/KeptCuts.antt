@@ -8,7 +8,7 @@ use Rattle.rl_style.specs.Rewriting.{Rewrites}
 use Rattle.rl_style.specs.declared.style.Style.{Style}
 use Rattle.rl_style.proofs.EditedCuts.{keeps_the_edited_source}
 use Rattle.rl_restyle.specs.Edits.{AreEdits, KeepsTheWholeSource, Seen, nothing_seen, seen_after}
-use Rattle.rl_restyle.specs.declared.edit.Macros.{Macros}
+use Rattle.rl_restyle.specs.declared.edit.Choice.{Choice}
 
 -- If a literal of a source without errors is rewritten in a style, the literal is one literal token, and the new text
 -- is the token's text in the style.
@@ -31,22 +31,22 @@ literal_in_style style t (DocBlockToken inside) at written front rest sound is t
 literal_in_style style t (BadQuoteToken q) at written front rest sound is text place rewrites = absurd sound
 literal_in_style style t (StrayToken c) at written front rest sound is text place rewrites = absurd is
 
-in_style : (style : Style) (macros : Macros) (t : List ℕ) (seen : Seen) (ws : List CutSource)
-    (es : List (Option (List ℕ))) → AllByRecursion IsSound ws → AreEdits style macros t seen ws es
+in_style : (style : Style) (choice : Choice) (t : List ℕ) (seen : Seen) (ws : List CutSource)
+    (es : List (Option (List ℕ))) → AllByRecursion IsSound ws → AreEdits style choice t seen ws es
     → AreInStyle style 0 t ws es
-in_style style macros t seen [] [] sound are = tt
-in_style style macros t seen [] (e ∷ es) sound are = absurd are
-in_style style macros t seen (w ∷ ws) [] sound are = absurd are
-in_style style macros t seen (w ∷ ws) (None ∷ es) (first, sound) (is, are) =
-    (tt, in_style style macros t (seen_after seen w) ws es sound are)
-in_style style macros t seen (w ∷ ws) (Some new ∷ es) (first, sound)
-    ((front, rest, around, inl ((is, taken), (rewrites, differs))), are) = (
+in_style style choice t seen [] [] sound are = tt
+in_style style choice t seen [] (e ∷ es) sound are = absurd are
+in_style style choice t seen (w ∷ ws) [] sound are = absurd are
+in_style style choice t seen (w ∷ ws) (None ∷ es) (first, sound) (is, are) =
+    (tt, in_style style choice t (seen_after seen w) ws es sound are)
+in_style style choice t seen (w ∷ ws) (Some new ∷ es) (first, sound)
+    ((front, rest, around, inl ((is, taken, listed), (rewrites, differs))), are) = (
       literal_in_style style t w.token w.at new front around.after first is around.text_is around.at_is rewrites,
-      in_style style macros t (seen_after seen w) ws es sound are,
+      in_style style choice t (seen_after seen w) ws es sound are,
     )
-in_style style macros t seen (w ∷ ws) (Some new ∷ es) (first, sound)
+in_style style choice t seen (w ∷ ws) (Some new ∷ es) (first, sound)
     ((front, rest, around, inr (not_taken, none)), are) = absurd (none-some new (sym none))
 
 pub keeps_the_source_around_a_restyled_literal : KeepsTheWholeSource
-keeps_the_source_around_a_restyled_literal style macros t new edits r sound = keeps_the_edited_source style t r.cuts r.texts new []
-    r.is_code r.are_cuts sound r.is_edited (in_style style macros t nothing_seen r.cuts r.texts sound r.are_edits)
+keeps_the_source_around_a_restyled_literal style choice t new edits r sound = keeps_the_edited_source style t r.cuts r.texts new []
+    r.is_code r.are_cuts sound r.is_edited (in_style style choice t nothing_seen r.cuts r.texts sound r.are_edits)

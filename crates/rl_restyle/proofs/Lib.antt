@@ -2,6 +2,7 @@ pub mod ValueLemmas
 pub mod TextSlices
 pub mod Pieces
 pub mod NewTexts
+pub mod KindLemmas
 pub mod Drafts
 pub mod KeptCuts
 pub mod EditPlaces

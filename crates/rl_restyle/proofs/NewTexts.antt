@@ -1,5 +1,5 @@
 -- Lemmas about the new text of a literal, as the code creates it.
-use Rattle.rl_syntax.proofs.Common.{◌≡◌, ◌≢◌, ◌++◌, inl, length, take, drop, take-append_seam, chars-append, IsTrue, List, Ok, Err, Option, Result, Some, None, ℕ, sym, ◌∙◌, ap, subst, chars, encode_utf8_all, encodes-chars, string_bytes, IsUtf8, IfNone, IfOk, IfSome}
+use Rattle.rl_syntax.proofs.Common.{◌≡◌, ◌≢◌, ◌++◌, inl, length, take, drop, take-append_seam, chars-append, List, Ok, Err, Option, Result, Some, None, ℕ, sym, ◌∙◌, ap, subst, chars, encode_utf8_all, encodes-chars, string_bytes, IsUtf8, IfNone, IfOk, IfSome}
 use Rattle.std.specs.Prelude.{String}
 use Rattle.rl_strict.specs.StrictShapes.{IsToken}
 use Rattle.rl_strict.specs.StrictFlaws.{ExplainsStrictly}
@@ -10,8 +10,8 @@ use Rattle.rl_style.proofs.OneAnswer.{one_answer}
 use Rattle.rl_style.proofs.SameLiterals.{same_number}
 use Rattle.rl_style.specs.declared.restylable.Restylable.{Restylable}
 use Rattle.rl_restyle.specs.Places.{IsTextBetween}
-use Rattle.rl_restyle.specs.Edits.{IsRewritten, IsTextOf, is_chosen, text_in}
-use Rattle.rl_restyle.specs.declared.edit.Macros.{Macros}
+use Rattle.rl_restyle.specs.Edits.{IsChosenLiteral, IsRewritten, IsTextOf, text_in}
+use Rattle.rl_restyle.specs.declared.edit.Choice.{Choice}
 
 -- Texts with equal characters have equal bytes.
 pub same_bytes : (x y : List ℕ) → IsUtf8 x → IsUtf8 y → chars x ≡ chars y → x ≡ y
@@ -38,13 +38,13 @@ all_items n written items whole is long = is ∙ ap (λ z. take z (written ++ dr
 
 -- Suppose that a literal may be rewritten, and that `before` is the source before the literal. If the code rewrites the
 -- literal after the text `before`, the result is the literal's new text in the source.
-pub literal_text : {A E : Type 0} (style : Style) (macros : Macros) (source : List ℕ) (l : Restylable)
-    (before : List ℕ) (made : Result (Option (String A)) E) → IsTrue (is_chosen macros l.is_field l.in_macro)
+pub literal_text : {A E : Type 0} (style : Style) (choice : Choice) (source : List ℕ) (l : Restylable)
+    (before : List ℕ) (made : Result (Option (String A)) E) → IsChosenLiteral choice l
     → ((front : List ℕ) → IsTextBetween source 0 l.token.lo front → before ≡ front)
     → IfOk made (λ m. IsRewritten style before (chars l.token.text.now) (text_in m))
-    → IfOk made (λ m. IsTextOf style macros source l (text_in m))
-literal_text style macros source l before (Err e) taken at is = tt
-literal_text style macros source l before (Ok m) taken at is = inl (
+    → IfOk made (λ m. IsTextOf style choice source l (text_in m))
+literal_text style choice source l before (Err e) taken at is = tt
+literal_text style choice source l before (Ok m) taken at is = inl (
   taken,
   λ front stands. subst (λ z. IsRewritten style z (chars l.token.text.now) (text_in m)) (at front stands) is,
 )

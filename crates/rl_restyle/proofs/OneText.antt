@@ -15,8 +15,8 @@ use Rattle.rl_style.specs.declared.style.Style.{Style}
 use Rattle.rl_style.proofs.OneAnswer.{one_answer}
 use Rattle.rl_style.proofs.Places.{same_place}
 use Rattle.rl_style.proofs.Recut.{IsFull, lexeme_full}
-use Rattle.rl_restyle.specs.Edits.{AreEdits, HasOneText, IsChosen, IsEditOf, IsRewritten, Seen, Surrounds, is_chosen, nothing_seen, placed_edits, seen_after}
-use Rattle.rl_restyle.specs.declared.edit.Macros.{Macros}
+use Rattle.rl_restyle.specs.Edits.{AreEdits, HasOneText, IsChosen, IsEditOf, IsOfKinds, IsRewritten, Seen, Surrounds, is_rewritable, nothing_seen, placed_edits, seen_after}
+use Rattle.rl_restyle.specs.declared.edit.Choice.{Choice}
 
 -- ---- lemmas: the end of the source begins with no token
 
@@ -63,14 +63,14 @@ one_rewriting style front old (Some x) (Some y) r s = ap Some (one_answer style 
 one_rewriting style front old (Some x) None r s = absurd (r.1 (s x r.0))
 one_rewriting style front old None (Some y) r s = absurd (s.1 (r y s.0))
 
-one_edit : (style : Style) (macros : Macros) (t : List ℕ) (seen : Seen) (w : CutSource) (e f : Option (List ℕ))
-    → IsEditOf style macros t seen w e → IsEditOf style macros t seen w f → e ≡ f
-one_edit style macros t seen w e f (front, rest, here, is) (g, r, there, other) = go is
+one_edit : (style : Style) (choice : Choice) (t : List ℕ) (seen : Seen) (w : CutSource) (e f : Option (List ℕ))
+    → IsEditOf style choice t seen w e → IsEditOf style choice t seen w f → e ≡ f
+one_edit style choice t seen w e f (front, rest, here, is) (g, r, there, other) = go is
     (subst (λ z. IsEdit z rest f) fronts.0 (subst (λ z. IsEdit g z f) rests other))
   where
     IsEdit : List ℕ → List ℕ → Option (List ℕ) → Type 0
-    IsEdit front rest e = (IsChosen macros seen w rest × IsRewritten style front (source_text w.token) e)
-        ⊎ ((IsChosen macros seen w rest → ⊥) × (e ≡ None))
+    IsEdit front rest e = (IsChosen choice seen w rest × IsRewritten style front (source_text w.token) e)
+        ⊎ ((IsChosen choice seen w rest → ⊥) × (e ≡ None))
 
     fronts : (g ≡ front) × (source_text w.token ++ there.after ≡ source_text w.token ++ here.after)
     fronts = same_place g front (source_text w.token ++ there.after) (source_text w.token ++ here.after)
@@ -89,9 +89,9 @@ one_edit style macros t seen w e f (front, rest, here, is) (g, r, there, other) 
     go (inr (stays, none)) (inr (other, nothing)) = none ∙ sym nothing
 
 -- If two tokens have the same kind, text and byte offset, they have the same edit.
-edit_alike : (style : Style) (macros : Macros) (t : List ℕ) (seen : Seen) (v w : CutSource) (e : Option (List ℕ))
-    → told v ≡ told w → IsEditOf style macros t seen v e → IsEditOf style macros t seen w e
-edit_alike style macros t seen v w e same (front, rest, around, is) = (front, rest, there, go is)
+edit_alike : (style : Style) (choice : Choice) (t : List ℕ) (seen : Seen) (v w : CutSource) (e : Option (List ℕ))
+    → told v ≡ told w → IsEditOf style choice t seen v e → IsEditOf style choice t seen w e
+edit_alike style choice t seen v w e same (front, rest, around, is) = (front, rest, there, go is)
   where
     there : Surrounds t w front rest
     there = record {
@@ -103,36 +103,37 @@ edit_alike style macros t seen v w e same (front, rest, around, is) = (front, re
 
     Chosen : Token → Type 0
     Chosen p = IsLiteralText p.0 p.1
-        × IsTrue (is_chosen macros (is_field seen.last (encode_utf8_all p.1) rest) (is_in_call seen.calls))
+        × IsTrue (is_rewritable choice.macros (is_field seen.last (encode_utf8_all p.1) rest) (is_in_call seen.calls))
+        × IsOfKinds choice.kinds p.1
 
     Written : Token → Type 0
     Written p = IsRewritten style front p.1 e
 
-    go : (IsChosen macros seen v rest × IsRewritten style front (source_text v.token) e)
-        ⊎ ((IsChosen macros seen v rest → ⊥) × (e ≡ None))
-        → (IsChosen macros seen w rest × IsRewritten style front (source_text w.token) e)
-        ⊎ ((IsChosen macros seen w rest → ⊥) × (e ≡ None))
+    go : (IsChosen choice seen v rest × IsRewritten style front (source_text v.token) e)
+        ⊎ ((IsChosen choice seen v rest → ⊥) × (e ≡ None))
+        → (IsChosen choice seen w rest × IsRewritten style front (source_text w.token) e)
+        ⊎ ((IsChosen choice seen w rest → ⊥) × (e ≡ None))
     go (inl (chosen, r)) = inl (subst Chosen same chosen, subst Written same r)
     go (inr (stays, none)) = inr (λ chosen. stays (subst Chosen (sym same) chosen), none)
 
 -- ---- lemmas about the edits of all tokens
 
-same_texts : (style : Style) (macros : Macros) (t : List ℕ) (seen : Seen) (vs ws : List CutSource)
-    (es fs : List (Option (List ℕ))) → map told vs ≡ map told ws → AreEdits style macros t seen vs es
-    → AreEdits style macros t seen ws fs → es ≡ fs
-same_texts style macros t seen [] [] [] [] e a b = refl
-same_texts style macros t seen [] [] [] (f ∷ fs) e a b = absurd b
-same_texts style macros t seen [] [] (x ∷ es) fs e a b = absurd a
-same_texts style macros t seen [] (w ∷ ws) es fs e a b = absurd (cc)
-same_texts style macros t seen (v ∷ vs) [] es fs e a b = absurd (cc)
-same_texts style macros t seen (v ∷ vs) (w ∷ ws) [] fs e a b = absurd a
-same_texts style macros t seen (v ∷ vs) (w ∷ ws) (x ∷ es) [] e a b = absurd b
-same_texts style macros t seen (v ∷ vs) (w ∷ ws) (x ∷ es) (y ∷ fs) e (a, olds) (b, news) =
+same_texts : (style : Style) (choice : Choice) (t : List ℕ) (seen : Seen) (vs ws : List CutSource)
+    (es fs : List (Option (List ℕ))) → map told vs ≡ map told ws → AreEdits style choice t seen vs es
+    → AreEdits style choice t seen ws fs → es ≡ fs
+same_texts style choice t seen [] [] [] [] e a b = refl
+same_texts style choice t seen [] [] [] (f ∷ fs) e a b = absurd b
+same_texts style choice t seen [] [] (x ∷ es) fs e a b = absurd a
+same_texts style choice t seen [] (w ∷ ws) es fs e a b = absurd (cc)
+same_texts style choice t seen (v ∷ vs) [] es fs e a b = absurd (cc)
+same_texts style choice t seen (v ∷ vs) (w ∷ ws) [] fs e a b = absurd a
+same_texts style choice t seen (v ∷ vs) (w ∷ ws) (x ∷ es) [] e a b = absurd b
+same_texts style choice t seen (v ∷ vs) (w ∷ ws) (x ∷ es) (y ∷ fs) e (a, olds) (b, news) =
     let first : told v ≡ told w = cc in
     let others : map told vs ≡ map told ws = cc in
-    let one : x ≡ y = one_edit style macros t seen w x y (edit_alike style macros t seen v w x first a) b in
-    let more : es ≡ fs = same_texts style macros t (seen_after seen w) vs ws es fs others
-    (subst (λ (z : Seen). AreEdits style macros t z vs es) (seen_same seen v w first) olds) news in
+    let one : x ≡ y = one_edit style choice t seen w x y (edit_alike style choice t seen v w x first a) b in
+    let more : es ≡ fs = same_texts style choice t (seen_after seen w) vs ws es fs others
+    (subst (λ (z : Seen). AreEdits style choice t z vs es) (seen_same seen v w first) olds) news in
     ap (λ z. z ∷ es) one ∙ ap (λ z. y ∷ z) more
 
 edited_alike : (e : Option (List ℕ)) (v w : SourceLexeme) → source_text v ≡ source_text w
@@ -179,10 +180,10 @@ same_placed (v ∷ vs) (w ∷ ws) (Some x ∷ es) e =
     ∙ ap (λ z. (w.at, source_end w, x) ∷ z) (same_placed vs ws es later)
 
 pub has_one_text : HasOneText
-has_one_text style macros t new other edits told_edits r s =
+has_one_text style choice t new other edits told_edits r s =
     let same : map told r.cuts ≡ map told s.cuts = (one_lexing t r.cuts s.cuts [] [] r.are_cuts none_at_end s.are_cuts
     none_at_end).0 in
-    let texts : r.texts ≡ s.texts = same_texts style macros t nothing_seen r.cuts s.cuts r.texts s.texts same
+    let texts : r.texts ≡ s.texts = same_texts style choice t nothing_seen r.cuts s.cuts r.texts s.texts same
     r.are_edits s.are_edits in (
       same_new 0 t r.cuts s.cuts s.texts new other same
           (subst (λ z. IsEdited 0 t r.cuts z new) texts r.is_edited) s.is_edited,

@@ -8,7 +8,7 @@ use Rattle.rl_style.specs.Restyled.{IsEdited, edited_text}
 use Rattle.rl_style.specs.declared.style.Style.{Style}
 use Rattle.rl_restyle.specs.Edits.{AreEdits, IsEditOf, Seen, placed_edits, seen_after}
 use Rattle.rl_restyle.specs.Mirrors.{seen_all}
-use Rattle.rl_restyle.specs.declared.edit.Macros.{Macros}
+use Rattle.rl_restyle.specs.declared.edit.Choice.{Choice}
 
 -- ---- lemmas about the ends of a text
 
@@ -177,27 +177,27 @@ edited_more at old (v ∷ ws) (d ∷ es) new gap w e (first, after, new_after, o
     longer : (t g s a x : List ℕ) → t ≡ g ++ (s ++ a) → t ++ x ≡ g ++ (s ++ (a ++ x))
     longer t g s a x is = ap (λ z. z ++ x) is ∙ append_assoc g (s ++ a) x ∙ ap (λ z. g ++ z) (append_assoc s a x)
 
-pub edits_more : (style : Style) (macros : Macros) (t : List ℕ) (seen : Seen) (ws : List CutSource)
-    (es : List (Option (List ℕ))) (w : CutSource) (e : Option (List ℕ)) → AreEdits style macros t seen ws es
-    → IsEditOf style macros t (seen_all seen ws) w e → AreEdits style macros t seen (ws ++ w ∷ []) (es ++ e ∷ [])
-edits_more style macros t seen [] [] w e are is = (is, tt)
-edits_more style macros t seen [] (d ∷ es) w e are is = absurd are
-edits_more style macros t seen (v ∷ ws) [] w e are is = absurd are
-edits_more style macros t seen (v ∷ ws) (d ∷ es) w e (first, are) is =
-    (first, edits_more style macros t (seen_after seen v) ws es w e are is)
+pub edits_more : (style : Style) (choice : Choice) (t : List ℕ) (seen : Seen) (ws : List CutSource)
+    (es : List (Option (List ℕ))) (w : CutSource) (e : Option (List ℕ)) → AreEdits style choice t seen ws es
+    → IsEditOf style choice t (seen_all seen ws) w e → AreEdits style choice t seen (ws ++ w ∷ []) (es ++ e ∷ [])
+edits_more style choice t seen [] [] w e are is = (is, tt)
+edits_more style choice t seen [] (d ∷ es) w e are is = absurd are
+edits_more style choice t seen (v ∷ ws) [] w e are is = absurd are
+edits_more style choice t seen (v ∷ ws) (d ∷ es) w e (first, are) is =
+    (first, edits_more style choice t (seen_after seen v) ws es w e are is)
 
 pub seen_more : (seen : Seen) (ws : List CutSource) (w : CutSource) → seen_all seen (ws ++ w ∷ [])
     ≡ seen_after (seen_all seen ws) w
 seen_more seen [] w = refl
 seen_more seen (v ∷ ws) w = seen_more (seen_after seen v) ws w
 
-pub placed_more : (style : Style) (macros : Macros) (t : List ℕ) (seen : Seen) (ws : List CutSource)
-    (es : List (Option (List ℕ))) (w : CutSource) (e : Option (List ℕ)) → AreEdits style macros t seen ws es
+pub placed_more : (style : Style) (choice : Choice) (t : List ℕ) (seen : Seen) (ws : List CutSource)
+    (es : List (Option (List ℕ))) (w : CutSource) (e : Option (List ℕ)) → AreEdits style choice t seen ws es
     → placed_edits (ws ++ w ∷ []) (es ++ e ∷ []) ≡ placed_edits ws es ++ placed_edits (w ∷ []) (e ∷ [])
-placed_more style macros t seen [] [] w e are = refl
-placed_more style macros t seen [] (d ∷ es) w e are = absurd are
-placed_more style macros t seen (v ∷ ws) [] w e are = absurd are
-placed_more style macros t seen (v ∷ ws) (None ∷ es) w e (first, are) =
-    placed_more style macros t (seen_after seen v) ws es w e are
-placed_more style macros t seen (v ∷ ws) (Some new ∷ es) w e (first, are) = ap (λ z. (v.at, source_end v, new) ∷ z)
-    (placed_more style macros t (seen_after seen v) ws es w e are)
+placed_more style choice t seen [] [] w e are = refl
+placed_more style choice t seen [] (d ∷ es) w e are = absurd are
+placed_more style choice t seen (v ∷ ws) [] w e are = absurd are
+placed_more style choice t seen (v ∷ ws) (None ∷ es) w e (first, are) =
+    placed_more style choice t (seen_after seen v) ws es w e are
+placed_more style choice t seen (v ∷ ws) (Some new ∷ es) w e (first, are) = ap (λ z. (v.at, source_end v, new) ∷ z)
+    (placed_more style choice t (seen_after seen v) ws es w e are)

@@ -3,9 +3,12 @@
 use Rattle.std.specs.Prelude.{◌≡◌, ◌≢◌, ◌⊎◌, ℕ, Bool, not, ◌&&◌, List, [], ◌∷◌, ◌++◌, Option, Some, None, option_map, encode_utf8_all, String, string_bytes, IsFalse, IsTrue, ⊤}
 use Rattle.std.specs.List.{AllByRecursion}
 use Rattle.std.specs.Str.{chars}
+use denote.Ref.{Bor}
 use Rattle.rl_syntax.specs.Texts.{byte_len}
 use Rattle.rl_lexer.specs.Skipping.{Skipped}
 use Rattle.rl_lexer.specs.Sources.{CutSource, IsCutUpTo, IsLiteralText, SourceError, source_end, source_kind, source_text}
+use Rattle.rl_output.specs.Choices.{Names}
+use Rattle.rl_program.specs.Lines.{IsLabelOf}
 use Rattle.rl_style.specs.Calls.{CallState, Outside, advance_calls, is_in_call}
 use Rattle.rl_style.specs.Recut.{IsSound, begins_with_code}
 use Rattle.rl_style.specs.Restylable.{is_field, last_after}
@@ -16,6 +19,7 @@ use Rattle.rl_style.specs.declared.restylable.Last.TheVariants.{Other}
 use Rattle.rl_style.specs.declared.restylable.Restylable.{Restylable}
 use Rattle.rl_style.specs.declared.style.Style.{Style}
 use Rattle.rl_restyle.specs.Places.{IsTextBetween}
+use Rattle.rl_restyle.specs.declared.edit.Choice.{Choice}
 use Rattle.rl_restyle.specs.declared.edit.Edit.{Edit}
 use Rattle.rl_restyle.specs.declared.edit.Macros.{Macros}
 use Rattle.rl_restyle.specs.declared.edit.Macros.TheVariants.{Skip, All}
@@ -44,18 +48,25 @@ seen_after seen w = record {
   calls = advance_calls seen.calls (source_kind w.token) (cut_bytes w);
 }
 
--- Whether a literal is rewritten. The first flag is `true` if the literal may be a field of a tuple, and the second if
--- it is inside a macro call.
-abbrev pub is_chosen : Macros → Bool → Bool → Bool
-is_chosen Skip field inside = not field && not inside
-is_chosen All field inside = not field
+-- Whether a literal at a position is rewritten. The first flag is `true` if the literal may be a field of a tuple, and the
+-- second if it is inside a macro call.
+abbrev pub is_rewritable : Macros → Bool → Bool → Bool
+is_rewritable Skip field inside = not field && not inside
+is_rewritable All field inside = not field
+
+-- The label of the literal `text` is one of the words in a list, or there is no list. The label is the name of the literal's
+-- kind by `syn`'s grammar, or `Verbatim`.
+abbrev pub IsOfKinds : Option (Bor (List ℕ)) → List ℕ → Type 0
+IsOfKinds None text = ⊤
+IsOfKinds (Some list) text = (label : List ℕ) × IsLabelOf text label × Names list.now label
 
 -- A condition on a token: it is a literal that is rewritten. `rest` is the text after the token, without white space
 -- and comments at its beginning.
-abbrev pub IsChosen : Macros → Seen → CutSource → List ℕ → Type 0
-IsChosen macros seen w rest =
+abbrev pub IsChosen : Choice → Seen → CutSource → List ℕ → Type 0
+IsChosen choice seen w rest =
     IsLiteralText (source_kind w.token) (source_text w.token)
-    × IsTrue (is_chosen macros (is_field seen.last (cut_bytes w) rest) (is_in_call seen.calls))
+    × IsTrue (is_rewritable choice.macros (is_field seen.last (cut_bytes w) rest) (is_in_call seen.calls))
+    × IsOfKinds choice.kinds (source_text w.token)
 
 -- The text consists of `front`, the token, white space and comments, and `rest`.
 pub record Surrounds (t : List ℕ) (w : CutSource) (front rest : List ℕ) : Type 0 where
@@ -72,17 +83,17 @@ IsRewritten style front old (Some new) = Rewrites style front old new × (new �
 IsRewritten style front old None = (new : List ℕ) → Rewrites style front old new → new ≡ old
 
 -- The new text of a token of a source, or `None` if the token isn't a literal that the style changes.
-abbrev pub IsEditOf : Style → Macros → List ℕ → Seen → CutSource → Option (List ℕ) → Type 0
-IsEditOf style macros t seen w e =
+abbrev pub IsEditOf : Style → Choice → List ℕ → Seen → CutSource → Option (List ℕ) → Type 0
+IsEditOf style choice t seen w e =
     (front rest : List ℕ) × Surrounds t w front rest
-    × ((IsChosen macros seen w rest × IsRewritten style front (source_text w.token) e)
-    ⊎ ((IsChosen macros seen w rest → ⊥) × (e ≡ None)))
+    × ((IsChosen choice seen w rest × IsRewritten style front (source_text w.token) e)
+    ⊎ ((IsChosen choice seen w rest → ⊥) × (e ≡ None)))
 
-abbrev pub AreEdits : Style → Macros → List ℕ → Seen → List CutSource → List (Option (List ℕ)) → Type 0
-AreEdits style macros t seen [] [] = ⊤
-AreEdits style macros t seen (w ∷ ws) (e ∷ es) =
-    IsEditOf style macros t seen w e × AreEdits style macros t (seen_after seen w) ws es
-AreEdits style macros t seen _ _ = ⊥
+abbrev pub AreEdits : Style → Choice → List ℕ → Seen → List CutSource → List (Option (List ℕ)) → Type 0
+AreEdits style choice t seen [] [] = ⊤
+AreEdits style choice t seen (w ∷ ws) (e ∷ es) =
+    IsEditOf style choice t seen w e × AreEdits style choice t (seen_after seen w) ws es
+AreEdits style choice t seen _ _ = ⊥
 
 -- The edits of a source: the new texts of tokens, each with the byte offsets in the old text where its token begins and
 -- ends.
@@ -95,12 +106,12 @@ placed_edits _ _ = []
 
 -- The text `new` is the source `t` rewritten in a style, and `edits` are the changed literals. The source is lexed to
 -- its end, and `new` consists of the old tokens, each with its text in the style.
-pub record Restyles (style : Style) (macros : Macros) (t new : List ℕ) (edits : List (ℕ × ℕ × List ℕ)) : Type 0 where
+pub record Restyles (style : Style) (choice : Choice) (t new : List ℕ) (edits : List (ℕ × ℕ × List ℕ)) : Type 0 where
   pub is_code : IsTrue (begins_with_code t)
   pub cuts : List CutSource
   pub texts : List (Option (List ℕ))
   pub are_cuts : IsCutUpTo t cuts []
-  pub are_edits : AreEdits style macros t nothing_seen cuts texts
+  pub are_edits : AreEdits style choice t nothing_seen cuts texts
   pub is_edited : IsEdited 0 t cuts texts new
   pub edits_are : edits ≡ placed_edits cuts texts
 
@@ -118,13 +129,18 @@ edit_in edit = (edit.lo, edit.hi, chars (string_bytes edit.text))
 abbrev pub text_in : {A : Type 0} → Option (String A) → Option (List ℕ)
 text_in new = option_map (λ s. chars (string_bytes s)) new
 
+-- The literal, as the code has it, is rewritten.
+abbrev pub IsChosenLiteral : Choice → Restylable → Type 0
+IsChosenLiteral choice l =
+    IsTrue (is_rewritable choice.macros l.is_field l.in_macro) × IsOfKinds choice.kinds (chars l.token.text.now)
+
 -- The new text of a literal of the source.
-abbrev pub IsTextOf : Style → Macros → List ℕ → Restylable → Option (List ℕ) → Type 0
-IsTextOf style macros source l e =
-    (IsTrue (is_chosen macros l.is_field l.in_macro)
+abbrev pub IsTextOf : Style → Choice → List ℕ → Restylable → Option (List ℕ) → Type 0
+IsTextOf style choice source l e =
+    (IsChosenLiteral choice l
     × ((front : List ℕ) → IsTextBetween source 0 l.token.lo front
     → IsRewritten style front (chars l.token.text.now) e))
-    ⊎ (IsFalse (is_chosen macros l.is_field l.in_macro) × (e ≡ None))
+    ⊎ ((IsChosenLiteral choice l → ⊥) × (e ≡ None))
 
 -- ---- theorems
 
@@ -132,11 +148,11 @@ IsTextOf style macros source l e =
 -- stray characters.
 abbrev pub KeepsTheWholeSource : Type 0
 KeepsTheWholeSource =
-    (style : Style) (macros : Macros) (t new : List ℕ) (edits : List (ℕ × ℕ × List ℕ))
-    → (r : Restyles style macros t new edits) → AllByRecursion IsSound r.cuts → IsEditedSource new r.cuts r.texts []
+    (style : Style) (choice : Choice) (t new : List ℕ) (edits : List (ℕ × ℕ × List ℕ))
+    → (r : Restyles style choice t new edits) → AllByRecursion IsSound r.cuts → IsEditedSource new r.cuts r.texts []
 
 -- A theorem: a source has exactly one new text and one list of edits in a style.
 abbrev pub HasOneText : Type 0
 HasOneText =
-    (style : Style) (macros : Macros) (t new other : List ℕ) (edits others : List (ℕ × ℕ × List ℕ))
-    → Restyles style macros t new edits → Restyles style macros t other others → (new ≡ other) × (edits ≡ others)
+    (style : Style) (choice : Choice) (t new other : List ℕ) (edits others : List (ℕ × ℕ × List ℕ))
+    → Restyles style choice t new edits → Restyles style choice t other others → (new ≡ other) × (edits ≡ others)

@@ -9,7 +9,7 @@ use Rattle.rl_style.specs.Restyled.{IsEdited}
 use Rattle.rl_style.specs.declared.restylable.Restylable.{Restylable}
 use Rattle.rl_style.specs.declared.style.Style.{Style}
 use Rattle.rl_restyle.specs.Edits.{AreEdits, Seen, nothing_seen, placed_edits, seen_after}
-use Rattle.rl_restyle.specs.declared.edit.Macros.{Macros}
+use Rattle.rl_restyle.specs.declared.edit.Choice.{Choice}
 
 abbrev pub seen_all : Seen → List CutSource → Seen
 seen_all seen [] = seen
@@ -20,14 +20,14 @@ seen_of s = record { last = s.last; end = s.end; calls = s.calls }
 
 -- A partly rewritten source. The cursor's state after the last lexed token is `s`. The text `out` replaces the old text
 -- before the byte offset `at`. The old text from `at` up to the last lexed token stays unchanged.
-pub record IsDraft (style : Style) (macros : Macros) (t : List ℕ) (s : RestylableState) (at : ℕ) (out : List ℕ)
+pub record IsDraft (style : Style) (choice : Choice) (t : List ℕ) (s : RestylableState) (at : ℕ) (out : List ℕ)
     (edits : List (ℕ × ℕ × List ℕ)) : Type 0 where
   pub whole : chars s.tokens.text ≡ t
   pub cursor : IsCursorState s.tokens.text s.tokens.rest
   pub cuts : List CutSource
   pub texts : List (Option (List ℕ))
   pub are_cuts : IsCutUpTo t cuts (chars s.tokens.rest)
-  pub are_edits : AreEdits style macros t nothing_seen cuts texts
+  pub are_edits : AreEdits style choice t nothing_seen cuts texts
   pub seen_is : seen_all nothing_seen cuts ≡ seen_of s
   pub front : List ℕ
   pub tail : List ℕ
@@ -38,6 +38,6 @@ pub record IsDraft (style : Style) (macros : Macros) (t : List ℕ) (s : Restyla
   pub edits_are : edits ≡ placed_edits cuts texts
 
 -- The literal is the next one after a partly rewritten source.
-abbrev pub IsNextIn : Style → Macros → List ℕ → Restylable → ℕ → List ℕ → List (ℕ × ℕ × List ℕ) → Type 0
-IsNextIn style macros t l at out edits =
-    (old new : RestylableState) × IsDraft style macros t old at out edits × GivesLiteral old l new
+abbrev pub IsNextIn : Style → Choice → List ℕ → Restylable → ℕ → List ℕ → List (ℕ × ℕ × List ℕ) → Type 0
+IsNextIn style choice t l at out edits =
+    (old new : RestylableState) × IsDraft style choice t old at out edits × GivesLiteral old l new

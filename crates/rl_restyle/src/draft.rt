@@ -7,7 +7,7 @@ ghost use Rattle.rl_restyle.specs.Places.{IsTextBetween};
 ghost use Rattle.rl_restyle.specs.Edits.{edit_in};
 ghost use Rattle.rl_restyle.specs.Mirrors.{IsDraft, IsNextIn};
 
-use crate::edit::{Edit, Macros};
+use crate::edit::{Choice, Edit};
 use crate::slices::between;
 use crate::texts::text_of;
 use rl_style::{Restylable, Style};
@@ -55,21 +55,21 @@ fn put<A: Allocator>(
 pub(crate) fn put_literal<A: Allocator + Copy>(
     alloc: A,
     style: Style,
-    macros: Macros,
+    choice: Choice<'_>,
     source: &str,
     literal: Restylable<'_>,
     draft: &mut Draft<A>,
 ) -> Result<(), AllocError>
-    requires { IsNextIn style macros (chars source.now) literal draft.old.at
+    requires { IsNextIn style choice (chars source.now) literal draft.old.at
         (chars (string_bytes draft.old.text)) (map edit_in draft.old.edits.items) }
     ensures { OnOk result ((old new : RestylableState)
-        → IsDraft style macros (chars source.now) old draft.old.at
+        → IsDraft style choice.entry (chars source.now) old draft.old.at
         (chars (string_bytes draft.old.text)) (map edit_in draft.old.edits.items)
         → GivesLiteral old literal.entry new
-        → IsDraft style macros (chars source.now) new draft.new.at
+        → IsDraft style choice.entry (chars source.now) new draft.new.at
         (chars (string_bytes draft.new.text)) (map edit_in draft.new.edits.items)) }
 {
-    let new = text_of(alloc, style, macros, source, literal)?;
+    let new = text_of(alloc, style, choice, source, literal)?;
     match new {
         Some(new) => put(draft, source, literal, new),
         None => Ok(()),

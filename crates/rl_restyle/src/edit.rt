@@ -13,6 +13,17 @@ pub enum Macros {
     All,
 }
 
+/// Selects the literals that are rewritten.
+#[derive(Clone, Copy)]
+pub struct Choice<'a> {
+    /// Whether literals inside macro calls, `macro_rules!` definitions and attributes are rewritten.
+    pub macros: Macros,
+    /// The kinds of the literals that are rewritten, or `None` for all kinds. The list has names of kinds with commas between, in
+    /// upper or lower case. A literal's kind is the one by `syn`'s grammar. A literal that isn't one by this grammar has the kind
+    /// `Verbatim`.
+    pub kinds: Option<&'a str>,
+}
+
 /// The change of one literal in a source.
 #[derive(Drop)]
 pub struct Edit<A: Allocator = Global> {

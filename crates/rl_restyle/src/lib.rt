@@ -17,7 +17,7 @@ mod values;
 mod whole;
 
 pub use crate::changing::changing_rules;
-pub use crate::edit::{Edit, Macros, RestyleError, Restyled};
+pub use crate::edit::{Choice, Edit, Macros, RestyleError, Restyled};
 pub use crate::rule::{RULES, Rule, number_of, settable_rules};
 pub use crate::settings::settings_text;
 pub use crate::slices::between;

@@ -1,12 +1,16 @@
 //! Creates the new text of a literal in a style.
 
-ghost use Rattle.std.specs.Prelude.{◌≡◌, ◌≢◌, ◌+◌, ◌*◌, ℕ, List, length, string_bytes, IfNone, IfOk, IfSome};
+ghost use Rattle.std.specs.Prelude.{◌≡◌, ◌≢◌, ◌+◌, ◌*◌, ℕ, List, length, string_bytes, IfNone, IfOk, IfSome, MatchBool};
 ghost use Rattle.std.specs.Str.{chars};
 ghost use Rattle.rl_restyle.specs.Places.{IsTextBetween};
-ghost use Rattle.rl_restyle.specs.Edits.{IsRewritten, IsTextOf, is_chosen, text_in};
+ghost use Rattle.rl_program.specs.Lines.{IsLabelOf};
+ghost use Rattle.rl_restyle.specs.Edits.{IsChosenLiteral, IsOfKinds, IsRewritten, IsTextOf, is_rewritable as rewritable, text_in};
 
-use crate::edit::Macros;
+use crate::edit::{Choice, Macros};
 use crate::slices::between;
+use rl_lenient::parse_literal;
+use rl_output::list_contains;
+use rl_program::label_of;
 use rl_style::{Restylable, Style, rewrite_into};
 use std::alloc::{AllocError, Allocator};
 
@@ -58,9 +62,10 @@ pub(crate) fn new_text<A: Allocator + Copy>(
     }
 }
 
-/// Whether the literal may be rewritten: it isn't a field of a tuple, and it isn't inside a macro call that `macros` excludes.
-fn is_chosen(macros: Macros, literal: Restylable<'_>) -> bool
-    ensures { result ≡ is_chosen macros literal.entry.is_field literal.entry.in_macro }
+/// Whether literals at the position of the literal are rewritten: it isn't a field of a tuple, and it isn't inside a macro call
+/// that `macros` excludes.
+fn is_rewritable(macros: Macros, literal: Restylable<'_>) -> bool
+    ensures { result ≡ rewritable macros literal.entry.is_field literal.entry.in_macro }
 {
     match macros {
         Macros::Skip => !literal.is_field && !literal.in_macro,
@@ -68,18 +73,46 @@ fn is_chosen(macros: Macros, literal: Restylable<'_>) -> bool
     }
 }
 
+/// Returns the name of the kind of the literal `text`, or `Verbatim` if `syn`'s grammar has no such literal.
+fn label_in(text: &str) -> &'static str
+    ensures { IsLabelOf (chars text.now) result.now }
+{
+    match parse_literal(text) {
+        Some(found) => label_of(Some(found.kind)),
+        None => label_of(None),
+    }
+}
+
+/// Whether the literal `text` is of one of the kinds in a list. Every literal is if there is no list.
+fn is_of_kinds(kinds: Option<&str>, text: &str) -> bool
+    ensures { MatchBool result (IsOfKinds kinds.entry (chars text.now)) (IsOfKinds kinds.entry (chars text.now) → ⊥) }
+{
+    match kinds {
+        Some(list) => list_contains(list, label_in(text)),
+        None => true,
+    }
+}
+
+/// Whether the literal is rewritten: literals at its position and of its kind are.
+fn is_chosen(choice: Choice<'_>, literal: Restylable<'_>) -> bool
+    ensures { MatchBool result (IsChosenLiteral choice.entry literal.entry)
+        (IsChosenLiteral choice.entry literal.entry → ⊥) }
+{
+    is_rewritable(choice.macros, literal) && is_of_kinds(choice.kinds, literal.token.text)
+}
+
 /// Returns the new text of a literal of the source, or `None` if the literal is unchanged.
 pub(crate) fn text_of<A: Allocator + Copy>(
     alloc: A,
     style: Style,
-    macros: Macros,
+    choice: Choice<'_>,
     source: &str,
     literal: Restylable<'_>,
 ) -> Result<Option<String<A>>, AllocError>
     requires { (front : List ℕ) × IsTextBetween (chars source.now) 0 literal.token.lo front }
-    ensures { IfOk result (λ new. IsTextOf style macros (chars source.now) literal.entry (text_in new)) }
+    ensures { IfOk result (λ new. IsTextOf style choice.entry (chars source.now) literal.entry (text_in new)) }
 {
-    if !is_chosen(macros, literal) {
+    if !is_chosen(choice, literal) {
         return Ok(None);
     }
     new_text(

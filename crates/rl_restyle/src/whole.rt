@@ -7,7 +7,7 @@ ghost use Rattle.rl_restyle.specs.Places.{IsTextBetween};
 ghost use Rattle.rl_restyle.specs.declared.edit.RestyleError.TheVariants.{Memory};
 
 use crate::draft::{Draft, put_literal};
-use crate::edit::{Macros, RestyleError, Restyled};
+use crate::edit::{Choice, RestyleError, Restyled};
 use crate::slices::between;
 use rl_style::{Restylables, Style, is_safe_to_restyle};
 use std::alloc::{AllocError, Allocator};
@@ -33,9 +33,9 @@ fn finished<A: Allocator>(source: &str, draft: Draft<A>) -> Result<Restyled<A>, 
 
 /// Rewrites the literals of a source by a style, and returns the new text and its edits: each literal that the style changes.
 ///
-/// Some literals aren't rewritten: invalid literal tokens, numbers that may be fields of a tuple (`t.0`, `S { 0: x }`), and,
-/// with `Macros::Skip`, literals inside macro calls, `macro_rules!` definitions and attributes. The new text is lexed into the
-/// same tokens, except that each rewritten literal has its new text.
+/// Some literals aren't rewritten: invalid literal tokens, numbers that may be fields of a tuple (`t.0`, `S { 0: x }`), and the
+/// literals that `choice` excludes. The new text is lexed into the same tokens, except that each rewritten literal has its new
+/// text.
 ///
 /// # Errors
 ///
@@ -44,10 +44,10 @@ fn finished<A: Allocator>(source: &str, draft: Draft<A>) -> Result<Restyled<A>, 
 pub fn rewrite_source<A: Allocator + Copy>(
     alloc: A,
     style: Style,
-    macros: Macros,
+    choice: Choice<'_>,
     text: &str,
 ) -> Result<Restyled<A>, RestyleError>
-    ensures restyled { IfOk result (λ r. Restyles style macros (chars text.now) (chars (string_bytes r.text))
+    ensures restyled { IfOk result (λ r. Restyles style choice.entry (chars text.now) (chars (string_bytes r.text))
         (map edit_in r.edits.items)) }
     ensures error { IfErr result (IsRestyleError (chars text.now)) }
 {
@@ -61,7 +61,7 @@ pub fn rewrite_source<A: Allocator + Copy>(
         at: 0,
     };
     while let Some(literal) = literals.next() {
-        match put_literal(alloc, style, macros, text, literal, &mut draft) {
+        match put_literal(alloc, style, choice, text, literal, &mut draft) {
             Ok(()) => {}
             Err(_) => return Err(RestyleError::Memory),
         }

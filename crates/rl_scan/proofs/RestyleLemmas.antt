@@ -7,7 +7,7 @@ use Rattle.rl_files.specs.declared.tree.PathError.{PathError}
 use Rattle.rl_scan.specs.Outcomes.{IsRestyledAs}
 use Rattle.rl_restyle.proofs.EditPlaces.{edits_stand}
 use Rattle.rl_restyle.specs.Places.{AreEditsIn}
-use Rattle.rl_restyle.specs.declared.edit.Macros.{Macros}
+use Rattle.rl_restyle.specs.declared.edit.Choice.{Choice}
 use Rattle.rl_restyle.specs.declared.rule.Rule.{Rule}
 use Rattle.rl_style.specs.declared.style.Style.{Style}
 use Rattle.rl_scan.specs.declared.report.Report.{Report}
@@ -17,10 +17,10 @@ use Rattle.rl_scan.specs.Visits.{ReportsAs}
 use Rattle.rl_scan.proofs.Handing.{hands_none}
 
 -- The rewritten literals of a source are at byte offsets in the source, in order.
-pub stand_in : (style : Style) (macros : Macros) (t new : List ℕ) (edits : List (ℕ × ℕ × List ℕ))
-    → IsRestyledAs style macros t new edits → AreEditsIn t edits
-stand_in style macros t new edits (inl restyles) = edits_stand style macros t new edits restyles
-stand_in style macros t new edits (inr (alone, same, none)) =
+pub stand_in : (style : Style) (choice : Choice) (t new : List ℕ) (edits : List (ℕ × ℕ × List ℕ))
+    → IsRestyledAs style choice t new edits → AreEditsIn t edits
+stand_in style choice t new edits (inl restyles) = edits_stand style choice t new edits restyles
+stand_in style choice t new edits (inr (alone, same, none)) =
     subst (λ (z : List (ℕ × ℕ × List ℕ)). AreEditsIn t z) (sym none) tt
 
 -- A report whose output is only a text still is one after a replaced file is added to it.

@@ -4,7 +4,7 @@ use denote.Ref.{Bor}
 use Rattle.std.specs.Str.{chars}
 use Rattle.rl_output.specs.declared.form.Form.TheVariants.{Plain}
 use Rattle.rl_restyle.specs.Edits.{IsRestyleError, Restyles, edit_in}
-use Rattle.rl_restyle.specs.declared.edit.Macros.{Macros}
+use Rattle.rl_restyle.specs.declared.edit.Choice.{Choice}
 use Rattle.rl_restyle.specs.declared.edit.RestyleError.{RestyleError}
 use Rattle.rl_restyle.specs.declared.edit.RestyleError.TheVariants.{Memory}
 use Rattle.rl_sources.specs.Scans.{Scans}
@@ -40,17 +40,17 @@ AreRejections options text lines = (any : Bool) × Scans options (chars text) (S
 abbrev pub IsLeftAlone : List ℕ → Type 0
 IsLeftAlone text = (e : RestyleError) × (e ≢ Memory) × IsRestyleError text e
 
--- The source rewritten in the style, and the changes of its literals. A source that can't be rewritten is unchanged.
-abbrev pub IsRestyledAs : Style → Macros → List ℕ → List ℕ → List (ℕ × ℕ × List ℕ) → Type 0
-IsRestyledAs style macros text new edits =
-    Restyles style macros text new edits ⊎ (IsLeftAlone text × (new ≡ text) × (edits ≡ []))
+-- The source with the chosen literals rewritten in the style, and their changes. A source that can't be rewritten is unchanged.
+abbrev pub IsRestyledAs : Style → Choice → List ℕ → List ℕ → List (ℕ × ℕ × List ℕ) → Type 0
+IsRestyledAs style choice text new edits =
+    Restyles style choice text new edits ⊎ (IsLeftAlone text × (new ≡ text) × (edits ≡ []))
 
 -- The result of rewriting a source: its errors, or that it begins as a script, or the rewritten source.
-abbrev pub IsOutcome : {A : Type 0} → Options → Style → Macros → List ℕ → Outcome A → Type 0
-IsOutcome options style macros text (outcome.Rejected lines) =
+abbrev pub IsOutcome : {A : Type 0} → Options → Style → Choice → List ℕ → Outcome A → Type 0
+IsOutcome options style choice text (outcome.Rejected lines) =
     AreRejections options text lines.items × (lines.items ≢ [])
-IsOutcome options style macros text outcome.Script =
+IsOutcome options style choice text outcome.Script =
     AreRejections options text [] × IsFalse (begins_with_code (chars text))
-IsOutcome options style macros text (outcome.Restyled r) =
+IsOutcome options style choice text (outcome.Restyled r) =
     AreRejections options text [] × IsTrue (begins_with_code (chars text))
-    × IsRestyledAs style macros (chars text) (chars (string_bytes r.text)) (map edit_in r.edits.items)
+    × IsRestyledAs style choice (chars text) (chars (string_bytes r.text)) (map edit_in r.edits.items)

@@ -9,9 +9,12 @@ use Rattle.rl_scan.specs.Changes.{AreChangeLines}
 use Rattle.rl_output.specs.Diffs.{diff}
 use Rattle.rl_scan.specs.EditRules.{IsChangeCount}
 use Rattle.rl_scan.specs.Outcomes.{AreRejections, IsJudging, IsRestyledAs}
+use Rattle.rl_restyle.specs.declared.edit.Choice.{Choice}
 use Rattle.rl_restyle.specs.declared.edit.Macros.{Macros}
 use Rattle.rl_restyle.specs.declared.edit.Macros.TheVariants.{Skip}
 use Rattle.rl_restyle.specs.declared.rule.Rule.{Rule}
+use Rattle.rl_output.specs.declared.choice.Shown.{Shown}
+use Rattle.rl_output.specs.declared.choice.Shown.TheVariants.{Only}
 use Rattle.rl_output.specs.declared.form.Form.{Form}
 use Rattle.rl_sources.specs.declared.options.Options.{Options}
 use Rattle.rl_style.specs.Recut.{begins_with_code}
@@ -40,6 +43,15 @@ pub record PrintsAlone (out : List ℕ) (found : Bool) (counts : ℕ × List Rul
 abbrev pub macros_read : Option Macros → Macros
 macros_read None = Skip
 macros_read (Some macros) = macros
+
+-- The list of the kinds of literals that are rewritten, or `None` for all kinds: the value of `--only`.
+abbrev pub kinds_read : Shown → Option (Bor (List ℕ))
+kinds_read (Only list) = Some list
+kinds_read _ = None
+
+-- The choice of the literals that are rewritten.
+abbrev pub choice_read : Command → Choice
+choice_read command = record { macros = macros_read command.macros; kinds = kinds_read command.shown }
 
 -- An output line for each rewritten literal of a source, with its lines of context, in bytes.
 abbrev pub AreChangeBytes : Style → Options → List ℕ → List (ℕ × ℕ × List ℕ) → List ℕ → Type 0
@@ -138,6 +150,6 @@ IsRestyledReport restyling command path text printed =
     ⊎ ((lines ≡ []) × IsFalse (begins_with_code (chars text)) × IsScriptReport restyling path text printed)
     ⊎ ((lines ≡ []) × IsTrue (begins_with_code (chars text))
     × ((options : Options) × (new : List ℕ) × (edits : List (ℕ × ℕ × List ℕ)) × (counts : ℕ × List Rule) × IsUtf8 new
-    × IsRestyledAs command.rules (macros_read command.macros) (chars text) (chars new) edits
+    × IsRestyledAs command.rules (choice_read command) (chars text) (chars new) edits
     × IsChangeCount command.prints_stats command.rules (chars text) edits counts.0 counts.1
     × IsOptionsFor command path options × IsChanged restyling command options path named text new edits counts printed)))

@@ -6,7 +6,7 @@ ghost use Rattle.rl_restyle.specs.Edits.{edit_in};
 ghost use Rattle.rl_scan.specs.Outcomes.{AreRejections, IsJudging, IsOutcome, IsRestyledAs};
 
 use rl_output::Form;
-use rl_restyle::{Macros, RestyleError, Restyled, rewrite_source};
+use rl_restyle::{Choice, RestyleError, Restyled, rewrite_source};
 use rl_sources::{Edition, Matching, Options, Shown, Spelling, scan};
 use rl_style::{Style, is_safe_to_restyle};
 use std::alloc::{AllocError, Allocator, Global};
@@ -65,17 +65,18 @@ fn rejections<A: Allocator + Copy>(
     }
 }
 
-/// Returns the source rewritten in the style, or the unchanged source if it can't be rewritten.
+/// Returns the source with the literals that `choice` selects rewritten in the style, or the unchanged source if it can't be
+/// rewritten.
 fn restyled<A: Allocator + Copy>(
     alloc: A,
     style: Style,
-    macros: Macros,
+    choice: Choice<'_>,
     text: &str,
 ) -> Result<Restyled<A>, AllocError>
-    ensures { IfOk result (λ r. IsRestyledAs style macros (chars text.now) (chars (string_bytes r.text))
+    ensures { IfOk result (λ r. IsRestyledAs style choice.entry (chars text.now) (chars (string_bytes r.text))
         (map edit_in r.edits.items)) }
 {
-    match rewrite_source(alloc, style, macros, text) {
+    match rewrite_source(alloc, style, choice, text) {
         Ok(restyled) => Ok(restyled),
         Err(RestyleError::Memory) => Err(AllocError),
         Err(_) => Ok(Restyled {
@@ -85,7 +86,8 @@ fn restyled<A: Allocator + Copy>(
     }
 }
 
-/// Rewrites a source in a style, unless a token is invalid or isn't closed, or the source begins as a script.
+/// Rewrites the literals of a source that `choice` selects in a style, unless a token is invalid or isn't closed, or the source
+/// begins as a script.
 ///
 /// # Errors
 ///
@@ -94,10 +96,10 @@ pub fn rewrite_outcome<A: Allocator + Copy>(
     alloc: A,
     options: Options<'_>,
     style: Style,
-    macros: Macros,
+    choice: Choice<'_>,
     text: &str,
 ) -> Result<Outcome<A>, AllocError>
-    ensures { IfOk result (IsOutcome options.entry style macros text.now) }
+    ensures { IfOk result (IsOutcome options.entry style choice.entry text.now) }
 {
     let lines = rejections(alloc, options, text)?;
     if !lines.is_empty() {
@@ -106,5 +108,5 @@ pub fn rewrite_outcome<A: Allocator + Copy>(
     if !is_safe_to_restyle(text) {
         return Ok(Outcome::Script);
     }
-    Ok(Outcome::Restyled(restyled(alloc, style, macros, text)?))
+    Ok(Outcome::Restyled(restyled(alloc, style, choice, text)?))
 }

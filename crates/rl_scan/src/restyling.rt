@@ -7,7 +7,7 @@ ghost use Rattle.rl_restyle.specs.Places.{AreEditsIn};
 ghost use Rattle.rl_scan.specs.EditRules.{IsChangeCount};
 ghost use Rattle.rl_scan.specs.Reports.{in_report};
 ghost use Rattle.rl_scan.specs.Visits.{ReportsAs};
-ghost use Rattle.rl_scan.specs.Restyling.{AreChangeBytes, IsChanged, IsChecked, IsCompared, IsFixed, IsReplaced, IsRestyledReport, IsScriptReport, PrintsAlone, PrintsRejections, fixed_of, macros_read, text_left as text_left_of};
+ghost use Rattle.rl_scan.specs.Restyling.{AreChangeBytes, IsChanged, IsChecked, IsCompared, IsFixed, IsReplaced, IsRestyledReport, IsScriptReport, PrintsAlone, PrintsRejections, choice_read, fixed_of, kinds_read, macros_read, text_left as text_left_of};
 
 use crate::edit_rules::{ChangeCount, requested_change_count};
 use crate::report::{
@@ -18,8 +18,8 @@ use crate::{Outcome, push_changes, rewrite_outcome, source_check_options};
 use rl_files::{Replace, push_visible, visible_text};
 use rl_options::{Command, Output, Restyling};
 use rl_output::push_diff;
-use rl_restyle::{Macros, Restyled};
-use rl_sources::{Form, Options};
+use rl_restyle::{Choice, Macros, Restyled};
+use rl_sources::{Form, Options, Shown};
 use rl_style::Style;
 use std::alloc::{AllocError, Allocator};
 
@@ -252,6 +252,26 @@ fn macros_for(command: Command<'_>) -> Macros
     }
 }
 
+/// Returns the list of the kinds of literals that are rewritten, or `None` for all kinds. The list is the value of `--only`.
+fn kinds_for<'a>(command: Command<'a>) -> Option<&'a str>
+    ensures { result ≡ kinds_read command.entry.shown }
+{
+    match command.shown {
+        Shown::Only(list) => Some(list),
+        Shown::All | Shown::Bad | Shown::Hidden => None,
+    }
+}
+
+/// Returns the choice of the literals that are rewritten.
+fn choice_for<'a>(command: Command<'a>) -> Choice<'a>
+    ensures { result ≡ choice_read command.entry }
+{
+    Choice {
+        macros: macros_for(command),
+        kinds: kinds_for(command),
+    }
+}
+
 /// Returns the standard output for a source that isn't rewritten: the source itself for `--fix` on standard input, else nothing.
 fn text_left<'t>(restyling: Restyling, path: &str, text: &'t str) -> &'t str
     ensures { result.now ≡ text_left_of restyling path.now text.now }
@@ -309,7 +329,7 @@ pub(crate) fn report_restyled<A: Allocator + Copy, F: Replace>(
         is_by_line(command.places, path),
         before,
     );
-    match rewrite_outcome(alloc, checking, command.rules, macros_for(command), text)? {
+    match rewrite_outcome(alloc, checking, command.rules, choice_for(command), text)? {
         Outcome::Rejected(lines) => Ok(report_rejected(alloc, lines)),
         Outcome::Script => report_script(alloc, restyling, path, text),
         Outcome::Restyled(restyled) => {

@@ -4,7 +4,7 @@
 use navyspindle::rendered::rl_style::{Case, Style as Rules};
 use navyspindle::{rewrite_source as package_restyle, Style};
 use navyspindle_programs::rattle_std::alloc::Global;
-use navyspindle_programs::rl_restyle::{rewrite_source, Macros, RestyleError};
+use navyspindle_programs::rl_restyle::{rewrite_source, Choice, Macros, RestyleError};
 use std::fs;
 use std::path::Path;
 
@@ -24,7 +24,18 @@ type Told = (usize, usize, String);
 
 /// Returns the rewritten text, and the edits.
 fn made(macros: Macros, text: &str) -> Result<(String, Vec<Told>), RestyleError> {
-    let made = rewrite_source(Global, RULES, macros, text)?;
+    chosen(
+        Choice {
+            macros,
+            kinds: None,
+        },
+        text,
+    )
+}
+
+/// Returns the text with the chosen literals rewritten, and the edits.
+fn chosen(choice: Choice<'_>, text: &str) -> Result<(String, Vec<Told>), RestyleError> {
+    let made = rewrite_source(Global, RULES, choice, text)?;
     let edits = made.edits.as_slice().iter();
     let told = edits.map(|edit| (edit.lo, edit.hi, edit.text.as_str().to_owned()));
     Ok((made.text.as_str().to_owned(), told.collect()))
@@ -84,6 +95,36 @@ fn edits_stand_in_order() {
     assert_eq!(text, "é(0xa, 10, 7, m!(\"'\"))");
     let told = [(3, 6, "0xa"), (8, 11, "10"), (19, 23, "\"'\"")];
     assert_eq!(edits, told.map(|(lo, hi, text)| (lo, hi, text.to_owned())));
+}
+
+#[test]
+fn only_literals_of_the_kinds_are_rewritten() {
+    let text = "f(0xA, 1_0.0, \"\\'\", t.0xB, m!(0xC))";
+    for (macros, kinds, written) in [
+        (
+            Macros::Skip,
+            "Int",
+            "f(0xa, 1_0.0, \"\\'\", t.0xB, m!(0xC))",
+        ),
+        (Macros::All, "int", "f(0xa, 1_0.0, \"\\'\", t.0xB, m!(0xc))"),
+        (
+            Macros::Skip,
+            "STR,float",
+            "f(0xA, 10.0, \"'\", t.0xB, m!(0xC))",
+        ),
+        (Macros::All, "ByteStr,Verbatim", text),
+        (Macros::All, "", text),
+    ] {
+        let choice = Choice {
+            macros,
+            kinds: Some(kinds),
+        };
+        let Ok((new, edits)) = chosen(choice, text) else {
+            panic!("it is a source");
+        };
+        assert_eq!(new, written, "{kinds}");
+        assert_eq!(edits.is_empty(), new == text, "{kinds}");
+    }
 }
 
 #[test]

@@ -6,20 +6,20 @@ use Rattle.rl_restyle.proofs.draft.put_literal.Goals as goal
 pub text_of-requires : goal.text_of-requires
 text_of-requires g c =
     let draft = c.args.draft.now in
-    next_front c.args.style c.args.macros (chars c.args.source.now) draft.at (chars (string_bytes draft.text))
+    next_front c.args.style c.args.choice (chars c.args.source.now) draft.at (chars (string_bytes draft.text))
     (map edit_in draft.edits.items) c.args.literal c.requires
 
 pub put-requires : goal.put-requires
 put-requires g c =
     let draft = c.args.draft.now in
-    next_middle c.args.style c.args.macros (chars c.args.source.now) draft.at (chars (string_bytes draft.text))
+    next_middle c.args.style c.args.choice (chars c.args.source.now) draft.at (chars (string_bytes draft.text))
     (map edit_in draft.edits.items) c.args.literal c.requires
 
 pub returns-in-Some : goal.returns-in-Some
 returns-in-Some g c =
     let draft = c.args.draft.now in
     let later = c.put.new.draft in
-    put_done c.args.style c.args.macros (chars c.args.source.now) draft.at (chars (string_bytes draft.text))
+    put_done c.args.style c.args.choice (chars c.args.source.now) draft.at (chars (string_bytes draft.text))
     (map edit_in draft.edits.items) c.args.literal (chars (string_bytes c.in-Some.new)) later.at
     (chars (string_bytes later.text)) (map edit_in later.edits.items) c.put.result
     (rw c.in-Some.is at c.in_ok-new.ensures) c.put.ensures.text c.put.ensures.at c.put.ensures.edits
@@ -27,5 +27,5 @@ returns-in-Some g c =
 pub returns-in-None : goal.returns-in-None
 returns-in-None g c =
     let draft = c.args.draft.now in
-    put_none c.args.style c.args.macros (chars c.args.source.now) draft.at (chars (string_bytes draft.text))
+    put_none c.args.style c.args.choice (chars c.args.source.now) draft.at (chars (string_bytes draft.text))
     (map edit_in draft.edits.items) c.args.literal (rw c.in-None.is at c.in_ok-new.ensures)

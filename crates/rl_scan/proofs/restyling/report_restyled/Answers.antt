@@ -1,6 +1,6 @@
 use Rattle.rl_syntax.proofs.Common.{IsUtf8-string_bytes, chars, inl, inr, map, refl, string_bytes, []}
 use Rattle.rl_restyle.specs.Edits.{edit_in}
-use Rattle.rl_scan.specs.Restyling.{IsChanged, IsRestyledReport, IsScriptReport, macros_read}
+use Rattle.rl_scan.specs.Restyling.{IsChanged, IsRestyledReport, IsScriptReport, choice_read}
 use Rattle.rl_scan.proofs.Handing.{hands_none}
 use Rattle.rl_scan.proofs.RestyleLemmas.{stand_in}
 use Rattle.rl_scan.proofs.VisitLemmas.{reports_as, unhanded}
@@ -44,18 +44,18 @@ returns-in-Script-clause-reports g c =
 
 pub requested_change_count-requires : goal.requested_change_count-requires
 requested_change_count-requires g c = rw c.as_slice.ensures.value (stand_in c.args.command.rules
-    (macros_read c.args.command.macros) (chars c.args.text.now) (chars (string_bytes c.in-Restyled.restyled.text))
+    (choice_read c.args.command) (chars c.args.text.now) (chars (string_bytes c.in-Restyled.restyled.text))
     (map edit_in c.in-Restyled.restyled.edits.items)
-    ((rw (c.macros_for.ensures, c.in-Restyled.is) at c.in_ok-lines.ensures).2))
+    ((rw (c.choice_for.ensures, c.in-Restyled.is) at c.in_ok-lines.ensures).2))
 
 pub report_change-requires : goal.report_change-requires
-report_change-requires g c = stand_in c.args.command.rules (macros_read c.args.command.macros) (chars c.args.text.now)
+report_change-requires g c = stand_in c.args.command.rules (choice_read c.args.command) (chars c.args.text.now)
     (chars (string_bytes c.in-Restyled.restyled.text)) (map edit_in c.in-Restyled.restyled.edits.items)
-    ((rw (c.macros_for.ensures, c.in-Restyled.is) at c.in_ok-lines.ensures).2)
+    ((rw (c.choice_for.ensures, c.in-Restyled.is) at c.in_ok-lines.ensures).2)
 
 pub returns-clause-reports : goal.returns-clause-reports
 returns-clause-reports g c =
-    let outcome = rw (c.macros_for.ensures, c.in-Restyled.is) at c.in_ok-lines.ensures in reports_as
+    let outcome = rw (c.choice_for.ensures, c.in-Restyled.is) at c.in_ok-lines.ensures in reports_as
     (IsChanged c.args.restyling c.args.command c.options_for-options.result c.args.path.now c.path_in-named.result
     c.args.text.now (string_bytes c.in-Restyled.restyled.text) (map edit_in c.in-Restyled.restyled.edits.items)
     (c.in_ok-count-in-Restyled.count.literals, c.in_ok-count-in-Restyled.count.rules.items))

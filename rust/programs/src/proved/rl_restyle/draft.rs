@@ -2,7 +2,7 @@
 //! The new text of a source while it is being written.
 
 use crate::rattle_std::prelude::{String, Vec};
-use crate::rl_restyle::edit::{Edit, Macros};
+use crate::rl_restyle::edit::{Choice, Edit};
 use crate::rl_restyle::slices::between;
 use crate::rl_restyle::texts::text_of;
 use crate::rl_style::{Restylable, Style};
@@ -40,12 +40,12 @@ fn put<A: Allocator>(
 pub(crate) fn put_literal<A: Allocator + Copy>(
     alloc: A,
     style: Style,
-    macros: Macros,
+    choice: Choice<'_>,
     source: &str,
     literal: Restylable<'_>,
     draft: &mut Draft<A>,
 ) -> Result<(), AllocError> {
-    let new = text_of(alloc, style, macros, source, literal)?;
+    let new = text_of(alloc, style, choice, source, literal)?;
     match new {
         Some(new) => put(draft, source, literal, new),
         None => Ok(()),

@@ -16,7 +16,7 @@ mod values;
 mod whole;
 
 pub use crate::rl_restyle::changing::changing_rules;
-pub use crate::rl_restyle::edit::{Edit, Macros, RestyleError, Restyled};
+pub use crate::rl_restyle::edit::{Choice, Edit, Macros, RestyleError, Restyled};
 pub use crate::rl_restyle::rule::{RULES, Rule, number_of, settable_rules};
 pub use crate::rl_restyle::settings::settings_text;
 pub use crate::rl_restyle::slices::between;

@@ -2,8 +2,11 @@
 //! Creates the new text of a literal in a style.
 
 use crate::rattle_std::prelude::{String, vec};
-use crate::rl_restyle::edit::Macros;
+use crate::rl_restyle::edit::{Choice, Macros};
 use crate::rl_restyle::slices::between;
+use crate::rl_lenient::parse_literal;
+use crate::rl_output::list_contains;
+use crate::rl_program::label_of;
 use crate::rl_style::{Restylable, Style, rewrite_into};
 use crate::rattle_std::alloc::{AllocError, Allocator};
 
@@ -47,23 +50,45 @@ pub(crate) fn new_text<A: Allocator + Copy>(
     }
 }
 
-/// Whether the literal may be rewritten: it isn't a field of a tuple, and it isn't inside a macro call that `macros` excludes.
-fn is_chosen(macros: Macros, literal: Restylable<'_>) -> bool {
+/// Whether literals at the position of the literal are rewritten: it isn't a field of a tuple, and it isn't inside a macro call
+/// that `macros` excludes.
+fn is_rewritable(macros: Macros, literal: Restylable<'_>) -> bool {
     match macros {
         Macros::Skip => !literal.is_field && !literal.in_macro,
         Macros::All => !literal.is_field,
     }
 }
 
+/// Returns the name of the kind of the literal `text`, or `Verbatim` if `syn`'s grammar has no such literal.
+fn label_in(text: &str) -> &'static str {
+    match parse_literal(text) {
+        Some(found) => label_of(Some(found.kind)),
+        None => label_of(None),
+    }
+}
+
+/// Whether the literal `text` is of one of the kinds in a list. Every literal is if there is no list.
+fn is_of_kinds(kinds: Option<&str>, text: &str) -> bool {
+    match kinds {
+        Some(list) => list_contains(list, label_in(text)),
+        None => true,
+    }
+}
+
+/// Whether the literal is rewritten: literals at its position and of its kind are.
+fn is_chosen(choice: Choice<'_>, literal: Restylable<'_>) -> bool {
+    is_rewritable(choice.macros, literal) && is_of_kinds(choice.kinds, literal.token.text)
+}
+
 /// Returns the new text of a literal of the source, or `None` if the literal is unchanged.
 pub(crate) fn text_of<A: Allocator + Copy>(
     alloc: A,
     style: Style,
-    macros: Macros,
+    choice: Choice<'_>,
     source: &str,
     literal: Restylable<'_>,
 ) -> Result<Option<String<A>>, AllocError> {
-    if !is_chosen(macros, literal) {
+    if !is_chosen(choice, literal) {
         return Ok(None);
     }
     new_text(

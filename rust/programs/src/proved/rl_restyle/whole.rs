@@ -3,7 +3,7 @@
 
 use crate::rattle_std::prelude::{String, Vec};
 use crate::rl_restyle::draft::{Draft, put_literal};
-use crate::rl_restyle::edit::{Macros, RestyleError, Restyled};
+use crate::rl_restyle::edit::{Choice, RestyleError, Restyled};
 use crate::rl_restyle::slices::between;
 use crate::rl_style::{Restylables, Style, is_safe_to_restyle};
 use crate::rattle_std::alloc::{AllocError, Allocator};
@@ -22,9 +22,9 @@ fn finished<A: Allocator>(source: &str, draft: Draft<A>) -> Result<Restyled<A>, 
 
 /// Rewrites the literals of a source by a style, and returns the new text and its edits: each literal that the style changes.
 ///
-/// Some literals aren't rewritten: invalid literal tokens, numbers that may be fields of a tuple (`t.0`, `S { 0: x }`), and,
-/// with `Macros::Skip`, literals inside macro calls, `macro_rules!` definitions and attributes. The new text is lexed into the
-/// same tokens, except that each rewritten literal has its new text.
+/// Some literals aren't rewritten: invalid literal tokens, numbers that may be fields of a tuple (`t.0`, `S { 0: x }`), and the
+/// literals that `choice` excludes. The new text is lexed into the same tokens, except that each rewritten literal has its new
+/// text.
 ///
 /// # Errors
 ///
@@ -33,7 +33,7 @@ fn finished<A: Allocator>(source: &str, draft: Draft<A>) -> Result<Restyled<A>, 
 pub fn rewrite_source<A: Allocator + Copy>(
     alloc: A,
     style: Style,
-    macros: Macros,
+    choice: Choice<'_>,
     text: &str,
 ) -> Result<Restyled<A>, RestyleError> {
     if !is_safe_to_restyle(text) {
@@ -46,7 +46,7 @@ pub fn rewrite_source<A: Allocator + Copy>(
         at: 0,
     };
     while let Some(literal) = literals.next() {
-        match put_literal(alloc, style, macros, text, literal, &mut draft) {
+        match put_literal(alloc, style, choice, text, literal, &mut draft) {
             Ok(()) => {}
             Err(_) => return Err(RestyleError::Memory),
         }

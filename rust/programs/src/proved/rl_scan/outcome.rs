@@ -3,7 +3,7 @@
 
 use crate::rattle_std::prelude::{String, Vec};
 use crate::rl_output::Form;
-use crate::rl_restyle::{Macros, RestyleError, Restyled, rewrite_source};
+use crate::rl_restyle::{Choice, RestyleError, Restyled, rewrite_source};
 use crate::rl_sources::{Edition, Matching, Options, Shown, Spelling, scan};
 use crate::rl_style::{Style, is_safe_to_restyle};
 use crate::rattle_std::alloc::{AllocError, Allocator, Global};
@@ -57,14 +57,15 @@ fn rejections<A: Allocator + Copy>(
     }
 }
 
-/// Returns the source rewritten in the style, or the unchanged source if it can't be rewritten.
+/// Returns the source with the literals that `choice` selects rewritten in the style, or the unchanged source if it can't be
+/// rewritten.
 fn restyled<A: Allocator + Copy>(
     alloc: A,
     style: Style,
-    macros: Macros,
+    choice: Choice<'_>,
     text: &str,
 ) -> Result<Restyled<A>, AllocError> {
-    match rewrite_source(alloc, style, macros, text) {
+    match rewrite_source(alloc, style, choice, text) {
         Ok(restyled) => Ok(restyled),
         Err(RestyleError::Memory) => Err(AllocError),
         Err(_) => Ok(Restyled {
@@ -74,7 +75,8 @@ fn restyled<A: Allocator + Copy>(
     }
 }
 
-/// Rewrites a source in a style, unless a token is invalid or isn't closed, or the source begins as a script.
+/// Rewrites the literals of a source that `choice` selects in a style, unless a token is invalid or isn't closed, or the source
+/// begins as a script.
 ///
 /// # Errors
 ///
@@ -83,7 +85,7 @@ pub fn rewrite_outcome<A: Allocator + Copy>(
     alloc: A,
     options: Options<'_>,
     style: Style,
-    macros: Macros,
+    choice: Choice<'_>,
     text: &str,
 ) -> Result<Outcome<A>, AllocError> {
     let lines = rejections(alloc, options, text)?;
@@ -93,5 +95,5 @@ pub fn rewrite_outcome<A: Allocator + Copy>(
     if !is_safe_to_restyle(text) {
         return Ok(Outcome::Script);
     }
-    Ok(Outcome::Restyled(restyled(alloc, style, macros, text)?))
+    Ok(Outcome::Restyled(restyled(alloc, style, choice, text)?))
 }

@@ -11,8 +11,8 @@ use crate::rl_scan::{Outcome, push_changes, rewrite_outcome, source_check_option
 use crate::rl_files::{Replace, push_visible, visible_text};
 use crate::rl_options::{Command, Output, Restyling};
 use crate::rl_output::push_diff;
-use crate::rl_restyle::{Macros, Restyled};
-use crate::rl_sources::{Form, Options};
+use crate::rl_restyle::{Choice, Macros, Restyled};
+use crate::rl_sources::{Form, Options, Shown};
 use crate::rl_style::Style;
 use crate::rattle_std::alloc::{AllocError, Allocator};
 
@@ -211,6 +211,22 @@ fn macros_for(command: Command<'_>) -> Macros {
     }
 }
 
+/// Returns the list of the kinds of literals that are rewritten, or `None` for all kinds. The list is the value of `--only`.
+fn kinds_for<'a>(command: Command<'a>) -> Option<&'a str> {
+    match command.shown {
+        Shown::Only(list) => Some(list),
+        Shown::All | Shown::Bad | Shown::Hidden => None,
+    }
+}
+
+/// Returns the choice of the literals that are rewritten.
+fn choice_for<'a>(command: Command<'a>) -> Choice<'a> {
+    Choice {
+        macros: macros_for(command),
+        kinds: kinds_for(command),
+    }
+}
+
 /// Returns the standard output for a source that isn't rewritten: the source itself for `--fix` on standard input, else nothing.
 fn text_left<'t>(restyling: Restyling, path: &str, text: &'t str) -> &'t str {
     match restyling {
@@ -260,7 +276,7 @@ pub(crate) fn report_restyled<A: Allocator + Copy, F: Replace>(
         is_by_line(command.places, path),
         before,
     );
-    match rewrite_outcome(alloc, checking, command.rules, macros_for(command), text)? {
+    match rewrite_outcome(alloc, checking, command.rules, choice_for(command), text)? {
         Outcome::Rejected(lines) => Ok(report_rejected(alloc, lines)),
         Outcome::Script => report_script(alloc, restyling, path, text),
         Outcome::Restyled(restyled) => {
