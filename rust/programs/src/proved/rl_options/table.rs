@@ -2,6 +2,7 @@
 //! The table of the options of `rl_scan`.
 
 use crate::rl_options::command::Command;
+use crate::rl_options::flags::Effect::{EndsOptions, Sets, Takes};
 use crate::rl_options::flags::{Effect, Flag, Operand, after_front, operand_of};
 use crate::rl_options::modes::{Modes, goes_with, has_option, mode_of};
 use crate::rl_restyle::{is_near, option_part};
@@ -17,257 +18,76 @@ pub(crate) struct OptionRow {
     pub effect: Effect,
     /// The modes in which the option has an effect.
     pub modes: Modes,
+    /// The values that the option expects, in messages. It is empty if the option has no value.
+    pub value: &'static str,
 }
 
 /// The options of `rl_scan`. If an unknown option is similar to several names, the first one is suggested.
+#[rustfmt::skip]
 const OPTIONS: [OptionRow; 41] = [
-    OptionRow {
-        name: "--bad",
-        letter: None,
-        effect: Effect::Sets(Flag::Bad),
-        modes: Modes::Printing,
-    },
-    OptionRow {
-        name: "--invisible",
-        letter: None,
-        effect: Effect::Sets(Flag::Hidden),
-        modes: Modes::Printing,
-    },
-    OptionRow {
-        name: "--only",
-        letter: None,
-        effect: Effect::Takes(Operand::Kinds),
-        modes: Modes::Printing,
-    },
-    OptionRow {
-        name: "--find",
-        letter: Some('e'),
-        effect: Effect::Takes(Operand::Text),
-        modes: Modes::Printing,
-    },
-    OptionRow {
-        name: "--ignore-case",
-        letter: Some('i'),
-        effect: Effect::Sets(Flag::IgnoreCase),
-        modes: Modes::Find,
-    },
-    OptionRow {
-        name: "--word",
-        letter: Some('w'),
-        effect: Effect::Sets(Flag::WholeWords),
-        modes: Modes::Find,
-    },
-    OptionRow {
-        name: "--no-stray",
-        letter: None,
-        effect: Effect::Sets(Flag::NoStray),
-        modes: Modes::Tokens,
-    },
-    OptionRow {
-        name: "--any-suffix",
-        letter: None,
-        effect: Effect::Sets(Flag::AnySuffix),
-        modes: Modes::Bad,
-    },
-    OptionRow {
-        name: "--edition",
-        letter: None,
-        effect: Effect::Takes(Operand::Edition),
-        modes: Modes::BadOrRewriting,
-    },
-    OptionRow {
-        name: "--all",
-        letter: None,
-        effect: Effect::Sets(Flag::AllDirectories),
-        modes: Modes::All,
-    },
-    OptionRow {
-        name: "--extension",
-        letter: None,
-        effect: Effect::Takes(Operand::Extension),
-        modes: Modes::All,
-    },
-    OptionRow {
-        name: "--exclude",
-        letter: None,
-        effect: Effect::Takes(Operand::Pattern),
-        modes: Modes::All,
-    },
-    OptionRow {
-        name: "--files",
-        letter: None,
-        effect: Effect::Sets(Flag::Files),
-        modes: Modes::Printing,
-    },
-    OptionRow {
-        name: "--files-from",
-        letter: None,
-        effect: Effect::Takes(Operand::List),
-        modes: Modes::All,
-    },
-    OptionRow {
-        name: "--no-messages",
-        letter: None,
-        effect: Effect::Sets(Flag::NoMessages),
-        modes: Modes::All,
-    },
-    OptionRow {
-        name: "--bytes",
-        letter: None,
-        effect: Effect::Sets(Flag::Bytes),
-        modes: Modes::Listing,
-    },
-    OptionRow {
-        name: "--lines",
-        letter: None,
-        effect: Effect::Sets(Flag::Lines),
-        modes: Modes::Listing,
-    },
-    OptionRow {
-        name: "--text",
-        letter: None,
-        effect: Effect::Sets(Flag::Text),
-        modes: Modes::Literals,
-    },
-    OptionRow {
-        name: "--json",
-        letter: None,
-        effect: Effect::Sets(Flag::Json),
-        modes: Modes::Listing,
-    },
-    OptionRow {
-        name: "--format",
-        letter: None,
-        effect: Effect::Takes(Operand::Format),
-        modes: Modes::Listing,
-    },
-    OptionRow {
-        name: "--context",
-        letter: Some('C'),
-        effect: Effect::Takes(Operand::Around),
-        modes: Modes::Listing,
-    },
-    OptionRow {
-        name: "--before-context",
-        letter: Some('B'),
-        effect: Effect::Takes(Operand::Before),
-        modes: Modes::Listing,
-    },
-    OptionRow {
-        name: "--after-context",
-        letter: Some('A'),
-        effect: Effect::Takes(Operand::After),
-        modes: Modes::Listing,
-    },
-    OptionRow {
-        name: "--color",
-        letter: None,
-        effect: Effect::Takes(Operand::Color),
-        modes: Modes::All,
-    },
-    OptionRow {
-        name: "--count",
-        letter: Some('c'),
-        effect: Effect::Sets(Flag::Count),
-        modes: Modes::Listing,
-    },
-    OptionRow {
-        name: "--files-with-matches",
-        letter: Some('l'),
-        effect: Effect::Sets(Flag::FilesWithMatches),
-        modes: Modes::Listing,
-    },
-    OptionRow {
-        name: "--null",
-        letter: Some('Z'),
-        effect: Effect::Sets(Flag::Nul),
-        modes: Modes::All,
-    },
-    OptionRow {
-        name: "--quiet",
-        letter: Some('q'),
-        effect: Effect::Sets(Flag::Quiet),
-        modes: Modes::All,
-    },
-    OptionRow {
-        name: "--stats",
-        letter: None,
-        effect: Effect::Sets(Flag::Stats),
-        modes: Modes::All,
-    },
-    OptionRow {
-        name: "--fix",
-        letter: None,
-        effect: Effect::Sets(Flag::Fix),
-        modes: Modes::All,
-    },
-    OptionRow {
-        name: "--check",
-        letter: None,
-        effect: Effect::Sets(Flag::Check),
-        modes: Modes::All,
-    },
-    OptionRow {
-        name: "--diff",
-        letter: None,
-        effect: Effect::Sets(Flag::Diff),
-        modes: Modes::All,
-    },
-    OptionRow {
-        name: "--style",
-        letter: None,
-        effect: Effect::Takes(Operand::Style),
-        modes: Modes::Rewriting,
-    },
-    OptionRow {
-        name: "--rule",
-        letter: None,
-        effect: Effect::Takes(Operand::Rule),
-        modes: Modes::Rewriting,
-    },
-    OptionRow {
-        name: "--macros",
-        letter: None,
-        effect: Effect::Takes(Operand::Macros),
-        modes: Modes::BadOrRewriting,
-    },
-    OptionRow {
-        name: "--allow",
-        letter: None,
-        effect: Effect::Takes(Operand::Allowed),
-        modes: Modes::BadOrInvisible,
-    },
-    OptionRow {
-        name: "--rules",
-        letter: None,
-        effect: Effect::Sets(Flag::Rules),
-        modes: Modes::All,
-    },
-    OptionRow {
-        name: "--generate",
-        letter: None,
-        effect: Effect::Takes(Operand::Generated),
-        modes: Modes::All,
-    },
-    OptionRow {
-        name: "--help",
-        letter: Some('h'),
-        effect: Effect::Sets(Flag::Help),
-        modes: Modes::All,
-    },
-    OptionRow {
-        name: "--version",
-        letter: Some('V'),
-        effect: Effect::Sets(Flag::Version),
-        modes: Modes::All,
-    },
-    OptionRow {
-        name: "--",
-        letter: None,
-        effect: Effect::EndsOptions,
-        modes: Modes::All,
-    },
+    OptionRow { name: "--bad", letter: None, effect: Sets(Flag::Bad), modes: Modes::Printing, value: "" },
+    OptionRow { name: "--invisible", letter: None, effect: Sets(Flag::Hidden), modes: Modes::Printing, value: "" },
+    OptionRow { name: "--only", letter: None, effect: Takes(Operand::Kinds), modes: Modes::Printing,
+        value: "Str, ByteStr, CStr, Byte, Char, Int, Float, Bool or Verbatim" },
+    OptionRow { name: "--find", letter: Some('e'), effect: Takes(Operand::Text), modes: Modes::Printing,
+        value: "a text, such as TODO" },
+    OptionRow { name: "--ignore-case", letter: Some('i'), effect: Sets(Flag::IgnoreCase), modes: Modes::Find, value: "" },
+    OptionRow { name: "--word", letter: Some('w'), effect: Sets(Flag::WholeWords), modes: Modes::Find, value: "" },
+    OptionRow { name: "--no-stray", letter: None, effect: Sets(Flag::NoStray), modes: Modes::Tokens, value: "" },
+    OptionRow { name: "--any-suffix", letter: None, effect: Sets(Flag::AnySuffix), modes: Modes::Bad, value: "" },
+    OptionRow { name: "--edition", letter: None, effect: Takes(Operand::Edition), modes: Modes::BadOrRewriting,
+        value: "2015, 2018, 2021 or 2024" },
+    OptionRow { name: "--all", letter: None, effect: Sets(Flag::AllDirectories), modes: Modes::All, value: "" },
+    OptionRow { name: "--extension", letter: None, effect: Takes(Operand::Extension), modes: Modes::All,
+        value: "one extension, such as rs.in" },
+    OptionRow { name: "--exclude", letter: None, effect: Takes(Operand::Pattern), modes: Modes::All,
+        value: "a pattern, such as tests/ui" },
+    OptionRow { name: "--files", letter: None, effect: Sets(Flag::Files), modes: Modes::Printing, value: "" },
+    OptionRow { name: "--files-from", letter: None, effect: Takes(Operand::List), modes: Modes::All,
+        value: "a file that lists paths, such as list.txt" },
+    OptionRow { name: "--no-messages", letter: None, effect: Sets(Flag::NoMessages), modes: Modes::All, value: "" },
+    OptionRow { name: "--bytes", letter: None, effect: Sets(Flag::Bytes), modes: Modes::Listing, value: "" },
+    OptionRow { name: "--lines", letter: None, effect: Sets(Flag::Lines), modes: Modes::Listing, value: "" },
+    OptionRow { name: "--text", letter: None, effect: Sets(Flag::Text), modes: Modes::Literals, value: "" },
+    OptionRow { name: "--json", letter: None, effect: Sets(Flag::Json), modes: Modes::Listing, value: "" },
+    OptionRow { name: "--format", letter: None, effect: Takes(Operand::Format), modes: Modes::Listing,
+        value: "text, json or github" },
+    OptionRow { name: "--context", letter: Some('C'), effect: Takes(Operand::Around), modes: Modes::Listing,
+        value: "a number of lines, such as 2" },
+    OptionRow { name: "--before-context", letter: Some('B'), effect: Takes(Operand::Before), modes: Modes::Listing,
+        value: "a number of lines, such as 2" },
+    OptionRow { name: "--after-context", letter: Some('A'), effect: Takes(Operand::After), modes: Modes::Listing,
+        value: "a number of lines, such as 2" },
+    OptionRow { name: "--color", letter: None, effect: Takes(Operand::Color), modes: Modes::All,
+        value: "auto, always or never" },
+    OptionRow { name: "--count", letter: Some('c'), effect: Sets(Flag::Count), modes: Modes::Listing, value: "" },
+    OptionRow { name: "--files-with-matches", letter: Some('l'), effect: Sets(Flag::FilesWithMatches), modes: Modes::Listing, value: "" },
+    OptionRow { name: "--null", letter: Some('Z'), effect: Sets(Flag::Nul), modes: Modes::All, value: "" },
+    OptionRow { name: "--quiet", letter: Some('q'), effect: Sets(Flag::Quiet), modes: Modes::All, value: "" },
+    OptionRow { name: "--stats", letter: None, effect: Sets(Flag::Stats), modes: Modes::All, value: "" },
+    OptionRow { name: "--fix", letter: None, effect: Sets(Flag::Fix), modes: Modes::All, value: "" },
+    OptionRow { name: "--check", letter: None, effect: Sets(Flag::Check), modes: Modes::All, value: "" },
+    OptionRow { name: "--diff", letter: None, effect: Sets(Flag::Diff), modes: Modes::All, value: "" },
+    OptionRow { name: "--style", letter: None, effect: Takes(Operand::Style), modes: Modes::Rewriting,
+        value: "a file with rules, such as style.txt" },
+    OptionRow { name: "--rule", letter: None, effect: Takes(Operand::Rule), modes: Modes::Rewriting,
+        value: "a rule of --rules, such as fewest_hashes" },
+    OptionRow { name: "--macros", letter: None, effect: Takes(Operand::Macros), modes: Modes::BadOrRewriting,
+        value: "skip or all" },
+    OptionRow { name: "--allow", letter: None, effect: Takes(Operand::Allowed), modes: Modes::BadOrInvisible,
+        value: "the id of a finding, such as unknown-suffix" },
+    OptionRow { name: "--rules", letter: None, effect: Sets(Flag::Rules), modes: Modes::All, value: "" },
+    OptionRow { name: "--generate", letter: None, effect: Takes(Operand::Generated), modes: Modes::All,
+        value: "man, bash, zsh, fish, sarif-jq or problem-matcher" },
+    OptionRow { name: "--help", letter: Some('h'), effect: Sets(Flag::Help), modes: Modes::All, value: "" },
+    OptionRow { name: "--version", letter: Some('V'), effect: Sets(Flag::Version), modes: Modes::All, value: "" },
+    OptionRow { name: "--", letter: None, effect: EndsOptions, modes: Modes::All, value: "" },
 ];
+
+/// Returns the rows of the table.
+fn rows() -> &'static [OptionRow] {
+    &OPTIONS
+}
 
 /// Returns the first row with the name `word`, or `None`.
 fn row_named<'r>(rows: &'r [OptionRow], word: &str) -> Option<&'r OptionRow> {
@@ -289,17 +109,32 @@ fn row_lettered(rows: &[OptionRow], c: char) -> Option<&OptionRow> {
 
 /// Returns the effect of the option with the name `word`, as `--bad`, or `None` if there is no such option.
 pub(crate) fn effect_of(word: &str) -> Option<Effect> {
-    match row_named(OPTIONS.as_slice(), word) {
-        Some(row) => Some(row.effect),
-        None => None,
-    }
+    Some(row_named(rows(), word)?.effect)
 }
 
 /// Returns the effect of the short option with the letter `c`, or `None` if there is no such option.
 pub(crate) fn effect_of_letter(c: char) -> Option<Effect> {
-    match row_lettered(OPTIONS.as_slice(), c) {
-        Some(row) => Some(row.effect),
-        None => None,
+    Some(row_lettered(rows(), c)?.effect)
+}
+
+/// Whether an option has a value of the kind `operand`.
+fn takes_value(operand: Operand, effect: Effect) -> bool {
+    match effect {
+        Takes(other) => operand == other,
+        Sets(_) | EndsOptions => false,
+    }
+}
+
+/// Returns the first row of an option that has a value of the kind `operand`, or `None`.
+fn row_taking(rows: &[OptionRow], operand: Operand) -> Option<&OptionRow> {
+    rows.iter().find(|row| takes_value(operand, row.effect))
+}
+
+/// Returns the name of the option that has a value of the kind `operand`, and the values that it expects.
+pub(crate) fn expected_by(operand: Operand) -> (&'static str, &'static str) {
+    match row_taking(rows(), operand) {
+        Some(row) => (row.name, row.value),
+        None => unreachable!(),
     }
 }
 
@@ -314,7 +149,7 @@ pub(crate) fn joined_of(word: &str) -> Option<(Operand, &str)> {
 
 /// Whether every argument after an option is a path.
 fn ends_options(effect: Effect) -> bool {
-    matches!(effect, Effect::EndsOptions)
+    matches!(effect, EndsOptions)
 }
 
 /// Returns the first row whose name `word` is similar to, or `None`. The row of `--` is skipped.
@@ -325,10 +160,7 @@ fn row_near<'r>(rows: &'r [OptionRow], word: &str) -> Option<&'r OptionRow> {
 
 /// Returns the name of the first option that an argument is similar to, or `None`. Only the part before `=` is compared.
 pub(crate) fn meant_by(word: &str) -> Option<&'static str> {
-    match row_near(OPTIONS.as_slice(), option_part(word)) {
-        Some(row) => Some(row.name),
-        None => None,
-    }
+    Some(row_near(rows(), option_part(word))?.name)
 }
 
 /// Whether the command has the option of a row, and the option has no effect in the command's mode.
@@ -343,8 +175,6 @@ fn row_without_effect<'r>(rows: &'r [OptionRow], command: Command<'_>) -> Option
 
 /// Returns the first option of the command that has no effect in its mode, and the modes in which it has one, or `None`.
 pub(crate) fn without_effect(command: Command<'_>) -> Option<(&'static str, Modes)> {
-    match row_without_effect(OPTIONS.as_slice(), command) {
-        Some(row) => Some((row.name, row.modes)),
-        None => None,
-    }
+    let row = row_without_effect(rows(), command)?;
+    Some((row.name, row.modes))
 }
