@@ -10,12 +10,9 @@ use Rattle.rl_options.specs.declared.table.OptionRow.{OptionRow}
 use Rattle.rl_restyle.specs.Meant.{option_part}
 use Rattle.rl_options.specs.Modes.{is_without_effect, option_without_effect}
 use Rattle.rl_options.specs.Wishes.{Wishes}
-use Rattle.rl_options.specs.Options.{IsJoinedWord, IsLetter, OptionEntry, ends_options, is_letter_of, suggests}
+use Rattle.rl_options.specs.declared.flags.Operand.TheVariants as takes
+use Rattle.rl_options.specs.Options.{IsJoinedWord, IsLetter, OptionEntry, ends_options, entry_of, is_letter_of, option_taking, suggests, takes_value}
 use Rattle.rl_options.specs.Options.{effect_lettered, effect_named, name_meant, options}
-
--- The entry of the table that a row in the program represents.
-abbrev pub entry_of : OptionRow → OptionEntry
-entry_of row = record { name = row.name.now; letter = row.letter; effect = row.effect; modes = row.modes }
 
 -- A search in a list of images finds the image of what a search in the list finds.
 pub find_map : {X Y : Type 0} (f : X → Y) (q : Y → Bool) (xs : List X) → option_map f (find (λ x. q (f x)) xs)
@@ -51,6 +48,33 @@ pub letter_is : (rows : List OptionRow) (c : ℕ) (r : Option (Bor OptionRow)) �
     → option_map (λ row. row.now.effect) r ≡ effect_lettered c
 unfolding effect_lettered options
 letter_is rows c r listed is = found_in (λ e. e.effect) (λ e. is_letter_of e.letter c) rows r listed is
+
+pub taking_is : (rows : List OptionRow) (operand : Operand) (r : Option (Bor OptionRow)) → map entry_of rows ≡ options
+    → option_copied r ≡ find (λ row. takes_value operand row.effect) rows
+    → option_map (λ row. (row.now.name.now, row.now.value.now)) r ≡ option_taking operand
+unfolding option_taking options
+taking_is rows operand r listed is =
+    found_in (λ e. (e.name, e.value)) (λ e. takes_value operand e.effect) rows r listed is
+
+-- Each kind of value is that of an option.
+pub some_taking : (operand : Operand) → option_taking operand ≡ None → ⊥
+unfolding option_taking options
+some_taking takes.Kinds none = cc
+some_taking takes.Text none = cc
+some_taking takes.Color none = cc
+some_taking takes.Extension none = cc
+some_taking takes.Pattern none = cc
+some_taking takes.List none = cc
+some_taking takes.Edition none = cc
+some_taking takes.Format none = cc
+some_taking takes.Around none = cc
+some_taking takes.Before none = cc
+some_taking takes.After none = cc
+some_taking takes.Style none = cc
+some_taking takes.Rule none = cc
+some_taking takes.Macros none = cc
+some_taking takes.Allowed none = cc
+some_taking takes.Generated none = cc
 
 pub meant_is : (rows : List OptionRow) (word : List ℕ) (r : Option (Bor OptionRow)) → map entry_of rows ≡ options
     → option_copied r ≡ find (λ row. suggests row.effect row.name.now (option_part word)) rows

@@ -122,7 +122,7 @@ style_of None = None
 style_of (Some file) = Some file.now
 
 -- The values that options collect, and the paths to read.
-pub record Lists : Type 0 where
+pub record Collected : Type 0 where
   pub finds : List (List ℕ)
   pub extensions : List (List ℕ)
   pub excludes : List (List ℕ)
@@ -131,8 +131,8 @@ pub record Lists : Type 0 where
   pub allowed : List (List ℕ)
   pub paths : List (List ℕ)
 
-abbrev pub no_lists : Lists
-no_lists = record {
+abbrev pub none_collected : Collected
+none_collected = record {
   finds = [];
   extensions = [];
   excludes = [];
@@ -143,12 +143,12 @@ no_lists = record {
 }
 
 -- The command, from the values in the program.
-abbrev pub wishes_of : Command → Lists → Wishes
-wishes_of command lists = record {
+abbrev pub wishes_of : Command → Collected → Wishes
+wishes_of command values = record {
   action = command.action;
   wanted = wanted_of command.shown;
   searches = command.searches;
-  finds = lists.finds;
+  finds = values.finds;
   ignores_case = command.matching.ignores_case;
   whole_words = command.matching.whole_words;
   places = command.places;
@@ -168,18 +168,18 @@ wishes_of command lists = record {
   restyle = command.restyle;
   style = style_of command.style;
   sets_rules = command.sets_rules;
-  settings = lists.settings;
+  settings = values.settings;
   macros = command.macros;
   allows = command.allows;
-  allowed = lists.allowed;
-  extensions = lists.extensions;
-  excludes = lists.excludes;
-  files_from = lists.files_from;
-  paths = lists.paths;
+  allowed = values.allowed;
+  extensions = values.extensions;
+  excludes = values.excludes;
+  files_from = values.files_from;
+  paths = values.paths;
 }
 
-abbrev pub lists_in : {A : Type 0} → ParsedArguments A → Lists
-lists_in asked = record {
+abbrev pub collected_in : {A : Type 0} → ParsedArguments A → Collected
+collected_in asked = record {
   finds = borrowed_texts asked.finds.items;
   extensions = borrowed_texts asked.extensions.items;
   excludes = borrowed_texts asked.excludes.items;
@@ -190,4 +190,4 @@ lists_in asked = record {
 }
 
 abbrev pub wishes_in : {A : Type 0} → ParsedArguments A → Wishes
-wishes_in asked = wishes_of asked.command (lists_in asked)
+wishes_in asked = wishes_of asked.command (collected_in asked)

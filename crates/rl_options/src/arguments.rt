@@ -8,7 +8,7 @@ ghost use Rattle.rl_options.specs.declared.flags.Operand.{Operand};
 ghost use Rattle.rl_options.specs.declared.flags.Operand.TheVariants as takes;
 ghost use Rattle.rl_options.specs.declared.argument_error.ArgumentError.TheVariants.{Memory};
 ghost use Rattle.rl_options.specs.Flags.{IsKindWord, AreKindWords, IsUnknownKind, is_path_word};
-ghost use Rattle.rl_options.specs.Wishes.{first_wishes, no_lists, wishes_of, wishes_in};
+ghost use Rattle.rl_options.specs.Wishes.{first_wishes, none_collected, wishes_of, wishes_in};
 ghost use Rattle.rl_options.specs.Words.{NamesLetter, NamesUnknown, AreLetters, AreRejectedLetters, GoesWithOptions, with_path, IsWithoutDot, IsAdded, IsTaken, IsUnknownValue, NamesPart, IsStep, Asks, IsRejectedEffect, IsRejectedText, IsRejectedJoined, IsRejectedWord, IsNextError, IsNextStep, AreRejected, is_collected as collects, is_path_after as path_after};
 
 use crate::allowed::allowed_error;
@@ -449,7 +449,7 @@ impl<'a, A: Allocator + Copy> ParsedArguments<'a, A> {
 
 /// Returns the command without any arguments. `has_colors` is true if the output accepts colours.
 fn first_command<'a>(has_colors: bool) -> Command<'a>
-    ensures { wishes_of result no_lists ≡ first_wishes has_colors }
+    ensures { wishes_of result none_collected ≡ first_wishes has_colors }
 {
     Command {
         action: Action::Scan,

@@ -9,7 +9,7 @@ ghost use Rattle.rl_flaws.specs.declared.before.Edition.{Edition as AnyEdition};
 ghost use Rattle.rl_options.specs.declared.flags.Operand.{Operand};
 ghost use Rattle.rl_options.specs.declared.flags.When.{When};
 ghost use Rattle.rl_options.specs.Flags.{IsCountWord, color_word, macros_word, colored_form, recolored as with_colors, edition_word, format_word, formatted, generated_word, has_other_mark as other_mark, is_more_than_extension, matches_nothing as is_useless};
-ghost use Rattle.rl_options.specs.Wishes.{Lists, wishes_of};
+ghost use Rattle.rl_options.specs.Wishes.{Collected, wishes_of};
 ghost use Rattle.rl_options.specs.Words.{GoesWithOptions, IsRejectedEffect, with_flag as flagged};
 
 use crate::argument_error::ArgumentError;
@@ -137,7 +137,7 @@ pub(crate) fn after_front<'w>(front: &str, word: &'w str) -> Option<&'w str>
 
 /// Adds the option `flag` to the command.
 pub(crate) fn set_flag(command: &mut Command<'_>, flag: Flag)
-    ensures { (lists : Lists) → wishes_of command.new lists ≡ flagged flag (wishes_of command.old lists) }
+    ensures { (values : Collected) → wishes_of command.new values ≡ flagged flag (wishes_of command.old values) }
 {
     match flag {
         Flag::Bad => command.shown = Shown::Bad,
@@ -172,8 +172,8 @@ pub(crate) fn contradiction<A: Allocator>(
     command: Command<'_>,
     effect: Effect,
 ) -> Option<ArgumentError<A>>
-    ensures some { IfSome result (λ error. (lists : Lists) → IsRejectedEffect effect (wishes_of command.entry lists) error) }
-    ensures none { IfNone result ((lists : Lists) → GoesWithOptions effect (wishes_of command.entry lists)) }
+    ensures some { IfSome result (λ error. (values : Collected) → IsRejectedEffect effect (wishes_of command.entry values) error) }
+    ensures none { IfNone result ((values : Collected) → GoesWithOptions effect (wishes_of command.entry values)) }
 {
     match (effect, command.shown) {
         (Effect::Sets(Flag::Bad | Flag::Hidden), Shown::All) if command.searches => {

@@ -26,6 +26,7 @@ use Rattle.rl_options.specs.declared.rules.LineError.{LineError}
 use Rattle.rl_options.specs.declared.rules.RulesError.{RulesError}
 use Rattle.rl_options.specs.declared.rules.RulesError.TheVariants as rules
 use Rattle.rl_options.specs.Rules.{HasNoRules, HasRules, IsNoStyle, line_error_words}
+use Rattle.rl_options.specs.HelpPage.{help_page}
 use Rattle.rl_options.specs.RulesPage.{rules_page}
 use Rattle.rl_options.specs.Generated.{generated_text}
 use Rattle.rl_restyle.specs.Settings.{settings_text}
@@ -226,11 +227,12 @@ EndsWriting text streams ending =
     × (streams.handed_new ≡ streams.handed_old)
 
 -- The result of a call for an action: a run over files, or writing the help, the version, the rules of a style, or a text for another
--- program.
+-- program. If an allocation for the help fails, nothing is written.
 abbrev pub EndsWish : {B : Type 0} → Action → Wishes → Bool → Option World → Streams → Ending (CallError B) → Type 0
 EndsWish Scan wishes lacks_input holds streams ending = EndsStyled wishes.style wishes lacks_input holds streams ending
 EndsWish Files wishes lacks_input holds streams ending = EndsStyled wishes.style wishes lacks_input holds streams ending
-EndsWish Help wishes lacks_input holds streams ending = (text : List ℕ) × EndsWriting text streams ending
+EndsWish Help wishes lacks_input holds streams ending =
+    EndsWriting help_page streams ending ⊎ (EndsWithoutMemory ending × WritesNothing streams)
 EndsWish Version wishes lacks_input holds streams ending = (text : List ℕ) × EndsWriting text streams ending
 EndsWish Rules wishes lacks_input holds streams ending = EndsWriting rules_page streams ending
 EndsWish (Generate which) wishes lacks_input holds streams ending = EndsWriting (generated_text which) streams ending

@@ -4,13 +4,13 @@ use Rattle.rl_options.proofs.ClashLemmas.{same_options}
 use Rattle.rl_options.proofs.conflicts.mode_clash.Goals as goal
 
 pub returns-in-None-clause-none : goal.returns-in-None-clause-none
-returns-in-None-clause-none g c = λ finds extensions excludes lists settings allowed paths.
-    same_options c.args.command finds extensions excludes lists settings allowed paths ∙ c.in-None.ensures.none
+returns-in-None-clause-none g c = λ values.
+    same_options c.args.command values ∙ c.in-None.ensures.none
 
 pub returns-in-Some-clause-some : goal.returns-in-Some-clause-some
-returns-in-Some-clause-some g c = λ finds extensions excludes lists settings allowed paths. (
+returns-in-Some-clause-some g c = λ values. (
   c.in-Some.modes,
-  same_options c.args.command finds extensions excludes lists settings allowed paths ∙ c.in-Some.ensures.some,
+  same_options c.args.command values ∙ c.in-Some.ensures.some,
   c.mode_words-mode.ensures ∙ ap mode_words c.mode_of.ensures,
   c.modes_hint.ensures,
 )

@@ -7,9 +7,9 @@ use crate::rl_options::argument_error::ArgumentError;
 use crate::rl_options::command::{Action, Command, Output, PlaceForm};
 use crate::rl_options::conflicts::clash_of;
 use crate::rl_options::flags::{
-    Effect, Next, Operand, When, after_front, contradiction, count_of, edition_of, form_in, form_when,
-    format_of, generated_of, has_more_than_extension, has_other_mark, macros_of, matches_nothing,
-    operand_of, recolored, set_flag, when_of,
+    Effect, Next, Operand, When, after_front, contradiction, count_of, edition_of, form_in,
+    form_when, format_of, generated_of, has_more_than_extension, has_other_mark, macros_of,
+    matches_nothing, operand_of, recolored, set_flag, when_of,
 };
 use crate::rl_options::table::{effect_of, effect_of_letter, expected_by, joined_of, meant_by};
 use crate::rl_files::{Selection, escaped_non_utf8_path, visible_text};
@@ -163,7 +163,12 @@ impl<'a, A: Allocator + Copy> ParsedArguments<'a, A> {
     /// # Errors
     ///
     /// Returns the value if it is unknown, or the first unknown word of a list of kinds.
-    fn set_value(&mut self, has_colors: bool, operand: Operand, text: &'a str) -> Result<(), &'a str> {
+    fn set_value(
+        &mut self,
+        has_colors: bool,
+        operand: Operand,
+        text: &'a str,
+    ) -> Result<(), &'a str> {
         let command = &mut self.command;
         match operand {
             Operand::Kinds => match unknown_kind(text) {

@@ -20,72 +20,156 @@ pub(crate) struct OptionRow {
     pub modes: Modes,
     /// The values that the option expects, in messages. It is empty if the option has no value.
     pub value: &'static str,
+    /// The lines of `--help` for the option, each after its line end. The heading of a part is with its first option.
+    pub help: &'static str,
 }
 
-/// The options of `rl_scan`. If an unknown option is similar to several names, the first one is suggested.
+/// The options of `rl_scan`, in the order of `--help`. If an unknown option is similar to several names, the first one is suggested.
 #[rustfmt::skip]
 const OPTIONS: [OptionRow; 41] = [
-    OptionRow { name: "--bad", letter: None, effect: Sets(Flag::Bad), modes: Modes::Printing, value: "" },
-    OptionRow { name: "--invisible", letter: None, effect: Sets(Flag::Hidden), modes: Modes::Printing, value: "" },
-    OptionRow { name: "--only", letter: None, effect: Takes(Operand::Kinds), modes: Modes::Printing,
-        value: "Str, ByteStr, CStr, Byte, Char, Int, Float, Bool or Verbatim" },
+    OptionRow { name: "--bad", letter: None, effect: Sets(Flag::Bad), modes: Modes::Printing, value: "", help: "
+
+Modes: one at most, except --only with --find, --fix, --check or --diff
+      --bad            print the literals that Rust rejects, and unclosed quotes
+                       and comments" },
+    OptionRow { name: "--invisible", letter: None, effect: Sets(Flag::Hidden), modes: Modes::Printing, value: "", help: "
+      --invisible      print invisible and bidirectional characters, anywhere in
+                       a file" },
+    OptionRow { name: "--only", letter: None, effect: Takes(Operand::Kinds), modes: Modes::All,
+        value: "Str, ByteStr, CStr, Byte, Char, Int, Float, Bool or Verbatim", help: "
+      --only KIND,..   print the literals of these kinds: Str ByteStr CStr Byte
+                       Char Int Float Bool Verbatim, in any case" },
     OptionRow { name: "--find", letter: Some('e'), effect: Takes(Operand::Text), modes: Modes::Printing,
-        value: "a text, such as TODO" },
-    OptionRow { name: "--ignore-case", letter: Some('i'), effect: Sets(Flag::IgnoreCase), modes: Modes::Find, value: "" },
-    OptionRow { name: "--word", letter: Some('w'), effect: Sets(Flag::WholeWords), modes: Modes::Find, value: "" },
-    OptionRow { name: "--no-stray", letter: None, effect: Sets(Flag::NoStray), modes: Modes::Tokens, value: "" },
-    OptionRow { name: "--any-suffix", letter: None, effect: Sets(Flag::AnySuffix), modes: Modes::Bad, value: "" },
+        value: "a text, such as TODO", help: "
+  -e, --find TEXT      print the string, character and byte literals whose value
+                       contains TEXT; may be repeated" },
+    OptionRow { name: "--fix", letter: None, effect: Sets(Flag::Fix), modes: Modes::All, value: "", help: "
+      --fix            rewrite files in a style, and print how many literals of
+                       each file changed; for standard input, print the
+                       rewritten source" },
+    OptionRow { name: "--check", letter: None, effect: Sets(Flag::Check), modes: Modes::All, value: "", help: "
+      --check          print the changes that --fix would make" },
+    OptionRow { name: "--diff", letter: None, effect: Sets(Flag::Diff), modes: Modes::All, value: "", help: "
+      --diff           print these changes as a unified diff" },
+    OptionRow { name: "--any-suffix", letter: None, effect: Sets(Flag::AnySuffix), modes: Modes::Bad, value: "", help: "
+
+Options of these modes: --check and --diff take those of --fix
+      --any-suffix     for --bad: accept any suffix, and numbers out of range,
+                       as macros do" },
+    OptionRow { name: "--no-stray", letter: None, effect: Sets(Flag::NoStray), modes: Modes::Tokens, value: "", help: "
+      --no-stray       for --bad, --only, --find and without a mode: a stray
+                       character, at which no token begins, is an error" },
     OptionRow { name: "--edition", letter: None, effect: Takes(Operand::Edition), modes: Modes::BadOrRewriting,
-        value: "2015, 2018, 2021 or 2024" },
-    OptionRow { name: "--all", letter: None, effect: Sets(Flag::AllDirectories), modes: Modes::All, value: "" },
-    OptionRow { name: "--extension", letter: None, effect: Takes(Operand::Extension), modes: Modes::All,
-        value: "one extension, such as rs.in" },
-    OptionRow { name: "--exclude", letter: None, effect: Takes(Operand::Pattern), modes: Modes::All,
-        value: "a pattern, such as tests/ui" },
-    OptionRow { name: "--files", letter: None, effect: Sets(Flag::Files), modes: Modes::Printing, value: "" },
-    OptionRow { name: "--files-from", letter: None, effect: Takes(Operand::List), modes: Modes::All,
-        value: "a file that lists paths, such as list.txt" },
-    OptionRow { name: "--no-messages", letter: None, effect: Sets(Flag::NoMessages), modes: Modes::All, value: "" },
-    OptionRow { name: "--bytes", letter: None, effect: Sets(Flag::Bytes), modes: Modes::Listing, value: "" },
-    OptionRow { name: "--lines", letter: None, effect: Sets(Flag::Lines), modes: Modes::Listing, value: "" },
-    OptionRow { name: "--text", letter: None, effect: Sets(Flag::Text), modes: Modes::Literals, value: "" },
-    OptionRow { name: "--json", letter: None, effect: Sets(Flag::Json), modes: Modes::Listing, value: "" },
-    OptionRow { name: "--format", letter: None, effect: Takes(Operand::Format), modes: Modes::Listing,
-        value: "text, json or github" },
-    OptionRow { name: "--context", letter: Some('C'), effect: Takes(Operand::Around), modes: Modes::Listing,
-        value: "a number of lines, such as 2" },
-    OptionRow { name: "--before-context", letter: Some('B'), effect: Takes(Operand::Before), modes: Modes::Listing,
-        value: "a number of lines, such as 2" },
-    OptionRow { name: "--after-context", letter: Some('A'), effect: Takes(Operand::After), modes: Modes::Listing,
-        value: "a number of lines, such as 2" },
-    OptionRow { name: "--color", letter: None, effect: Takes(Operand::Color), modes: Modes::All,
-        value: "auto, always or never" },
-    OptionRow { name: "--count", letter: Some('c'), effect: Sets(Flag::Count), modes: Modes::Listing, value: "" },
-    OptionRow { name: "--files-with-matches", letter: Some('l'), effect: Sets(Flag::FilesWithMatches), modes: Modes::Listing, value: "" },
-    OptionRow { name: "--null", letter: Some('Z'), effect: Sets(Flag::Nul), modes: Modes::All, value: "" },
-    OptionRow { name: "--quiet", letter: Some('q'), effect: Sets(Flag::Quiet), modes: Modes::All, value: "" },
-    OptionRow { name: "--stats", letter: None, effect: Sets(Flag::Stats), modes: Modes::All, value: "" },
-    OptionRow { name: "--fix", letter: None, effect: Sets(Flag::Fix), modes: Modes::All, value: "" },
-    OptionRow { name: "--check", letter: None, effect: Sets(Flag::Check), modes: Modes::All, value: "" },
-    OptionRow { name: "--diff", letter: None, effect: Sets(Flag::Diff), modes: Modes::All, value: "" },
-    OptionRow { name: "--style", letter: None, effect: Takes(Operand::Style), modes: Modes::Rewriting,
-        value: "a file with rules, such as style.txt" },
-    OptionRow { name: "--rule", letter: None, effect: Takes(Operand::Rule), modes: Modes::Rewriting,
-        value: "a rule of --rules, such as fewest_hashes" },
-    OptionRow { name: "--macros", letter: None, effect: Takes(Operand::Macros), modes: Modes::BadOrRewriting,
-        value: "skip or all" },
+        value: "2015, 2018, 2021 or 2024", help: "
+      --edition YEAR   for --bad and --fix: the edition whose reserved prefixes
+                       are errors: 2015, 2018, 2021 (default) or 2024" },
     OptionRow { name: "--allow", letter: None, effect: Takes(Operand::Allowed), modes: Modes::BadOrInvisible,
-        value: "the id of a finding, such as unknown-suffix" },
-    OptionRow { name: "--rules", letter: None, effect: Sets(Flag::Rules), modes: Modes::All, value: "" },
+        value: "the id of a finding, such as unknown-suffix", help: "
+      --allow ID       for --bad and --invisible: print no findings with the id
+                       ID, which --json prints; for --invisible, ID may also be
+                       a character, such as U+200B; may be repeated" },
+    OptionRow { name: "--ignore-case", letter: Some('i'), effect: Sets(Flag::IgnoreCase), modes: Modes::Find, value: "", help: "
+  -i, --ignore-case    for --find: ignore the case of ASCII letters" },
+    OptionRow { name: "--word", letter: Some('w'), effect: Sets(Flag::WholeWords), modes: Modes::Find, value: "", help: "
+  -w, --word           for --find: match only whole words" },
+    OptionRow { name: "--style", letter: None, effect: Takes(Operand::Style), modes: Modes::Rewriting,
+        value: "a file with rules, such as style.txt", help: "
+      --style FILE     for --fix: rewrite by the rules in FILE; without it, drop
+                       needless escapes of quotes and needless hashes, and write
+                       1e5 for 1E5" },
+    OptionRow { name: "--rule", letter: None, effect: Takes(Operand::Rule), modes: Modes::Rewriting,
+        value: "a rule of --rules, such as fewest_hashes", help: "
+      --rule RULE      for --fix: rewrite by this rule of --rules; RULE is
+                       NAME=VALUE, or NAME for NAME=true; may be repeated" },
+    OptionRow { name: "--macros", letter: None, effect: Takes(Operand::Macros), modes: Modes::BadOrRewriting,
+        value: "skip or all", help: "
+      --macros WHICH   skip or all: with skip, the default, --fix leaves
+                       literals in macro calls, macro_rules! and attributes
+                       unchanged, and --bad doesn't check their suffixes and
+                       ranges" },
+    OptionRow { name: "--all", letter: None, effect: Sets(Flag::AllDirectories), modes: Modes::All, value: "", help: "
+
+Files:
+      --all            also read hidden files and directories, and `target`" },
+    OptionRow { name: "--extension", letter: None, effect: Takes(Operand::Extension), modes: Modes::All,
+        value: "one extension, such as rs.in", help: "
+      --extension EXT  in directories, read *.EXT instead of *.rs; may be
+                       repeated" },
+    OptionRow { name: "--exclude", letter: None, effect: Takes(Operand::Pattern), modes: Modes::All,
+        value: "a pattern, such as tests/ui", help: "
+      --exclude GLOB   in directories, skip what GLOB matches, as in .gitignore,
+                       with *, ?, ** and / only; may be repeated" },
+    OptionRow { name: "--files-from", letter: None, effect: Takes(Operand::List), modes: Modes::All,
+        value: "a file that lists paths, such as list.txt", help: "
+      --files-from FILE
+                       also read the paths in FILE, which end with line ends, or
+                       with NUL; `-` is standard input; may be repeated" },
+    OptionRow { name: "--files", letter: None, effect: Sets(Flag::Files), modes: Modes::Printing, value: "", help: "
+      --files          print the paths of the files that would be read, and read
+                       none" },
+    OptionRow { name: "--lines", letter: None, effect: Sets(Flag::Lines), modes: Modes::Listing, value: "", help: "
+
+Output:
+      --lines          print positions as LINE:COLUMN, the default for files" },
+    OptionRow { name: "--bytes", letter: None, effect: Sets(Flag::Bytes), modes: Modes::Listing, value: "", help: "
+      --bytes          print byte ranges LO..HI, the default for standard input" },
+    OptionRow { name: "--text", letter: None, effect: Sets(Flag::Text), modes: Modes::Literals, value: "", help: "
+      --text           print literals as written" },
+    OptionRow { name: "--json", letter: None, effect: Sets(Flag::Json), modes: Modes::Listing, value: "", help: "
+      --json           print one JSON object per finding" },
+    OptionRow { name: "--format", letter: None, effect: Takes(Operand::Format), modes: Modes::Listing,
+        value: "text, json or github", help: "
+      --format FORM    text; json, as --json; or github, for annotations" },
+    OptionRow { name: "--context", letter: Some('C'), effect: Takes(Operand::Around), modes: Modes::Listing,
+        value: "a number of lines, such as 2", help: "
+  -C, --context NUM    show the source line, and NUM lines before and after it" },
+    OptionRow { name: "--before-context", letter: Some('B'), effect: Takes(Operand::Before), modes: Modes::Listing,
+        value: "a number of lines, such as 2", help: "
+  -B, --before-context NUM
+                       show the source line, and NUM lines before it" },
+    OptionRow { name: "--after-context", letter: Some('A'), effect: Takes(Operand::After), modes: Modes::Listing,
+        value: "a number of lines, such as 2", help: "
+  -A, --after-context NUM
+                       show the source line, and NUM lines after it" },
+    OptionRow { name: "--color", letter: None, effect: Takes(Operand::Color), modes: Modes::All,
+        value: "auto, always or never", help: "
+      --color WHEN     auto, always or never; auto means on a terminal, unless
+                       NO_COLOR is set and not empty, or TERM is dumb" },
+    OptionRow { name: "--count", letter: Some('c'), effect: Sets(Flag::Count), modes: Modes::Listing, value: "", help: "
+  -c, --count          print the number of findings of each file that has some" },
+    OptionRow { name: "--files-with-matches", letter: Some('l'), effect: Sets(Flag::FilesWithMatches), modes: Modes::Listing, value: "", help: "
+  -l, --files-with-matches
+                       print the path of each file that has findings" },
+    OptionRow { name: "--null", letter: Some('Z'), effect: Sets(Flag::Nul), modes: Modes::All, value: "", help: "
+  -Z, --null           end the paths of -c, -l and --files with NUL" },
+    OptionRow { name: "--quiet", letter: Some('q'), effect: Sets(Flag::Quiet), modes: Modes::All, value: "", help: "
+  -q, --quiet          print no findings; errors, totals and the output of --fix
+                       for standard input are still printed" },
+    OptionRow { name: "--no-messages", letter: None, effect: Sets(Flag::NoMessages), modes: Modes::All, value: "", help: "
+      --no-messages    print no errors and no warnings of files; the exit status
+                       stays the same" },
+    OptionRow { name: "--stats", letter: None, effect: Sets(Flag::Stats), modes: Modes::All, value: "", help: "
+      --stats          print totals at the end: files read, files with findings,
+                       findings, and files with an error; for --fix, also how
+                       many literals each rule changes" },
+    OptionRow { name: "--", letter: None, effect: EndsOptions, modes: Modes::All, value: "", help: "
+      --               every argument that follows is a PATH" },
+    OptionRow { name: "--rules", letter: None, effect: Sets(Flag::Rules), modes: Modes::All, value: "", help: "
+      --rules          print the rules of a style, with values and examples" },
     OptionRow { name: "--generate", letter: None, effect: Takes(Operand::Generated), modes: Modes::All,
-        value: "man, bash, zsh, fish, sarif-jq or problem-matcher" },
-    OptionRow { name: "--help", letter: Some('h'), effect: Sets(Flag::Help), modes: Modes::All, value: "" },
-    OptionRow { name: "--version", letter: Some('V'), effect: Sets(Flag::Version), modes: Modes::All, value: "" },
-    OptionRow { name: "--", letter: None, effect: EndsOptions, modes: Modes::All, value: "" },
+        value: "man, bash, zsh, fish, sarif-jq or problem-matcher", help: "
+      --generate WHAT  man, bash, zsh, fish, sarif-jq or problem-matcher: print
+                       the manual page, the completions for this shell, a jq
+                       program that makes SARIF of --json, or a file with
+                       problem matchers for GitHub" },
+    OptionRow { name: "--help", letter: Some('h'), effect: Sets(Flag::Help), modes: Modes::All, value: "", help: "
+  -h, --help           print this help" },
+    OptionRow { name: "--version", letter: Some('V'), effect: Sets(Flag::Version), modes: Modes::All, value: "", help: "
+  -V, --version        print the version" },
 ];
 
 /// Returns the rows of the table.
-fn rows() -> &'static [OptionRow] {
+pub(crate) fn rows() -> &'static [OptionRow] {
     &OPTIONS
 }
 
@@ -147,20 +231,27 @@ pub(crate) fn joined_of(word: &str) -> Option<(Operand, &str)> {
     Some((operand, text))
 }
 
-/// Whether every argument after an option is a path.
-fn ends_options(effect: Effect) -> bool {
-    matches!(effect, EndsOptions)
+/// Whether an option is suggested for a word that is similar to the option's name. `--` is never suggested.
+fn suggests(row: &OptionRow, word: &str) -> bool {
+    !matches!(row.effect, EndsOptions) && is_near(word, row.name)
 }
 
-/// Returns the first row whose name `word` is similar to, or `None`. The row of `--` is skipped.
+/// Returns the first row that is suggested for `word`, or `None`.
 fn row_near<'r>(rows: &'r [OptionRow], word: &str) -> Option<&'r OptionRow> {
-    rows.iter()
-        .find(|row| !ends_options(row.effect) && is_near(word, row.name))
+    rows.iter().find(|row| suggests(row, word))
 }
 
-/// Returns the name of the first option that an argument is similar to, or `None`. Only the part before `=` is compared.
+/// Returns the first row that is suggested for `word`, and whose name is at most one byte longer than `word`, or `None`.
+fn row_as_long<'r>(rows: &'r [OptionRow], word: &str) -> Option<&'r OptionRow> {
+    rows.iter()
+        .find(|row| suggests(row, word) && row.name.len().saturating_sub(1) <= word.len())
+}
+
+/// Returns the name of the first option that an argument is similar to, or `None`. Options whose names are at most one byte longer
+/// than the argument come first. Only the part before `=` is compared.
 pub(crate) fn meant_by(word: &str) -> Option<&'static str> {
-    Some(row_near(rows(), option_part(word))?.name)
+    let word = option_part(word);
+    Some(row_as_long(rows(), word).or(row_near(rows(), word))?.name)
 }
 
 /// Whether the command has the option of a row, and the option has no effect in the command's mode.
