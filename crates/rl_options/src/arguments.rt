@@ -1,6 +1,6 @@
 //! Parses the command-line arguments of the program `rl_scan`.
 
-ghost use Rattle.std.specs.Prelude.{◌≡◌, ◌≢◌, ◌⊎◌, ◌++◌, ◌↔◌, ℕ, false, List, [], map, codes, string_bytes, IsTrue, IfOk, IfErr, IfSome, IfNone, MatchBool, MatchOption, OnOk};
+ghost use Rattle.std.specs.Prelude.{◌≡◌, ◌≢◌, ◌⊎◌, ◌++◌, ◌↔◌, ℕ, false, true, List, [], map, codes, string_bytes, IsTrue, IfOk, IfErr, IfSome, IfNone, MatchBool, MatchOption, OnOk};
 ghost use Rattle.rl_files.specs.Trees.{string_texts};
 ghost use Rattle.rl_options.specs.declared.flags.Effect.TheVariants as effects;
 ghost use Rattle.rl_options.specs.declared.flags.Next.TheVariants as next;
@@ -208,7 +208,7 @@ impl<'a, A: Allocator + Copy> ParsedArguments<'a, A> {
         operand: Operand,
         text: &'a str,
     ) -> Result<(), &'a str>
-        requires { is_collected operand ≡ false }
+        requires { collects operand ≡ false }
         ensures taken { OnOk result (IsTaken has_colors operand (wishes_in self.old) text.now (wishes_in self.new)) }
         ensures next { OnOk result (self.new.next ≡ self.old.next) }
         ensures unknown { IfErr result (λ part. IsUnknownValue operand text.now part.now) }
@@ -248,7 +248,7 @@ impl<'a, A: Allocator + Copy> ParsedArguments<'a, A> {
         operand: Operand,
         text: &'a str,
     ) -> Result<(), ArgumentError<A>>
-        requires { is_collected operand ≡ true }
+        requires { collects operand ≡ true }
         ensures taken { OnOk result (IsTaken false operand (wishes_in self.old) text.now (wishes_in self.new)) }
         ensures next { OnOk result (self.new.next ≡ self.old.next) }
         ensures rejected { IfErr result (IsRejectedText operand text.now) }

@@ -280,8 +280,7 @@ fn row_near<'r>(rows: &'r [OptionRow], word: &str) -> Option<&'r OptionRow>
 fn row_as_long<'r>(rows: &'r [OptionRow], word: &str) -> Option<&'r OptionRow>
     ensures { option_copied result ≡ find (λ row. is_as_long (entry_of row) word.now) rows.now }
 {
-    rows.iter()
-        .find(|row| suggests(row, word) && row.name.len().saturating_sub(1) <= word.len())
+    rows.iter().find(|row| suggests(row, word) && row.name.len().saturating_sub(1) <= word.len())
 }
 
 /// Returns the name of the first option that an argument is similar to, or `None`. Options whose names are at most one byte longer

@@ -243,8 +243,7 @@ fn row_near<'r>(rows: &'r [OptionRow], word: &str) -> Option<&'r OptionRow> {
 
 /// Returns the first row that is suggested for `word`, and whose name is at most one byte longer than `word`, or `None`.
 fn row_as_long<'r>(rows: &'r [OptionRow], word: &str) -> Option<&'r OptionRow> {
-    rows.iter()
-        .find(|row| suggests(row, word) && row.name.len().saturating_sub(1) <= word.len())
+    rows.iter().find(|row| suggests(row, word) && row.name.len().saturating_sub(1) <= word.len())
 }
 
 /// Returns the name of the first option that an argument is similar to, or `None`. Options whose names are at most one byte longer
