@@ -224,23 +224,28 @@ def check_limits(tell):
         tell(f'docs/PERFORMANCE.md: {above} of the {len(limits)} limits are above the lowest that they were')
 
 
-# A row of the table of options of rl_scan, and a line of its help that begins an option.
-OPTION_ROW = re.compile(r"""name: "(--[\w-]*)",\s+letter: (?:None|Some\('(.)'\)),\s+effect: Effect::(\w+).*,\s+modes: Modes::(\w+),""")
+# A row of the table of options of rl_scan with its lines of the help, and a line that begins an option.
+OPTION_ROW = re.compile(r"""OptionRow \{ name: "(--[\w-]*)", letter: (?:None|Some\('(.)'\)), effect: (\w+).*, modes: Modes::(\w+),\s+"""
+                        r"""value: "(.*)", help: "([^"]*)" \}""")
 OPTION_LINE = re.compile(r'(?m)^ {2,6}(?:-(\w), )?(--[\w-]*)( [A-Z][A-Z,.]*)?(?: |$)')
 
 
 def check_options(tell):
-    """Checks that the help of rl_scan has the options, letters and values of the table, and the manual its modes."""
-    rows = OPTION_ROW.findall(read('crates/rl_options/src/table.rt'))
-    table = {(name, letter, effect == 'Takes') for name, letter, effect, _ in rows}
-    shown = {(name, letter, bool(value)) for letter, name, value in OPTION_LINE.findall(read('crates/rl_options/src/help.rt'))}
-    for name, *_ in sorted(table ^ shown):
-        tell(f'crates/rl_options/src/help.rt: {name} differs from its row in table.rt')
+    """Checks that each row of the table of rl_scan has its option, letter and value in its lines of the help, and that the manual
+    has the modes of the table."""
+    code = read('crates/rl_options/src/table.rt')
+    rows = OPTION_ROW.findall(code)
+    if len(rows) != code.count('    OptionRow {'):
+        tell('crates/rl_options/src/table.rt: a row has another form')
+    for name, letter, effect, _, value, lines in rows:
+        shown = [(said, short, bool(takes)) for short, said, takes in OPTION_LINE.findall(lines)]
+        if shown != [(name, letter, effect == 'Takes')] or bool(value) != (effect == 'Takes'):
+            tell(f'crates/rl_options/src/table.rt: the lines of the help or the values of {name} differ from its row')
     names = {f'-{letter}': name for name, letter, *_ in rows}
     part = read('docs/PROGRAMS.md').split('| Modes in which they have an effect |\n|---|---|\n')[1].split('\n\n')[0]
     groups = [{names.get(it, it) for it in re.findall('`(-.*?)`', line.split('|')[1])} for line in part.split('\n')]
     modes = {}
-    for name, _, _, of_row in rows:
+    for name, _, _, of_row, *_ in rows:
         modes.setdefault(of_row, set()).add(name)
     wanted = [modes[it] for it in modes if it not in ('All', 'Printing')]
     if sorted(map(sorted, filter(None, groups))) != sorted(map(sorted, wanted)):

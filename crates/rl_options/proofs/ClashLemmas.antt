@@ -1,5 +1,5 @@
 -- Lemmas about the first error of options that contradict each other.
-use Rattle.rl_syntax.proofs.Common.{Bool, Bor, List, [], ap, ap₂, length-map, map, refl, string_bytes, sym, ◌&&◌, ◌==◌, ◌||◌, ◌∷◌, ◌≡◌, ℕ}
+use Rattle.rl_syntax.proofs.Common.{Bool, Bor, List, ap, ap₂, length-map, map, refl, string_bytes, sym, ◌&&◌, ◌==◌, ◌||◌, ◌∷◌, ◌≡◌, ℕ}
 use Rattle.std.specs.List.{list_any}
 use Rattle.std.specs.Prelude.{String}
 use Rattle.rl_options.specs.declared.command.Command.{Command}
@@ -8,14 +8,13 @@ use Rattle.rl_files.specs.Trees.{string_texts}
 use Rattle.rl_options.specs.Clashes.{is_input_among, is_input_name, is_input_read}
 use Rattle.rl_options.specs.Modes.{option_without_effect}
 use Rattle.rl_options.specs.Options.{options}
-use Rattle.rl_options.specs.Wishes.{wishes_of}
+use Rattle.rl_options.specs.Wishes.{Collected, none_collected, wishes_of}
 
--- Whether an option has an effect doesn't depend on the texts, file extensions, patterns, lists and paths of the command line.
-pub same_options : (command : Command) (finds extensions excludes lists settings allowed paths : List (List ℕ))
-    → option_without_effect (wishes_of command finds extensions excludes lists settings allowed paths)
-    ≡ option_without_effect (wishes_of command [] [] [] [] [] [] [])
+-- Whether an option has an effect doesn't depend on the collected values and the paths of the command line.
+pub same_options : (command : Command) (values : Collected)
+    → option_without_effect (wishes_of command values) ≡ option_without_effect (wishes_of command none_collected)
 unfolding option_without_effect options
-same_options command finds extensions excludes lists settings allowed paths = refl
+same_options command values = refl
 
 -- A test of the elements of a list is a test of their texts.
 pub any_text : {X : Type 0} (text : X → List ℕ) (q : List ℕ → Bool) (xs : List X)

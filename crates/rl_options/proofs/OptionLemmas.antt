@@ -1,7 +1,8 @@
 -- Lemmas about searches in the table of options.
-use Rattle.rl_syntax.proofs.Common.{Bool, Bor, List, None, Option, Some, [], and_parts, ap, codes, cond, eqb-true, false, list_all, ltb, ltb-true, map, not, not-true, option_map, refl, subst, sym, true, ℕ, ◌&&◌, ◌++◌, ◌<◌, ◌∙◌, ◌∷◌, ◌≡◌, ◌≢◌}
+use Rattle.rl_syntax.proofs.Common.{Bool, Bor, List, None, Option, Some, [], and_parts, ap, ap₂, codes, cond, eqb-true, false, list_all, ltb, ltb-true, map, not, not-true, option_map, refl, subst, sym, true, ℕ, ◌&&◌, ◌++◌, ◌<◌, ◌∙◌, ◌∷◌, ◌≡◌, ◌≢◌}
 use Rattle.std.proofs.lemmas.List.{append_cancel_left}
 use Rattle.std.specs.Prelude.{find, option_copied}
+use Rattle.std.specs.Option.{option_or}
 use Rattle.std.specs.Str.{bytes_eq}
 use Rattle.rl_options.specs.declared.flags.Effect.{Effect}
 use Rattle.rl_options.specs.declared.flags.Effect.TheVariants.{Takes, EndsOptions}
@@ -10,12 +11,9 @@ use Rattle.rl_options.specs.declared.table.OptionRow.{OptionRow}
 use Rattle.rl_restyle.specs.Meant.{option_part}
 use Rattle.rl_options.specs.Modes.{is_without_effect, option_without_effect}
 use Rattle.rl_options.specs.Wishes.{Wishes}
-use Rattle.rl_options.specs.Options.{IsJoinedWord, IsLetter, OptionEntry, ends_options, is_letter_of, suggests}
+use Rattle.rl_options.specs.declared.flags.Operand.TheVariants as takes
+use Rattle.rl_options.specs.Options.{IsJoinedWord, IsLetter, OptionEntry, ends_options, entry_of, is_as_long, is_letter_of, is_suggested, option_taking, takes_value}
 use Rattle.rl_options.specs.Options.{effect_lettered, effect_named, name_meant, options}
-
--- The entry of the table that a row in the program represents.
-abbrev pub entry_of : OptionRow → OptionEntry
-entry_of row = record { name = row.name.now; letter = row.letter; effect = row.effect; modes = row.modes }
 
 -- A search in a list of images finds the image of what a search in the list finds.
 pub find_map : {X Y : Type 0} (f : X → Y) (q : Y → Bool) (xs : List X) → option_map f (find (λ x. q (f x)) xs)
@@ -52,11 +50,51 @@ pub letter_is : (rows : List OptionRow) (c : ℕ) (r : Option (Bor OptionRow)) �
 unfolding effect_lettered options
 letter_is rows c r listed is = found_in (λ e. e.effect) (λ e. is_letter_of e.letter c) rows r listed is
 
-pub meant_is : (rows : List OptionRow) (word : List ℕ) (r : Option (Bor OptionRow)) → map entry_of rows ≡ options
-    → option_copied r ≡ find (λ row. suggests row.effect row.name.now (option_part word)) rows
-    → option_map (λ row. row.now.name.now) r ≡ name_meant word
+pub taking_is : (rows : List OptionRow) (operand : Operand) (r : Option (Bor OptionRow)) → map entry_of rows ≡ options
+    → option_copied r ≡ find (λ row. takes_value operand row.effect) rows
+    → option_map (λ row. (row.now.name.now, row.now.value.now)) r ≡ option_taking operand
+unfolding option_taking options
+taking_is rows operand r listed is =
+    found_in (λ e. (e.name, e.value)) (λ e. takes_value operand e.effect) rows r listed is
+
+-- Each kind of value is that of an option.
+pub some_taking : (operand : Operand) → option_taking operand ≡ None → ⊥
+unfolding option_taking options
+some_taking takes.Kinds none = cc
+some_taking takes.Text none = cc
+some_taking takes.Color none = cc
+some_taking takes.Extension none = cc
+some_taking takes.Pattern none = cc
+some_taking takes.List none = cc
+some_taking takes.Edition none = cc
+some_taking takes.Format none = cc
+some_taking takes.Around none = cc
+some_taking takes.Before none = cc
+some_taking takes.After none = cc
+some_taking takes.Style none = cc
+some_taking takes.Rule none = cc
+some_taking takes.Macros none = cc
+some_taking takes.Allowed none = cc
+some_taking takes.Generated none = cc
+
+-- The name in the first of two rows is the first of the two names.
+name_or : {X Y : Type 0} (f : X → Y) (a b : Option X)
+    → option_map f (option_or a b) ≡ option_or (option_map f a) (option_map f b)
+name_or f None b = refl
+name_or f (Some x) b = refl
+
+pub meant_is : (rows : List OptionRow) (word : List ℕ) (r s : Option (Bor OptionRow)) → map entry_of rows ≡ options
+    → option_copied r ≡ find (λ row. is_as_long (entry_of row) (option_part word)) rows
+    → option_copied s ≡ find (λ row. is_suggested (entry_of row) (option_part word)) rows
+    → option_map (λ row. row.now.name.now) (option_or r s) ≡ name_meant word
 unfolding name_meant options
-meant_is rows word r listed is = found_in (λ e. e.name) (λ e. suggests e.effect e.name (option_part word)) rows r listed is
+meant_is rows word r s listed long near =
+    name_or (λ (row : Bor OptionRow). row.now.name.now) r s
+    ∙ ap₂ option_or
+    (found_in (λ e. e.name) (λ e. is_as_long e (option_part word)) rows r listed long)
+    (found_in (λ e. e.name) (λ e. is_suggested e (option_part word)) rows s listed near)
+    ∙ sym (name_or (λ (e : OptionEntry). e.name) (find (λ e. is_as_long e (option_part word)) options)
+    (find (λ e. is_suggested e (option_part word)) options))
 
 pub without_effect_is : (rows : List OptionRow) (w : Wishes) (r : Option (Bor OptionRow)) → map entry_of rows ≡ options
     → option_copied r ≡ find (λ row. is_without_effect row.effect row.modes w) rows

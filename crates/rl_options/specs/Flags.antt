@@ -1,5 +1,5 @@
 -- The options of `rl_scan`, and their values. Arguments are lists of bytes.
-use Rattle.std.specs.Prelude.{◌≡◌, ℕ, ◌==◌, Bool, cond, not, ◌||◌, List, ◌∷◌, ◌++◌, codes, ⊤, ◌<◌, ◌^◌}
+use Rattle.std.specs.Prelude.{◌≡◌, ℕ, ◌==◌, Bool, cond, not, ◌||◌, List, ◌∷◌, ◌++◌, codes, ◌<◌, ◌^◌}
 use Prim.Native.Char.{code}
 use Rattle.std.specs.List.{All, ends_with, list_any, starts_with}
 use Rattle.std.specs.Str.{bytes_eq}
@@ -14,8 +14,6 @@ use Rattle.rl_options.specs.declared.flags.Format.{Format as AnyFormat}
 use Rattle.rl_options.specs.declared.flags.Format.TheVariants as format
 use Rattle.rl_flaws.specs.declared.before.Edition.{Edition as AnyEdition}
 use Rattle.rl_flaws.specs.declared.before.Edition.TheVariants.{E2015, E2018, E2021, E2024}
-use Rattle.rl_options.specs.declared.flags.Operand.{Operand}
-use Rattle.rl_options.specs.declared.flags.Operand.TheVariants as takes
 use Rattle.rl_options.specs.declared.flags.When.{When}
 use Rattle.rl_options.specs.declared.flags.When.TheVariants.{Auto, Always, Never}
 use Rattle.rl_output.specs.Choices.{Names, words_of}
@@ -98,13 +96,6 @@ matches_nothing pattern =
 abbrev pub is_more_than_extension : List ℕ → Bool
 is_more_than_extension word =
     list_any (λ b. b == code ",") word || list_any (λ b. b == code "*") word || list_any (λ b. b == code "/") word
-
--- The value of the option is a number of lines of context.
-abbrev pub IsSide : Operand → Type 0
-IsSide takes.Around = ⊤
-IsSide takes.Before = ⊤
-IsSide takes.After = ⊤
-IsSide _ = ⊥
 
 -- The names of the kinds of literals. `Verbatim` is the kind of a literal that can't be parsed.
 abbrev pub kind_list : List ℕ

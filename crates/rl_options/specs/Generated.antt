@@ -6,7 +6,7 @@ use Rattle.rl_options.specs.declared.command.GeneratedText.TheVariants.{Man, Bas
 -- The manual page of `rl_scan`.
 unfoldable pub man_text : List ℕ
 man_text =
-    codes ".TH RL_SCAN 1\n.SH NAME\nrl_scan \\- prints the literals of Rust source files, or the errors in them\n.SH SYNOPSIS\nrl_scan [OPTIONS] [PATH..]\n.SH DESCRIPTION\nPrints the literals of Rust source files, or the errors in them.\n.PP\nA PATH is a file or a directory. In a directory, rl_scan reads the *.rs files, sorted by their paths. It skips hidden files and directories, and `target` beside a Cargo.toml, and doesn't follow symbolic links. `\\-` is standard input. Without a PATH and \\-\\-files\\-from, rl_scan reads standard input if that is a file, a pipe or a socket. Otherwise, or with \\-\\-files, it reads the current directory.\n.SH OPTIONS\n.SS Modes\nOne at most, except \\-\\-find with \\-\\-only.\n.TP\n.B \\-\\-bad\nPrint the literals that Rust rejects, and unclosed quotes and comments.\n.TP\n.B \\-\\-invisible\nPrint invisible and bidirectional characters, anywhere in a file.\n.TP\n.B \\-\\-only KIND,..\nPrint the literals of these kinds: Str ByteStr CStr Byte Char Int Float Bool Verbatim, in any case.\n.TP\n.B \\-e, \\-\\-find TEXT\nPrint the string, character and byte literals whose value contains TEXT; may be repeated.\n.TP\n.B \\-\\-fix\nRewrite files in a style, and print how many literals of each file changed; for standard input, print the rewritten source.\n.TP\n.B \\-\\-check\nPrint the changes that \\-\\-fix would make.\n.TP\n.B \\-\\-diff\nPrint these changes as a unified diff.\n.SS Options of these modes\n\\-\\-check and \\-\\-diff take those of \\-\\-fix.\n.TP\n.B \\-\\-any\\-suffix\nFor \\-\\-bad: accept any suffix, and numbers out of range, as macros do.\n.TP\n.B \\-\\-no\\-stray\nFor \\-\\-bad, \\-\\-only, \\-\\-find and without a mode: a stray character, at which no token begins, is an error.\n.TP\n.B \\-\\-edition YEAR\nFor \\-\\-bad and \\-\\-fix: the edition whose reserved prefixes are errors: 2015, 2018, 2021 (default) or 2024.\n.TP\n.B \\-\\-allow ID\nFor \\-\\-bad and \\-\\-invisible: print no findings with the id ID, which \\-\\-json prints; for \\-\\-invisible, ID may also be a character, such as U+200B; may be repeated.\n.TP\n.B \\-i, \\-\\-ignore\\-case\nFor \\-\\-find: ignore the case of ASCII letters.\n.TP\n.B \\-w, \\-\\-word\nFor \\-\\-find: match only whole words.\n.TP\n.B \\-\\-style FILE\nFor \\-\\-fix: rewrite by the rules in FILE; without it, drop needless escapes of quotes and needless hashes, and write 1e5 for 1E5.\n.TP\n.B \\-\\-rule RULE\nFor \\-\\-fix: rewrite by this rule of \\-\\-rules; RULE is NAME=VALUE, or NAME for NAME=true; may be repeated.\n.TP\n.B \\-\\-macros WHICH\nskip or all: with skip, the default, \\-\\-fix leaves literals in macro calls, macro_rules! and attributes unchanged, and \\-\\-bad doesn't check their suffixes and ranges.\n.SS Files\n.TP\n.B \\-\\-all\nAlso read hidden files and directories, and `target`.\n.TP\n.B \\-\\-extension EXT\nIn directories, read *.EXT instead of *.rs; may be repeated.\n.TP\n.B \\-\\-exclude GLOB\nIn directories, skip what GLOB matches, as in .gitignore, with *, ?, ** and / only; may be repeated.\n.TP\n.B \\-\\-files\\-from FILE\nAlso read the paths in FILE, which end with line ends, or with NUL; `\\-` is standard input; may be repeated.\n.TP\n.B \\-\\-files\nPrint the paths of the files that would be read, and read none.\n.SS Output\n.TP\n.B \\-\\-lines\nPrint positions as LINE:COLUMN, the default for files.\n.TP\n.B \\-\\-bytes\nPrint byte ranges LO..HI, the default for standard input.\n.TP\n.B \\-\\-text\nPrint literals as written.\n.TP\n.B \\-\\-json\nPrint one JSON object per finding.\n.TP\n.B \\-\\-format FORM\ntext; json, as \\-\\-json; or github, for annotations.\n.TP\n.B \\-C, \\-\\-context NUM\nShow the source line, and NUM lines before and after it.\n.TP\n.B \\-B, \\-\\-before\\-context NUM\nShow the source line, and NUM lines before it.\n.TP\n.B \\-A, \\-\\-after\\-context NUM\nShow the source line, and NUM lines after it.\n.TP\n.B \\-\\-color WHEN\nauto, always or never; auto means on a terminal, unless NO_COLOR is set and not empty, or TERM is dumb.\n.TP\n.B \\-c, \\-\\-count\nPrint the number of findings of each file that has some.\n.TP\n.B \\-l, \\-\\-files\\-with\\-matches\nPrint the path of each file that has findings.\n.TP\n.B \\-Z, \\-\\-null\nEnd the paths of \\-c, \\-l and \\-\\-files with NUL.\n.TP\n.B \\-q, \\-\\-quiet\nPrint no findings; errors, totals and the output of \\-\\-fix for standard input are still printed.\n.TP\n.B \\-\\-no\\-messages\nPrint no errors and no warnings of files; the exit status stays the same.\n.TP\n.B \\-\\-stats\nPrint totals at the end: files read, files with findings, findings, and files with an error; for \\-\\-fix, also how many literals each rule changes.\n.TP\n.B \\-\\-\nEvery argument that follows is a PATH.\n.TP\n.B \\-\\-rules\nPrint the rules of a style, with values and examples.\n.TP\n.B \\-\\-generate WHAT\nman, bash, zsh, fish, sarif\\-jq or problem\\-matcher: print the manual page, the completions for this shell, a jq program that makes SARIF of \\-\\-json, or a file with problem matchers for GitHub.\n.TP\n.B \\-h, \\-\\-help\nPrint this help.\n.TP\n.B \\-V, \\-\\-version\nPrint the version.\n.SH OUTPUT\n.nf\n  PATH:LINE:COLUMN: KIND VALUE SUFFIX\n  PATH:LINE:COLUMN: error: MESSAGE: PIECE\n  PATH:LINE:COLUMN: U+202E RIGHT\\-TO\\-LEFT OVERRIDE\n  PATH:LINE:COLUMN: OLD \\-> NEW [RULE, ..]\n  LO..HI KIND VALUE SUFFIX\n.fi\n.SH EXIT STATUS\n.nf\n  0  success\n  1  \\-\\-bad or \\-\\-invisible found something; \\-\\-find found nothing; \\-\\-check or\n     \\-\\-diff found a change\n  2  an error: invalid arguments, no file to read, or an error of a file: it\n     can't be read, it has an unclosed quote or comment (except with \\-\\-bad and\n     \\-\\-invisible), or \\-\\-fix, \\-\\-check or \\-\\-diff rejects it; the other files are\n     still read\n.fi\n.SH EXAMPLES\n.nf\n  rl_scan \\-\\-bad src\n  rl_scan \\-wie todo src tests\n  rl_scan \\-\\-check src\n  git ls\\-files \\-z '*.rs' | rl_scan \\-\\-invisible \\-\\-files\\-from \\-\n.fi\n"
+    codes ".TH RL_SCAN 1\n.SH NAME\nrl_scan \\- prints the literals of Rust source files, or the errors in them\n.SH SYNOPSIS\nrl_scan [OPTIONS] [PATH..]\n.SH DESCRIPTION\nPrints the literals of Rust source files, or the errors in them.\n.PP\nA PATH is a file or a directory. In a directory, rl_scan reads the *.rs files, sorted by their paths. It skips hidden files and directories, and `target` beside a Cargo.toml, and doesn't follow symbolic links. `\\-` is standard input. Without a PATH and \\-\\-files\\-from, rl_scan reads standard input if that is a file, a pipe or a socket. Otherwise, or with \\-\\-files, it reads the current directory.\n.SH OPTIONS\n.SS Modes\nOne at most, except \\-\\-only with \\-\\-find, \\-\\-fix, \\-\\-check or \\-\\-diff.\n.TP\n.B \\-\\-bad\nPrint the literals that Rust rejects, and unclosed quotes and comments.\n.TP\n.B \\-\\-invisible\nPrint invisible and bidirectional characters, anywhere in a file.\n.TP\n.B \\-\\-only KIND,..\nPrint the literals of these kinds: Str ByteStr CStr Byte Char Int Float Bool Verbatim, in any case.\n.TP\n.B \\-e, \\-\\-find TEXT\nPrint the string, character and byte literals whose value contains TEXT; may be repeated.\n.TP\n.B \\-\\-fix\nRewrite files in a style, and print how many literals of each file changed; for standard input, print the rewritten source.\n.TP\n.B \\-\\-check\nPrint the changes that \\-\\-fix would make.\n.TP\n.B \\-\\-diff\nPrint these changes as a unified diff.\n.SS Options of these modes\n\\-\\-check and \\-\\-diff take those of \\-\\-fix.\n.TP\n.B \\-\\-any\\-suffix\nFor \\-\\-bad: accept any suffix, and numbers out of range, as macros do.\n.TP\n.B \\-\\-no\\-stray\nFor \\-\\-bad, \\-\\-only, \\-\\-find and without a mode: a stray character, at which no token begins, is an error.\n.TP\n.B \\-\\-edition YEAR\nFor \\-\\-bad and \\-\\-fix: the edition whose reserved prefixes are errors: 2015, 2018, 2021 (default) or 2024.\n.TP\n.B \\-\\-allow ID\nFor \\-\\-bad and \\-\\-invisible: print no findings with the id ID, which \\-\\-json prints; for \\-\\-invisible, ID may also be a character, such as U+200B; may be repeated.\n.TP\n.B \\-i, \\-\\-ignore\\-case\nFor \\-\\-find: ignore the case of ASCII letters.\n.TP\n.B \\-w, \\-\\-word\nFor \\-\\-find: match only whole words.\n.TP\n.B \\-\\-style FILE\nFor \\-\\-fix: rewrite by the rules in FILE; without it, drop needless escapes of quotes and needless hashes, and write 1e5 for 1E5.\n.TP\n.B \\-\\-rule RULE\nFor \\-\\-fix: rewrite by this rule of \\-\\-rules; RULE is NAME=VALUE, or NAME for NAME=true; may be repeated.\n.TP\n.B \\-\\-macros WHICH\nskip or all: with skip, the default, \\-\\-fix leaves literals in macro calls, macro_rules! and attributes unchanged, and \\-\\-bad doesn't check their suffixes and ranges.\n.SS Files\n.TP\n.B \\-\\-all\nAlso read hidden files and directories, and `target`.\n.TP\n.B \\-\\-extension EXT\nIn directories, read *.EXT instead of *.rs; may be repeated.\n.TP\n.B \\-\\-exclude GLOB\nIn directories, skip what GLOB matches, as in .gitignore, with *, ?, ** and / only; may be repeated.\n.TP\n.B \\-\\-files\\-from FILE\nAlso read the paths in FILE, which end with line ends, or with NUL; `\\-` is standard input; may be repeated.\n.TP\n.B \\-\\-files\nPrint the paths of the files that would be read, and read none.\n.SS Output\n.TP\n.B \\-\\-lines\nPrint positions as LINE:COLUMN, the default for files.\n.TP\n.B \\-\\-bytes\nPrint byte ranges LO..HI, the default for standard input.\n.TP\n.B \\-\\-text\nPrint literals as written.\n.TP\n.B \\-\\-json\nPrint one JSON object per finding.\n.TP\n.B \\-\\-format FORM\ntext; json, as \\-\\-json; or github, for annotations.\n.TP\n.B \\-C, \\-\\-context NUM\nShow the source line, and NUM lines before and after it.\n.TP\n.B \\-B, \\-\\-before\\-context NUM\nShow the source line, and NUM lines before it.\n.TP\n.B \\-A, \\-\\-after\\-context NUM\nShow the source line, and NUM lines after it.\n.TP\n.B \\-\\-color WHEN\nauto, always or never; auto means on a terminal, unless NO_COLOR is set and not empty, or TERM is dumb.\n.TP\n.B \\-c, \\-\\-count\nPrint the number of findings of each file that has some.\n.TP\n.B \\-l, \\-\\-files\\-with\\-matches\nPrint the path of each file that has findings.\n.TP\n.B \\-Z, \\-\\-null\nEnd the paths of \\-c, \\-l and \\-\\-files with NUL.\n.TP\n.B \\-q, \\-\\-quiet\nPrint no findings; errors, totals and the output of \\-\\-fix for standard input are still printed.\n.TP\n.B \\-\\-no\\-messages\nPrint no errors and no warnings of files; the exit status stays the same.\n.TP\n.B \\-\\-stats\nPrint totals at the end: files read, files with findings, findings, and files with an error; for \\-\\-fix, also how many literals each rule changes.\n.TP\n.B \\-\\-\nEvery argument that follows is a PATH.\n.TP\n.B \\-\\-rules\nPrint the rules of a style, with values and examples.\n.TP\n.B \\-\\-generate WHAT\nman, bash, zsh, fish, sarif\\-jq or problem\\-matcher: print the manual page, the completions for this shell, a jq program that makes SARIF of \\-\\-json, or a file with problem matchers for GitHub.\n.TP\n.B \\-h, \\-\\-help\nPrint this help.\n.TP\n.B \\-V, \\-\\-version\nPrint the version.\n.SH OUTPUT\n.nf\n  PATH:LINE:COLUMN: KIND VALUE SUFFIX\n  PATH:LINE:COLUMN: error: MESSAGE: PIECE\n  PATH:LINE:COLUMN: U+202E RIGHT\\-TO\\-LEFT OVERRIDE\n  PATH:LINE:COLUMN: OLD \\-> NEW [RULE, ..]\n  LO..HI KIND VALUE SUFFIX\n.fi\n.SH EXIT STATUS\n.nf\n  0  success\n  1  \\-\\-bad or \\-\\-invisible found something; \\-\\-find found nothing; \\-\\-check or\n     \\-\\-diff found a change\n  2  an error: invalid arguments, no file to read, or an error of a file: it\n     can't be read, it has an unclosed quote or comment (except with \\-\\-bad and\n     \\-\\-invisible), or \\-\\-fix, \\-\\-check or \\-\\-diff rejects it; the other files are\n     still read\n.fi\n.SH EXAMPLES\n.nf\n  rl_scan \\-\\-bad src\n  rl_scan \\-wie todo src tests\n  rl_scan \\-\\-check src\n  git ls\\-files \\-z '*.rs' | rl_scan \\-\\-invisible \\-\\-files\\-from \\-\n.fi\n"
 
 -- The completions for bash.
 unfoldable pub bash_text : List ℕ

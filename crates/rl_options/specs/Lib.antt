@@ -1,5 +1,6 @@
 pub mod Reads
 pub mod Options
+pub mod HelpPage
 pub mod Hints
 pub mod Flags
 pub mod Wishes

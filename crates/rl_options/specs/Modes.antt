@@ -69,6 +69,11 @@ rewrites mode.Check = true
 rewrites mode.Diff = true
 rewrites _ = false
 
+-- No option selects a mode.
+abbrev pub is_unselected : Mode → Bool
+is_unselected mode.Unselected = true
+is_unselected _ = false
+
 -- The mode is `--bad`.
 abbrev pub is_bad_mode : Mode → Bool
 is_bad_mode mode.Bad = true

@@ -121,14 +121,34 @@ abbrev pub style_of : Option (Bor (List ℕ)) → Option (List ℕ)
 style_of None = None
 style_of (Some file) = Some file.now
 
+-- The values that options collect, and the paths to read.
+pub record Collected : Type 0 where
+  pub finds : List (List ℕ)
+  pub extensions : List (List ℕ)
+  pub excludes : List (List ℕ)
+  pub files_from : List (List ℕ)
+  pub settings : List (List ℕ)
+  pub allowed : List (List ℕ)
+  pub paths : List (List ℕ)
+
+abbrev pub none_collected : Collected
+none_collected = record {
+  finds = [];
+  extensions = [];
+  excludes = [];
+  files_from = [];
+  settings = [];
+  allowed = [];
+  paths = [];
+}
+
 -- The command, from the values in the program.
-abbrev pub wishes_of : Command → List (List ℕ) → List (List ℕ) → List (List ℕ) → List (List ℕ) → List (List ℕ)
-    → List (List ℕ) → List (List ℕ) → Wishes
-wishes_of command finds extensions excludes lists settings allowed paths = record {
+abbrev pub wishes_of : Command → Collected → Wishes
+wishes_of command values = record {
   action = command.action;
   wanted = wanted_of command.shown;
   searches = command.searches;
-  finds = finds;
+  finds = values.finds;
   ignores_case = command.matching.ignores_case;
   whole_words = command.matching.whole_words;
   places = command.places;
@@ -148,17 +168,26 @@ wishes_of command finds extensions excludes lists settings allowed paths = recor
   restyle = command.restyle;
   style = style_of command.style;
   sets_rules = command.sets_rules;
-  settings = settings;
+  settings = values.settings;
   macros = command.macros;
   allows = command.allows;
-  allowed = allowed;
-  extensions = extensions;
-  excludes = excludes;
-  files_from = lists;
-  paths = paths;
+  allowed = values.allowed;
+  extensions = values.extensions;
+  excludes = values.excludes;
+  files_from = values.files_from;
+  paths = values.paths;
+}
+
+abbrev pub collected_in : {A : Type 0} → ParsedArguments A → Collected
+collected_in asked = record {
+  finds = borrowed_texts asked.finds.items;
+  extensions = borrowed_texts asked.extensions.items;
+  excludes = borrowed_texts asked.excludes.items;
+  files_from = borrowed_texts asked.lists.items;
+  settings = borrowed_texts asked.settings.items;
+  allowed = borrowed_texts asked.allowed.items;
+  paths = string_texts asked.paths.items;
 }
 
 abbrev pub wishes_in : {A : Type 0} → ParsedArguments A → Wishes
-wishes_in asked = wishes_of asked.command (borrowed_texts asked.finds.items) (borrowed_texts asked.extensions.items)
-    (borrowed_texts asked.excludes.items) (borrowed_texts asked.lists.items) (borrowed_texts asked.settings.items) (borrowed_texts asked.allowed.items)
-    (string_texts asked.paths.items)
+wishes_in asked = wishes_of asked.command (collected_in asked)

@@ -16,7 +16,7 @@ use Rattle.rl_options.specs.declared.flags.Flag.{Flag}
 use Rattle.rl_options.specs.declared.flags.Flag.TheVariants.{Bad, Hidden, IgnoreCase, WholeWords, Text, Json, Bytes, Lines, NoStray, AnySuffix, AllDirectories, NoMessages, Count, FilesWithMatches, Nul, Quiet, Files, Stats, Fix, Check, Diff, Help, Version, Rules}
 use Rattle.rl_options.specs.declared.flags.Effect.{Effect}
 use Rattle.rl_options.specs.declared.flags.Effect.TheVariants.{Sets, Takes, EndsOptions}
-use Rattle.rl_options.specs.Options.{IsJoinedWord, IsLetter, IsMeant, IsOptionWord, effect_lettered, effect_named}
+use Rattle.rl_options.specs.Options.{Expects, IsJoinedWord, IsLetter, IsMeant, IsOptionWord, effect_lettered, effect_named}
 use Rattle.rl_options.specs.declared.flags.Format.{Format as AnyFormat}
 use Rattle.rl_flaws.specs.declared.before.Edition.{Edition as AnyEdition}
 use Rattle.rl_options.specs.declared.flags.Operand.{Operand}
@@ -25,9 +25,9 @@ use Rattle.rl_options.specs.declared.flags.Next.{Next}
 use Rattle.rl_options.specs.declared.flags.Next.TheVariants as next
 use Rattle.rl_options.specs.declared.flags.When.{When}
 use Rattle.rl_options.specs.declared.argument_error.ArgumentError.{ArgumentError}
-use Rattle.rl_options.specs.declared.argument_error.ArgumentError.TheVariants.{Memory, NotUtf8, UnknownOption, UnknownLetter, NoValue, UnknownKind, NoKinds, TwoChoices, NoText, EmptyText, BadAndFind, TextlessKinds, ObjectsOfPaths, StatsOfPaths, TwoRestylings, NoEffect, InputTwice, TwoStyles, NoStyle, NoRule, NoMacros, UnknownMacros, NoAllowed, UnknownAllowed, UnclosedAllowed, NoGenerated, UnknownGenerated, NoColor, UnknownColor, NoExtension, NoPattern, EmptyPattern, OtherPattern, UselessPattern, UnknownExtension, NoList, NoEdition, UnknownEdition, NoFormat, UnknownFormat, NoCount, UnknownCount}
+use Rattle.rl_options.specs.declared.argument_error.ArgumentError.TheVariants.{Memory, NotUtf8, UnknownOption, UnknownLetter, NoValue, MissingValue, UnknownValue, EmptyValue, TwoChoices, BadAndFind, TextlessKinds, ObjectsOfPaths, StatsOfPaths, TwoRestylings, NoEffect, InputTwice, TwoStyles, UnknownAllowed, UnclosedAllowed, OtherPattern, UselessPattern}
 use Rattle.rl_restyle.specs.Meant.{option_part}
-use Rattle.rl_options.specs.Flags.{AreKindWords, IsCountWord, IsSide, IsUnknownKind, color_word, colored_form, edition_word, format_word, formatted, generated_word, has_other_mark, is_more_than_extension, matches_nothing, is_path_word, macros_word, recolored}
+use Rattle.rl_options.specs.Flags.{AreKindWords, IsCountWord, IsUnknownKind, color_word, colored_form, edition_word, format_word, formatted, generated_word, has_other_mark, is_more_than_extension, matches_nothing, is_path_word, macros_word, recolored}
 use Rattle.rl_options.specs.Wishes.{AllWanted, BadWanted, HiddenWanted, OnlyWanted, Wishes, first_wishes}
 use Rattle.rl_options.specs.Clashes.{GoTogether, IsFirstClash}
 use Rattle.rl_options.specs.Allowed.{IsUnknownAllowed, first_unknown}
@@ -98,27 +98,6 @@ next_after EndsOptions = next.Path
 abbrev pub with_path : List ℕ → Wishes → Wishes
 with_path path w = record w { paths = w.paths ++ path ∷ [] }
 
-abbrev pub with_kinds : List ℕ → Wishes → Wishes
-with_kinds list w = record w { wanted = OnlyWanted list }
-
-abbrev pub with_text : List ℕ → Wishes → Wishes
-with_text text w = record w { searches = true; finds = w.finds ++ text ∷ [] }
-
-abbrev pub with_extension : List ℕ → Wishes → Wishes
-with_extension extension w = record w { extensions = w.extensions ++ extension ∷ [] }
-
-abbrev pub with_pattern : List ℕ → Wishes → Wishes
-with_pattern pattern w = record w { excludes = w.excludes ++ pattern ∷ [] }
-
-abbrev pub with_list : List ℕ → Wishes → Wishes
-with_list file w = record w { files_from = w.files_from ++ file ∷ [] }
-
-abbrev pub with_setting : List ℕ → Wishes → Wishes
-with_setting setting w = record w { sets_rules = true; settings = w.settings ++ setting ∷ [] }
-
-abbrev pub with_allowed : List ℕ → Wishes → Wishes
-with_allowed id w = record w { allows = true; allowed = w.allowed ++ id ∷ [] }
-
 -- The file extension without the dot at its start, if there is one.
 abbrev pub IsWithoutDot : List ℕ → List ℕ → Type 0
 IsWithoutDot text extension =
@@ -130,19 +109,31 @@ abbrev pub IsAdded : Effect → Wishes → Next → Wishes → Type 0
 IsAdded effect old then new =
     GoesWithOptions effect old × (then ≡ next_after effect) × (new ≡ with_effect effect old)
 
+-- The values of the option are collected, so the option may be repeated.
+abbrev pub is_collected : Operand → Bool
+is_collected takes.Text = true
+is_collected takes.Extension = true
+is_collected takes.Pattern = true
+is_collected takes.List = true
+is_collected takes.Rule = true
+is_collected takes.Allowed = true
+is_collected _ = false
+
 -- `new` is the command `old` with the value of an option added.
 abbrev pub IsTaken : Bool → Operand → Wishes → List ℕ → Wishes → Type 0
-IsTaken has_colors takes.Kinds old list new = AreKindWords list × (new ≡ with_kinds list old)
-IsTaken has_colors takes.Text old text new = (text ≢ []) × (new ≡ with_text text old)
+IsTaken has_colors takes.Kinds old list new = AreKindWords list × (new ≡ record old { wanted = OnlyWanted list })
+IsTaken has_colors takes.Text old text new =
+    (text ≢ []) × (new ≡ record old { searches = true; finds = old.finds ++ text ∷ [] })
 IsTaken has_colors takes.Color old word new =
     (when : When) × (word ≡ color_word when)
     × (new ≡ record old { form = recolored old.form (colored_form has_colors when) })
 IsTaken has_colors takes.Extension old text new =
     (extension : List ℕ) × (is_more_than_extension text ≡ false) × IsWithoutDot text extension
-    × (new ≡ with_extension extension old)
+    × (new ≡ record old { extensions = old.extensions ++ extension ∷ [] })
 IsTaken has_colors takes.Pattern old text new =
-    (text ≢ []) × (has_other_mark text ≡ false) × (matches_nothing text ≡ false) × (new ≡ with_pattern text old)
-IsTaken has_colors takes.List old text new = new ≡ with_list text old
+    (text ≢ []) × (has_other_mark text ≡ false) × (matches_nothing text ≡ false)
+    × (new ≡ record old { excludes = old.excludes ++ text ∷ [] })
+IsTaken has_colors takes.List old file new = new ≡ record old { files_from = old.files_from ++ file ∷ [] }
 IsTaken has_colors takes.Edition old word new =
     (edition : AnyEdition) × (word ≡ edition_word edition) × (new ≡ record old { edition = Some edition })
 IsTaken has_colors takes.Format old word new =
@@ -155,10 +146,11 @@ IsTaken has_colors takes.Before old word new =
 IsTaken has_colors takes.After old word new =
     (count : ℕ) × IsCountWord word count × (new ≡ record old { after = Some count })
 IsTaken has_colors takes.Style old file new = new ≡ record old { style = Some file }
-IsTaken has_colors takes.Rule old setting new = new ≡ with_setting setting old
+IsTaken has_colors takes.Rule old setting new =
+    new ≡ record old { sets_rules = true; settings = old.settings ++ setting ∷ [] }
 IsTaken has_colors takes.Macros old word new =
     (macros : AnyMacros) × (word ≡ macros_word macros) × (new ≡ record old { macros = Some macros })
-IsTaken has_colors takes.Allowed old id new = new ≡ with_allowed id old
+IsTaken has_colors takes.Allowed old id new = new ≡ record old { allows = true; allowed = old.allowed ++ id ∷ [] }
 IsTaken has_colors takes.Generated old word new =
     (which : AnyGenerated) × (word ≡ generated_word which) × (new ≡ record old { action = action.Generate which })
 
@@ -235,13 +227,11 @@ word_message (UnknownLetter letter word (Some meant)) =
     codes "unknown option '" ++ (string_bytes letter ++ (codes "' in '" ++ (string_bytes word
     ++ (codes "': did you mean '" ++ (meant.now ++ codes "'?")))))
 word_message (NoValue option) = string_bytes option ++ codes " takes no value"
-word_message (UnknownKind word) =
-    codes "unknown kind '" ++ (string_bytes word
-    ++ codes "': expected Str, ByteStr, CStr, Byte, Char, Int, Float, Bool or Verbatim")
-word_message NoKinds = codes "--only needs a value, such as --only Str,ByteStr"
+word_message (MissingValue option expected) = option.now ++ (codes " needs a value: " ++ expected.now)
+word_message (UnknownValue part option expected) =
+    codes "unknown value '" ++ (string_bytes part ++ (codes "' of " ++ (option.now ++ (codes ": expected " ++ expected.now))))
+word_message (EmptyValue option) = codes "the value of " ++ (option.now ++ codes " is empty")
 word_message TwoChoices = codes "--bad, --invisible and --only can't be combined or repeated"
-word_message NoText = codes "-e, --find needs a value, such as --find TODO"
-word_message EmptyText = codes "the text of -e, --find is empty"
 word_message BadAndFind = codes "--bad and --invisible can't be used with -e, --find"
 word_message TextlessKinds =
     codes "-e, --find searches only Str, ByteStr, CStr, Byte and Char, and --only has none of these kinds"
@@ -253,44 +243,17 @@ word_message (NoEffect option mode hint) =
     option.now ++ (codes " has no effect " ++ (mode.now ++ (codes ": " ++ hint.now)))
 word_message InputTwice = codes "--style - reads standard input, so pass a PATH or --files-from FILE other than -"
 word_message TwoStyles = codes "--rule can't be used with --style"
-word_message NoStyle = codes "--style needs a value, such as --style style.txt"
-word_message NoRule = codes "--rule needs a value, such as --rule fewest_hashes: rl_scan --rules lists all rules"
-word_message NoMacros = codes "--macros needs a value: skip or all"
-word_message (UnknownMacros word) = codes "unknown value '" ++ (string_bytes word ++ codes "' of --macros: expected skip or all")
-word_message NoAllowed = codes "--allow needs a value, such as --allow unknown-suffix"
 word_message (UnknownAllowed id None hint) =
     codes "unknown id '" ++ (string_bytes id ++ (codes "' of --allow: " ++ hint.now))
 word_message (UnknownAllowed id (Some meant) hint) =
     codes "unknown id '" ++ (string_bytes id ++ (codes "' of --allow: did you mean '" ++ (meant.now ++ codes "'?")))
 word_message (UnclosedAllowed id) =
     codes "--allow can't leave out " ++ (string_bytes id ++ codes ": the rest of the file isn't read")
-word_message NoGenerated = codes "--generate needs a value: man, bash, zsh, fish, sarif-jq or problem-matcher"
-word_message (UnknownGenerated word) =
-    codes "unknown value '" ++ (string_bytes word
-    ++ codes "' of --generate: expected man, bash, zsh, fish, sarif-jq or problem-matcher")
-word_message NoColor = codes "--color needs a value: auto, always or never"
-word_message (UnknownColor word) =
-    codes "unknown value '" ++ (string_bytes word ++ codes "' of --color: expected auto, always or never")
-word_message NoExtension = codes "--extension needs a value, such as --extension rs.in"
-word_message NoPattern = codes "--exclude needs a value, such as --exclude tests/ui"
-word_message EmptyPattern = codes "the pattern of --exclude is empty"
 word_message (OtherPattern word) =
     codes "invalid pattern '" ++ (string_bytes word
     ++ codes "': --exclude supports *, ?, ** and /, but not [, \\ or ! at the start")
 word_message (UselessPattern word) =
     codes "the pattern '" ++ (string_bytes word ++ codes "' of --exclude matches nothing: it is relative to a PATH, such as src or /src")
-word_message (UnknownExtension word) =
-    codes "invalid extension '" ++ (string_bytes word ++ codes "': expected one extension, such as rs.in")
-word_message NoList = codes "--files-from needs a value, such as --files-from list"
-word_message NoEdition = codes "--edition needs a value: 2015, 2018, 2021 or 2024"
-word_message (UnknownEdition word) =
-    codes "unknown edition '" ++ (string_bytes word ++ codes "': expected 2015, 2018, 2021 or 2024")
-word_message NoFormat = codes "--format needs a value: text, json or github"
-word_message (UnknownFormat word) =
-    codes "unknown format '" ++ (string_bytes word ++ codes "': expected text, json or github")
-word_message NoCount = codes "-C, -B and -A need a number of lines, such as --context 2"
-word_message (UnknownCount word) =
-    codes "invalid number of lines '" ++ (string_bytes word ++ codes "': expected a number, such as 2")
 
 -- The error of an option that contradicts the earlier options of a command.
 abbrev pub IsRejectedEffect : {A : Type 0} → Effect → Wishes → ArgumentError A → Type 0
@@ -299,39 +262,43 @@ IsRejectedEffect effect old BadAndFind = GoesWithFind effect old → ⊥
 IsRejectedEffect effect old TwoRestylings = RestylesOnce effect old → ⊥
 IsRejectedEffect effect old _ = ⊥
 
+-- `part` is the unknown part of a value: the first unknown word of a list of kinds, or else the whole value.
+abbrev pub IsUnknownValue : Operand → List ℕ → List ℕ → Type 0
+IsUnknownValue takes.Kinds list part = IsUnknownKind list part
+IsUnknownValue takes.Color text part = (part ≡ text) × ((when : When) → text ≢ color_word when)
+IsUnknownValue takes.Extension text part = (part ≡ text) × (is_more_than_extension text ≡ true)
+IsUnknownValue takes.Edition text part = (part ≡ text) × ((edition : AnyEdition) → text ≢ edition_word edition)
+IsUnknownValue takes.Format text part = (part ≡ text) × ((format : AnyFormat) → text ≢ format_word format)
+IsUnknownValue takes.Around text part = (part ≡ text) × ((count : ℕ) → IsCountWord text count → ⊥)
+IsUnknownValue takes.Before text part = (part ≡ text) × ((count : ℕ) → IsCountWord text count → ⊥)
+IsUnknownValue takes.After text part = (part ≡ text) × ((count : ℕ) → IsCountWord text count → ⊥)
+IsUnknownValue takes.Macros text part = (part ≡ text) × ((macros : AnyMacros) → text ≢ macros_word macros)
+IsUnknownValue takes.Generated text part = (part ≡ text) × ((which : AnyGenerated) → text ≢ generated_word which)
+IsUnknownValue _ text part = ⊥
+
+-- The error of the unknown part of a value. It has the part, the option's name, and the values that the option expects.
+abbrev pub NamesPart : {A : Type 0} → Operand → List ℕ → ArgumentError A → Type 0
+NamesPart operand part (UnknownValue said name expected) =
+    (chars (string_bytes said) ≡ visible (chars part)) × Expects operand name.now expected.now
+NamesPart operand part _ = ⊥
+
+-- The option has a text or a pattern as its value, which can't be empty.
+abbrev pub HasText : Operand → Type 0
+HasText takes.Text = ⊤
+HasText takes.Pattern = ⊤
+HasText _ = ⊥
+
 -- The error of an invalid value of an option, or a failed allocation.
 abbrev pub IsRejectedText : {A : Type 0} → Operand → List ℕ → ArgumentError A → Type 0
 IsRejectedText operand text Memory = ⊤
-IsRejectedText operand text (UnknownKind said) =
-    (operand ≡ takes.Kinds)
-    × ((word : List ℕ) × IsUnknownKind text word × (chars (string_bytes said) ≡ visible (chars word)))
-IsRejectedText operand text EmptyText = (operand ≡ takes.Text) × (text ≡ [])
-IsRejectedText operand text EmptyPattern = (operand ≡ takes.Pattern) × (text ≡ [])
+IsRejectedText operand text (UnknownValue said name expected) =
+    (part : List ℕ) × IsUnknownValue operand text part × NamesPart operand part (UnknownValue said name expected)
+IsRejectedText operand text (EmptyValue name) =
+    HasText operand × (text ≡ []) × ((expected : List ℕ) × Expects operand name.now expected)
 IsRejectedText operand text (OtherPattern said) =
     (operand ≡ takes.Pattern) × (has_other_mark text ≡ true) × (chars (string_bytes said) ≡ visible (chars text))
 IsRejectedText operand text (UselessPattern said) =
     (operand ≡ takes.Pattern) × (matches_nothing text ≡ true) × (chars (string_bytes said) ≡ visible (chars text))
-IsRejectedText operand text (UnknownExtension said) =
-    (operand ≡ takes.Extension) × (is_more_than_extension text ≡ true)
-    × (chars (string_bytes said) ≡ visible (chars text))
-IsRejectedText operand text (UnknownColor said) =
-    (operand ≡ takes.Color) × ((when : When) → text ≢ color_word when)
-    × (chars (string_bytes said) ≡ visible (chars text))
-IsRejectedText operand text (UnknownEdition said) =
-    (operand ≡ takes.Edition) × ((edition : AnyEdition) → text ≢ edition_word edition)
-    × (chars (string_bytes said) ≡ visible (chars text))
-IsRejectedText operand text (UnknownFormat said) =
-    (operand ≡ takes.Format) × ((format : AnyFormat) → text ≢ format_word format)
-    × (chars (string_bytes said) ≡ visible (chars text))
-IsRejectedText operand text (UnknownCount said) =
-    IsSide operand × ((count : ℕ) → IsCountWord text count → ⊥)
-    × (chars (string_bytes said) ≡ visible (chars text))
-IsRejectedText operand text (UnknownMacros said) =
-    (operand ≡ takes.Macros) × ((macros : AnyMacros) → text ≢ macros_word macros)
-    × (chars (string_bytes said) ≡ visible (chars text))
-IsRejectedText operand text (UnknownGenerated said) =
-    (operand ≡ takes.Generated) × ((which : AnyGenerated) → text ≢ generated_word which)
-    × (chars (string_bytes said) ≡ visible (chars text))
 IsRejectedText operand text _ = ⊥
 
 -- The error of an option with its value: the option contradicts earlier options, or the value is invalid.
@@ -411,24 +378,11 @@ IsNextError has_colors first old word error =
     ⊎ IsUnreadableWord first word error
     ⊎ (IsReadable first word × IsRejectedWord has_colors first old word error)
 
--- The error of an option that is the last argument, and whose value is missing.
+-- The error of an option that is the last argument, and whose value is missing. It has the option's name, and the values that the
+-- option expects.
 abbrev pub IsMissing : {A : Type 0} → Operand → ArgumentError A → Type 0
-IsMissing takes.Kinds error = error ≡ NoKinds
-IsMissing takes.Text error = error ≡ NoText
-IsMissing takes.Color error = error ≡ NoColor
-IsMissing takes.Extension error = error ≡ NoExtension
-IsMissing takes.Pattern error = error ≡ NoPattern
-IsMissing takes.List error = error ≡ NoList
-IsMissing takes.Edition error = error ≡ NoEdition
-IsMissing takes.Format error = error ≡ NoFormat
-IsMissing takes.Around error = error ≡ NoCount
-IsMissing takes.Before error = error ≡ NoCount
-IsMissing takes.After error = error ≡ NoCount
-IsMissing takes.Style error = error ≡ NoStyle
-IsMissing takes.Rule error = error ≡ NoRule
-IsMissing takes.Macros error = error ≡ NoMacros
-IsMissing takes.Allowed error = error ≡ NoAllowed
-IsMissing takes.Generated error = error ≡ NoGenerated
+IsMissing operand (MissingValue name expected) = Expects operand name.now expected.now
+IsMissing operand _ = ⊥
 
 -- The error of all arguments together: options contradict each other, or else `--allow` has a value without an effect in the mode of
 -- the command.

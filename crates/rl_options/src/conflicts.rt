@@ -2,7 +2,7 @@
 
 ghost use Rattle.std.specs.Prelude.{◌≡◌, ◌↔◌, ℕ, List, [], None, string_bytes, IfNone, IfSome, IsTrue};
 ghost use Rattle.std.specs.List.{list_any};
-ghost use Rattle.rl_options.specs.Wishes.{style_of, wanted_of, wishes_in, wishes_of, lists_files as lists};
+ghost use Rattle.rl_options.specs.Wishes.{none_collected, style_of, wanted_of, wishes_in, wishes_of, lists_files as only_lists};
 ghost use Rattle.rl_options.specs.Clashes.{GoTogether, HasTextKind, has_two_styles as two_styles, IsFirstClash, IsFirstOf, IsWithoutEffect, is_input_among, is_input_name as names_input, is_input_read_twice, is_input_style, MayHold, PrintTogether, asks_context as asks, prints_no_objects as no_objects, sums_lines as sums, printing_clashes};
 ghost use Rattle.rl_options.specs.Modes.{option_without_effect};
 
@@ -36,7 +36,7 @@ fn may_hold(shown: Shown<'_>) -> bool
 
 /// Returns `true` if the command only lists the files that would be read.
 pub fn lists_files(action: Action) -> bool
-    ensures { result ≡ lists action }
+    ensures { result ≡ only_lists action }
 {
     matches!(action, Action::Files)
 }
@@ -63,12 +63,11 @@ fn prints_no_objects(command: Command<'_>) -> bool
 }
 
 /// Returns the first error of options that contradict the requested output, or `None`.
-fn printing_clash<A: Allocator>(command: Command<'_>) -> Option<ArgumentError<A>>
-    ensures some { IfSome result (λ error. (finds extensions excludes lists settings allowed paths : List (List ℕ))
-        → IsFirstOf (wishes_of command.entry finds extensions excludes lists settings allowed paths) printing_clashes error) }
-    ensures none { IfNone result ((finds extensions excludes lists settings allowed paths : List (List ℕ))
-        → PrintTogether (wishes_of command.entry finds extensions excludes lists settings allowed paths)) }
+fn printing_clash<A: Allocator>(asked: &ParsedArguments<'_, A>) -> Option<ArgumentError<A>>
+    ensures some { IfSome result (IsFirstOf (wishes_in asked.now) printing_clashes) }
+    ensures none { IfNone result (PrintTogether (wishes_in asked.now)) }
 {
+    let command = asked.command;
     if command.searches && !may_hold(command.shown) {
         return Some(ArgumentError::TextlessKinds);
     }
@@ -82,19 +81,13 @@ fn printing_clash<A: Allocator>(command: Command<'_>) -> Option<ArgumentError<A>
 }
 
 /// Returns the error of the first option that has no effect in the command's mode, or `None`.
-fn mode_clash<A: Allocator>(command: Command<'_>) -> Option<ArgumentError<A>>
-    ensures some { IfSome result (λ error. (finds extensions excludes lists settings allowed paths : List (List ℕ))
-        → IsWithoutEffect (wishes_of command.entry finds extensions excludes lists settings allowed paths) error) }
-    ensures none { IfNone result ((finds extensions excludes lists settings allowed paths : List (List ℕ))
-        → option_without_effect (wishes_of command.entry finds extensions excludes lists settings allowed paths) ≡ None) }
+fn mode_clash<A: Allocator>(asked: &ParsedArguments<'_, A>) -> Option<ArgumentError<A>>
+    ensures some { IfSome result (IsWithoutEffect (wishes_in asked.now)) }
+    ensures none { IfNone result (option_without_effect (wishes_in asked.now) ≡ None) }
 {
-    match without_effect(command) {
-        Some((name, modes)) => {
-            let mode = mode_words(mode_of(command));
-            Some(ArgumentError::NoEffect(name, mode, modes_hint(modes)))
-        }
-        None => None,
-    }
+    let (name, modes) = without_effect(asked.command)?;
+    let mode = mode_words(mode_of(asked.command));
+    Some(ArgumentError::NoEffect(name, mode, modes_hint(modes)))
 }
 
 /// Whether a path is `-`, which is standard input.
@@ -145,7 +138,7 @@ fn reads_input_twice<A: Allocator>(asked: &ParsedArguments<'_, A>) -> bool
 
 /// Whether the command has both `--rule` and `--style`.
 fn has_two_styles(command: Command<'_>) -> bool
-    ensures { result ≡ two_styles (wishes_of command.entry [] [] [] [] [] [] []) }
+    ensures { result ≡ two_styles (wishes_of command.entry none_collected) }
 {
     command.sets_rules && command.style.is_some()
 }
@@ -155,10 +148,10 @@ pub(crate) fn clash_of<A: Allocator>(asked: &ParsedArguments<'_, A>) -> Option<A
     ensures some { IfSome result (IsFirstClash (wishes_in asked.now)) }
     ensures none { IfNone result (GoTogether (wishes_in asked.now)) }
 {
-    if let Some(error) = printing_clash(asked.command) {
+    if let Some(error) = printing_clash(asked) {
         return Some(error);
     }
-    if let Some(error) = mode_clash(asked.command) {
+    if let Some(error) = mode_clash(asked) {
         return Some(error);
     }
     if reads_input_twice(asked) {

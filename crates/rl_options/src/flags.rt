@@ -1,6 +1,6 @@
 //! The options of the program `rl_scan`, and their values.
 
-ghost use Rattle.std.specs.Prelude.{◌≡◌, ◌≢◌, ◌++◌, ℕ, List, IfOk, IfErr, IfSome, IfNone, MatchBool};
+ghost use Rattle.std.specs.Prelude.{◌≡◌, ◌≢◌, ◌++◌, ℕ, List, IfSome, IfNone};
 ghost use Rattle.rl_restyle.specs.declared.edit.Macros.{Macros as AnyMacros};
 ghost use Rattle.rl_options.specs.declared.command.GeneratedText.{GeneratedText as AnyGenerated};
 ghost use Rattle.rl_options.specs.declared.flags.Effect.TheVariants as effects;
@@ -9,8 +9,8 @@ ghost use Rattle.rl_flaws.specs.declared.before.Edition.{Edition as AnyEdition};
 ghost use Rattle.rl_options.specs.declared.flags.Operand.{Operand};
 ghost use Rattle.rl_options.specs.declared.flags.When.{When};
 ghost use Rattle.rl_options.specs.Flags.{IsCountWord, color_word, macros_word, colored_form, recolored as with_colors, edition_word, format_word, formatted, generated_word, has_other_mark as other_mark, is_more_than_extension, matches_nothing as is_useless};
-ghost use Rattle.rl_options.specs.Wishes.{wishes_of};
-ghost use Rattle.rl_options.specs.Words.{IsAllowed, GoesWithFind, GoesWithOptions, RestylesOnce, IsRejectedEffect, with_effect as affected, with_flag as flagged, next_after as follows};
+ghost use Rattle.rl_options.specs.Wishes.{Collected, wishes_of};
+ghost use Rattle.rl_options.specs.Words.{GoesWithOptions, IsRejectedEffect, with_flag as flagged};
 
 use crate::argument_error::ArgumentError;
 use crate::command::{Action, Command, GeneratedText, Macros, Output, PlaceForm, Restyling};
@@ -48,7 +48,7 @@ pub(crate) enum Flag {
 }
 
 /// The kind of value that an option has. The value is the next argument, or is in the option's own argument after `=`.
-#[derive(Clone, Copy)]
+#[derive(Clone, Copy, PartialEq, Eq)]
 pub(crate) enum Operand {
     /// A list of kinds of literals.
     Kinds,
@@ -135,24 +135,9 @@ pub(crate) fn after_front<'w>(front: &str, word: &'w str) -> Option<&'w str>
     word.strip_prefix(front)
 }
 
-/// Whether an option may be added to the command: `--bad`, `--invisible` and `--only` only if the command has none of them.
-fn chooses_once(command: Command<'_>, effect: Effect) -> bool
-    ensures { MatchBool result
-        ((finds extensions excludes lists settings allowed paths : List (List ℕ)) → IsAllowed effect (wishes_of command.entry finds extensions excludes lists settings allowed paths))
-        ((finds extensions excludes lists settings allowed paths : List (List ℕ)) → IsAllowed effect (wishes_of command.entry finds extensions excludes lists settings allowed paths) → ⊥) }
-{
-    match effect {
-        Effect::Sets(Flag::Bad | Flag::Hidden) | Effect::Takes(Operand::Kinds) => {
-            matches!(command.shown, Shown::All)
-        }
-        _ => true,
-    }
-}
-
 /// Adds the option `flag` to the command.
-fn set_flag(command: &mut Command<'_>, flag: Flag)
-    ensures { (finds extensions excludes lists settings allowed paths : List (List ℕ))
-        → wishes_of command.new finds extensions excludes lists settings allowed paths ≡ flagged flag (wishes_of command.old finds extensions excludes lists settings allowed paths) }
+pub(crate) fn set_flag(command: &mut Command<'_>, flag: Flag)
+    ensures { (values : Collected) → wishes_of command.new values ≡ flagged flag (wishes_of command.old values) }
 {
     match flag {
         Flag::Bad => command.shown = Shown::Bad,
@@ -182,80 +167,31 @@ fn set_flag(command: &mut Command<'_>, flag: Flag)
     }
 }
 
-/// Adds an option to the command. The value of an option is added by another function.
-fn set_effect(command: &mut Command<'_>, effect: Effect)
-    ensures { (finds extensions excludes lists settings allowed paths : List (List ℕ))
-        → wishes_of command.new finds extensions excludes lists settings allowed paths ≡ affected effect (wishes_of command.old finds extensions excludes lists settings allowed paths) }
-{
-    match effect {
-        Effect::Sets(flag) => set_flag(command, flag),
-        Effect::Takes(_) | Effect::EndsOptions => {}
-    }
-}
-
-/// Whether an option may be added to the command: `--bad` and `--invisible` can't be combined with `--find`.
-fn goes_with_find(command: Command<'_>, effect: Effect) -> bool
-    ensures { MatchBool result
-        ((finds extensions excludes lists settings allowed paths : List (List ℕ)) → GoesWithFind effect (wishes_of command.entry finds extensions excludes lists settings allowed paths))
-        ((finds extensions excludes lists settings allowed paths : List (List ℕ)) → GoesWithFind effect (wishes_of command.entry finds extensions excludes lists settings allowed paths) → ⊥) }
-{
-    match (effect, command.shown) {
-        (Effect::Sets(Flag::Bad | Flag::Hidden), _) => !command.searches,
-        (Effect::Takes(Operand::Text), Shown::Bad | Shown::Hidden) => false,
-        _ => true,
-    }
-}
-
-/// Whether an option may be added to the command: `--fix`, `--check` and `--diff` only if the command has none of them.
-fn restyles_once(command: Command<'_>, effect: Effect) -> bool
-    ensures { MatchBool result
-        ((finds extensions excludes lists settings allowed paths : List (List ℕ)) → RestylesOnce effect (wishes_of command.entry finds extensions excludes lists settings allowed paths))
-        ((finds extensions excludes lists settings allowed paths : List (List ℕ)) → RestylesOnce effect (wishes_of command.entry finds extensions excludes lists settings allowed paths) → ⊥) }
-{
-    match effect {
-        Effect::Sets(Flag::Fix | Flag::Check | Flag::Diff) => command.restyle.is_none(),
-        _ => true,
-    }
-}
-
-/// Returns the command with an option added.
-///
-/// # Errors
-///
-/// Returns `TwoChoices`, `BadAndFind` or `TwoRestylings` if the option contradicts the command.
-pub(crate) fn add_option<A: Allocator>(
+/// Returns the error of an option that contradicts the earlier options of the command, or `None`.
+pub(crate) fn contradiction<A: Allocator>(
     command: Command<'_>,
     effect: Effect,
-) -> Result<Command<'_>, ArgumentError<A>>
-    ensures allowed { IfOk result (λ next. (finds extensions excludes lists settings allowed paths : List (List ℕ))
-        → GoesWithOptions effect (wishes_of command.entry finds extensions excludes lists settings allowed paths)) }
-    ensures wishes { IfOk result (λ next. (finds extensions excludes lists settings allowed paths : List (List ℕ))
-        → wishes_of next finds extensions excludes lists settings allowed paths ≡ affected effect (wishes_of command.entry finds extensions excludes lists settings allowed paths)) }
-    ensures rejected { IfErr result (λ error. (finds extensions excludes lists settings allowed paths : List (List ℕ))
-        → IsRejectedEffect effect (wishes_of command.entry finds extensions excludes lists settings allowed paths) error) }
+) -> Option<ArgumentError<A>>
+    ensures some { IfSome result (λ error. (values : Collected) → IsRejectedEffect effect (wishes_of command.entry values) error) }
+    ensures none { IfNone result ((values : Collected) → GoesWithOptions effect (wishes_of command.entry values)) }
 {
-    if !chooses_once(command, effect) {
-        return Err(ArgumentError::TwoChoices);
-    }
-    if !goes_with_find(command, effect) {
-        return Err(ArgumentError::BadAndFind);
-    }
-    if !restyles_once(command, effect) {
-        return Err(ArgumentError::TwoRestylings);
-    }
-    let mut next = command;
-    set_effect(&mut next, effect);
-    Ok(next)
-}
-
-/// Returns what the argument after an option may be.
-pub(crate) fn next_after(effect: Effect) -> Next
-    ensures { result ≡ follows effect }
-{
-    match effect {
-        Effect::Sets(_) => Next::Any,
-        Effect::Takes(operand) => Next::Operand(operand),
-        Effect::EndsOptions => Next::Path,
+    match (effect, command.shown) {
+        (Effect::Sets(Flag::Bad | Flag::Hidden), Shown::All) if command.searches => {
+            Some(ArgumentError::BadAndFind)
+        }
+        (Effect::Sets(Flag::Bad | Flag::Hidden) | Effect::Takes(Operand::Kinds), Shown::All) => {
+            None
+        }
+        (Effect::Sets(Flag::Bad | Flag::Hidden) | Effect::Takes(Operand::Kinds), _) => {
+            Some(ArgumentError::TwoChoices)
+        }
+        (Effect::Takes(Operand::Text), Shown::Bad | Shown::Hidden) => {
+            Some(ArgumentError::BadAndFind)
+        }
+        (Effect::Sets(Flag::Fix | Flag::Check | Flag::Diff), _) if command.restyle.is_some() => {
+            Some(ArgumentError::TwoRestylings)
+        }
+        _ => None,
     }
 }
 

@@ -17,7 +17,7 @@ Prints the literals of Rust source files, or the errors in them.
 A PATH is a file or a directory. In a directory, rl_scan reads the *.rs files, sorted by their paths. It skips hidden files and directories, and `target` beside a Cargo.toml, and doesn't follow symbolic links. `\-` is standard input. Without a PATH and \-\-files\-from, rl_scan reads standard input if that is a file, a pipe or a socket. Otherwise, or with \-\-files, it reads the current directory.
 .SH OPTIONS
 .SS Modes
-One at most, except \-\-find with \-\-only.
+One at most, except \-\-only with \-\-find, \-\-fix, \-\-check or \-\-diff.
 .TP
 .B \-\-bad
 Print the literals that Rust rejects, and unclosed quotes and comments.

@@ -1,8 +1,10 @@
 //! Suggests what a path that doesn't exist was likely meant to be: an option, or a text to search for.
 
 ghost use Rattle.std.specs.Prelude.{◌≡◌, IfOk, string_bytes};
-ghost use Rattle.rl_options.specs.Hints.{is_bare_option as bare_option, may_be_text as like_text, path_hint as hint_for};
+ghost use Rattle.rl_options.specs.Hints.{is_bare_option as bare_option, may_be_text as like_text, may_lack_find as lacks_find, path_hint as hint_for};
 
+use crate::command::Command;
+use crate::modes::{Mode, mode_of};
 use crate::table::effect_of;
 use std::alloc::{AllocError, Allocator};
 
@@ -26,18 +28,30 @@ fn may_be_text(path: &str) -> bool
     !bytes.is_empty() && !bytes.contains(&b'/') && !bytes.contains(&b'.')
 }
 
-/// Returns the hint that follows the error of a path that doesn't exist. For most paths it is empty.
+/// Returns `true` if no option of the command selects a mode, and no file lists paths. So a path may be a text to search for.
+pub fn may_lack_find(command: Command<'_>) -> bool
+    ensures { result ≡ lacks_find command.entry }
+{
+    matches!(mode_of(command), Mode::Unselected) && command.files_from.is_empty()
+}
+
+/// Returns the hint that follows the error of a path that doesn't exist. For most paths it is empty. `lacks_find` is true if the
+/// path may be a text to search for.
 ///
 /// # Errors
 ///
 /// Returns an error if an allocation fails.
-pub fn path_hint<A: Allocator + Copy>(alloc: A, path: &str) -> Result<String<A>, AllocError>
-    ensures { IfOk result (λ hint. string_bytes hint ≡ hint_for path.now) }
+pub fn path_hint<A: Allocator + Copy>(
+    alloc: A,
+    lacks_find: bool,
+    path: &str,
+) -> Result<String<A>, AllocError>
+    ensures { IfOk result (λ hint. string_bytes hint ≡ hint_for lacks_find path.now) }
 {
     if is_bare_option(alloc, path)? {
         return format!(in alloc; ": did you mean --{path}?");
     }
-    if may_be_text(path) {
+    if lacks_find && may_be_text(path) {
         return String::from_str(alloc, ": to search for a text, use --find TEXT");
     }
     Ok(String::new(alloc))

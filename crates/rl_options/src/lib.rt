@@ -22,6 +22,6 @@ pub use crate::command::{
 };
 pub use crate::conflicts::{asks_context, lists_files};
 pub use crate::generated::generated_text;
-pub use crate::help::{HELP, VERSION, rules_page};
-pub use crate::hints::path_hint;
+pub use crate::help::{VERSION, help_page, rules_page};
+pub use crate::hints::{may_lack_find, path_hint};
 pub use crate::rules::{LineError, RulesError, read_rules_file, style_of_settings};

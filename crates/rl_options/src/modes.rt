@@ -1,8 +1,8 @@
 //! The modes of `rl_scan`, and the modes in which each option has an effect.
 
-ghost use Rattle.std.specs.Prelude.{◌≡◌, [], codes};
+ghost use Rattle.std.specs.Prelude.{◌≡◌, codes};
 ghost use Rattle.rl_options.specs.Modes.{goes_with as fits, has_flag as flag_is_set, has_operand as operand_is_set, has_option as option_is_set, is_in as belongs, mode_of as selected, mode_words as words_for, modes_hint as hint_for, printing_mode as printing, prints_literals as literals_printed, rewrites as is_rewriting};
-ghost use Rattle.rl_options.specs.Wishes.{wanted_of, wishes_of};
+ghost use Rattle.rl_options.specs.Wishes.{none_collected, wanted_of, wishes_of};
 
 use crate::command::{Action, Command, Output, PlaceForm, Restyling};
 use crate::flags::{Effect, Flag, Operand};
@@ -63,7 +63,7 @@ fn printing_mode(shown: Shown<'_>, searches: bool) -> Mode
 
 /// Returns the mode of a command.
 pub(crate) fn mode_of(command: Command<'_>) -> Mode
-    ensures { result ≡ selected (wishes_of command.entry [] [] [] [] [] [] []) }
+    ensures { result ≡ selected (wishes_of command.entry none_collected) }
 {
     match (command.action, command.restyle) {
         (Action::Help | Action::Version | Action::Rules | Action::Generate(_), _) => Mode::Help,
@@ -115,7 +115,7 @@ pub(crate) fn goes_with(modes: Modes, mode: Mode) -> bool
 
 /// Whether the command has an option without a value, if the option has no effect in some mode.
 fn has_flag(command: Command<'_>, flag: Flag) -> bool
-    ensures { result ≡ flag_is_set flag (wishes_of command.entry [] [] [] [] [] [] []) }
+    ensures { result ≡ flag_is_set flag (wishes_of command.entry none_collected) }
 {
     match flag {
         Flag::Bad => matches!(command.shown, Shown::Bad),
@@ -137,7 +137,7 @@ fn has_flag(command: Command<'_>, flag: Flag) -> bool
 
 /// Whether the command has an option with a value, if the option has no effect in some mode.
 fn has_operand(command: Command<'_>, operand: Operand) -> bool
-    ensures { result ≡ operand_is_set operand (wishes_of command.entry [] [] [] [] [] [] []) }
+    ensures { result ≡ operand_is_set operand (wishes_of command.entry none_collected) }
 {
     match operand {
         Operand::Kinds => matches!(command.shown, Shown::Only(_)),
@@ -157,7 +157,7 @@ fn has_operand(command: Command<'_>, operand: Operand) -> bool
 
 /// Whether the command has an option, if the option has no effect in some mode. For other options the result is `false`.
 pub(crate) fn has_option(command: Command<'_>, effect: Effect) -> bool
-    ensures { result ≡ option_is_set effect (wishes_of command.entry [] [] [] [] [] [] []) }
+    ensures { result ≡ option_is_set effect (wishes_of command.entry none_collected) }
 {
     match effect {
         Effect::Sets(flag) => has_flag(command, flag),

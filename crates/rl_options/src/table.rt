@@ -1,13 +1,14 @@
 //! The table of the options of `rl_scan`.
 
-ghost use Rattle.std.specs.Prelude.{◌≡◌, ◌≢◌, ◌++◌, ℕ, List, [], codes, find, option_copied, Some, None, IfSome, IfNone};
+ghost use Rattle.std.specs.Prelude.{◌≡◌, ◌≢◌, ◌++◌, ℕ, List, [], codes, find, map, option_copied, Some, None, IfSome, IfNone};
 ghost use Rattle.std.specs.Str.{bytes_eq};
 ghost use Rattle.rl_options.specs.declared.flags.Operand.{Operand};
 ghost use Rattle.rl_options.specs.Modes.{is_without_effect as has_none, option_without_effect};
-ghost use Rattle.rl_options.specs.Options.{IsJoinedWord, IsLetter, IsMeant, IsOptionWord, effect_lettered, effect_named, ends_options as ends, is_letter_of as lettered, suggests};
-ghost use Rattle.rl_options.specs.Wishes.{wishes_of};
+ghost use Rattle.rl_options.specs.Options.{Expects, IsJoinedWord, IsLetter, IsMeant, IsOptionWord, effect_lettered, effect_named, entry_of, is_as_long, is_letter_of as lettered, is_suggested, options, takes_value as has_value};
+ghost use Rattle.rl_options.specs.Wishes.{none_collected, wishes_of};
 
 use crate::command::Command;
+use crate::flags::Effect::{EndsOptions, Sets, Takes};
 use crate::flags::{Effect, Flag, Operand, after_front, operand_of};
 use crate::modes::{Modes, goes_with, has_option, mode_of};
 use rl_restyle::{is_near, option_part};
@@ -23,257 +24,163 @@ pub(crate) struct OptionRow {
     pub effect: Effect,
     /// The modes in which the option has an effect.
     pub modes: Modes,
+    /// The values that the option expects, in messages. It is empty if the option has no value.
+    pub value: &'static str,
+    /// The lines of `--help` for the option, each after its line end. The heading of a part is with its first option.
+    pub help: &'static str,
 }
 
-/// The options of `rl_scan`. If an unknown option is similar to several names, the first one is suggested.
+/// The options of `rl_scan`, in the order of `--help`. If an unknown option is similar to several names, the first one is suggested.
+#[rattlefmt::skip]
 const OPTIONS: [OptionRow; 41] = [
-    OptionRow {
-        name: "--bad",
-        letter: None,
-        effect: Effect::Sets(Flag::Bad),
-        modes: Modes::Printing,
-    },
-    OptionRow {
-        name: "--invisible",
-        letter: None,
-        effect: Effect::Sets(Flag::Hidden),
-        modes: Modes::Printing,
-    },
-    OptionRow {
-        name: "--only",
-        letter: None,
-        effect: Effect::Takes(Operand::Kinds),
-        modes: Modes::All,
-    },
-    OptionRow {
-        name: "--find",
-        letter: Some('e'),
-        effect: Effect::Takes(Operand::Text),
-        modes: Modes::Printing,
-    },
-    OptionRow {
-        name: "--ignore-case",
-        letter: Some('i'),
-        effect: Effect::Sets(Flag::IgnoreCase),
-        modes: Modes::Find,
-    },
-    OptionRow {
-        name: "--word",
-        letter: Some('w'),
-        effect: Effect::Sets(Flag::WholeWords),
-        modes: Modes::Find,
-    },
-    OptionRow {
-        name: "--no-stray",
-        letter: None,
-        effect: Effect::Sets(Flag::NoStray),
-        modes: Modes::Tokens,
-    },
-    OptionRow {
-        name: "--any-suffix",
-        letter: None,
-        effect: Effect::Sets(Flag::AnySuffix),
-        modes: Modes::Bad,
-    },
-    OptionRow {
-        name: "--edition",
-        letter: None,
-        effect: Effect::Takes(Operand::Edition),
-        modes: Modes::BadOrRewriting,
-    },
-    OptionRow {
-        name: "--all",
-        letter: None,
-        effect: Effect::Sets(Flag::AllDirectories),
-        modes: Modes::All,
-    },
-    OptionRow {
-        name: "--extension",
-        letter: None,
-        effect: Effect::Takes(Operand::Extension),
-        modes: Modes::All,
-    },
-    OptionRow {
-        name: "--exclude",
-        letter: None,
-        effect: Effect::Takes(Operand::Pattern),
-        modes: Modes::All,
-    },
-    OptionRow {
-        name: "--files",
-        letter: None,
-        effect: Effect::Sets(Flag::Files),
-        modes: Modes::Printing,
-    },
-    OptionRow {
-        name: "--files-from",
-        letter: None,
-        effect: Effect::Takes(Operand::List),
-        modes: Modes::All,
-    },
-    OptionRow {
-        name: "--no-messages",
-        letter: None,
-        effect: Effect::Sets(Flag::NoMessages),
-        modes: Modes::All,
-    },
-    OptionRow {
-        name: "--bytes",
-        letter: None,
-        effect: Effect::Sets(Flag::Bytes),
-        modes: Modes::Listing,
-    },
-    OptionRow {
-        name: "--lines",
-        letter: None,
-        effect: Effect::Sets(Flag::Lines),
-        modes: Modes::Listing,
-    },
-    OptionRow {
-        name: "--text",
-        letter: None,
-        effect: Effect::Sets(Flag::Text),
-        modes: Modes::Literals,
-    },
-    OptionRow {
-        name: "--json",
-        letter: None,
-        effect: Effect::Sets(Flag::Json),
-        modes: Modes::Listing,
-    },
-    OptionRow {
-        name: "--format",
-        letter: None,
-        effect: Effect::Takes(Operand::Format),
-        modes: Modes::Listing,
-    },
-    OptionRow {
-        name: "--context",
-        letter: Some('C'),
-        effect: Effect::Takes(Operand::Around),
-        modes: Modes::Listing,
-    },
-    OptionRow {
-        name: "--before-context",
-        letter: Some('B'),
-        effect: Effect::Takes(Operand::Before),
-        modes: Modes::Listing,
-    },
-    OptionRow {
-        name: "--after-context",
-        letter: Some('A'),
-        effect: Effect::Takes(Operand::After),
-        modes: Modes::Listing,
-    },
-    OptionRow {
-        name: "--color",
-        letter: None,
-        effect: Effect::Takes(Operand::Color),
-        modes: Modes::All,
-    },
-    OptionRow {
-        name: "--count",
-        letter: Some('c'),
-        effect: Effect::Sets(Flag::Count),
-        modes: Modes::Listing,
-    },
-    OptionRow {
-        name: "--files-with-matches",
-        letter: Some('l'),
-        effect: Effect::Sets(Flag::FilesWithMatches),
-        modes: Modes::Listing,
-    },
-    OptionRow {
-        name: "--null",
-        letter: Some('Z'),
-        effect: Effect::Sets(Flag::Nul),
-        modes: Modes::All,
-    },
-    OptionRow {
-        name: "--quiet",
-        letter: Some('q'),
-        effect: Effect::Sets(Flag::Quiet),
-        modes: Modes::All,
-    },
-    OptionRow {
-        name: "--stats",
-        letter: None,
-        effect: Effect::Sets(Flag::Stats),
-        modes: Modes::All,
-    },
-    OptionRow {
-        name: "--fix",
-        letter: None,
-        effect: Effect::Sets(Flag::Fix),
-        modes: Modes::All,
-    },
-    OptionRow {
-        name: "--check",
-        letter: None,
-        effect: Effect::Sets(Flag::Check),
-        modes: Modes::All,
-    },
-    OptionRow {
-        name: "--diff",
-        letter: None,
-        effect: Effect::Sets(Flag::Diff),
-        modes: Modes::All,
-    },
-    OptionRow {
-        name: "--style",
-        letter: None,
-        effect: Effect::Takes(Operand::Style),
-        modes: Modes::Rewriting,
-    },
-    OptionRow {
-        name: "--rule",
-        letter: None,
-        effect: Effect::Takes(Operand::Rule),
-        modes: Modes::Rewriting,
-    },
-    OptionRow {
-        name: "--macros",
-        letter: None,
-        effect: Effect::Takes(Operand::Macros),
-        modes: Modes::BadOrRewriting,
-    },
-    OptionRow {
-        name: "--allow",
-        letter: None,
-        effect: Effect::Takes(Operand::Allowed),
-        modes: Modes::BadOrInvisible,
-    },
-    OptionRow {
-        name: "--rules",
-        letter: None,
-        effect: Effect::Sets(Flag::Rules),
-        modes: Modes::All,
-    },
-    OptionRow {
-        name: "--generate",
-        letter: None,
-        effect: Effect::Takes(Operand::Generated),
-        modes: Modes::All,
-    },
-    OptionRow {
-        name: "--help",
-        letter: Some('h'),
-        effect: Effect::Sets(Flag::Help),
-        modes: Modes::All,
-    },
-    OptionRow {
-        name: "--version",
-        letter: Some('V'),
-        effect: Effect::Sets(Flag::Version),
-        modes: Modes::All,
-    },
-    OptionRow {
-        name: "--",
-        letter: None,
-        effect: Effect::EndsOptions,
-        modes: Modes::All,
-    },
+    OptionRow { name: "--bad", letter: None, effect: Sets(Flag::Bad), modes: Modes::Printing, value: "", help: "
+
+Modes: one at most, except --only with --find, --fix, --check or --diff
+      --bad            print the literals that Rust rejects, and unclosed quotes
+                       and comments" },
+    OptionRow { name: "--invisible", letter: None, effect: Sets(Flag::Hidden), modes: Modes::Printing, value: "", help: "
+      --invisible      print invisible and bidirectional characters, anywhere in
+                       a file" },
+    OptionRow { name: "--only", letter: None, effect: Takes(Operand::Kinds), modes: Modes::All,
+        value: "Str, ByteStr, CStr, Byte, Char, Int, Float, Bool or Verbatim", help: "
+      --only KIND,..   print the literals of these kinds: Str ByteStr CStr Byte
+                       Char Int Float Bool Verbatim, in any case" },
+    OptionRow { name: "--find", letter: Some('e'), effect: Takes(Operand::Text), modes: Modes::Printing,
+        value: "a text, such as TODO", help: "
+  -e, --find TEXT      print the string, character and byte literals whose value
+                       contains TEXT; may be repeated" },
+    OptionRow { name: "--fix", letter: None, effect: Sets(Flag::Fix), modes: Modes::All, value: "", help: "
+      --fix            rewrite files in a style, and print how many literals of
+                       each file changed; for standard input, print the
+                       rewritten source" },
+    OptionRow { name: "--check", letter: None, effect: Sets(Flag::Check), modes: Modes::All, value: "", help: "
+      --check          print the changes that --fix would make" },
+    OptionRow { name: "--diff", letter: None, effect: Sets(Flag::Diff), modes: Modes::All, value: "", help: "
+      --diff           print these changes as a unified diff" },
+    OptionRow { name: "--any-suffix", letter: None, effect: Sets(Flag::AnySuffix), modes: Modes::Bad, value: "", help: "
+
+Options of these modes: --check and --diff take those of --fix
+      --any-suffix     for --bad: accept any suffix, and numbers out of range,
+                       as macros do" },
+    OptionRow { name: "--no-stray", letter: None, effect: Sets(Flag::NoStray), modes: Modes::Tokens, value: "", help: "
+      --no-stray       for --bad, --only, --find and without a mode: a stray
+                       character, at which no token begins, is an error" },
+    OptionRow { name: "--edition", letter: None, effect: Takes(Operand::Edition), modes: Modes::BadOrRewriting,
+        value: "2015, 2018, 2021 or 2024", help: "
+      --edition YEAR   for --bad and --fix: the edition whose reserved prefixes
+                       are errors: 2015, 2018, 2021 (default) or 2024" },
+    OptionRow { name: "--allow", letter: None, effect: Takes(Operand::Allowed), modes: Modes::BadOrInvisible,
+        value: "the id of a finding, such as unknown-suffix", help: "
+      --allow ID       for --bad and --invisible: print no findings with the id
+                       ID, which --json prints; for --invisible, ID may also be
+                       a character, such as U+200B; may be repeated" },
+    OptionRow { name: "--ignore-case", letter: Some('i'), effect: Sets(Flag::IgnoreCase), modes: Modes::Find, value: "", help: "
+  -i, --ignore-case    for --find: ignore the case of ASCII letters" },
+    OptionRow { name: "--word", letter: Some('w'), effect: Sets(Flag::WholeWords), modes: Modes::Find, value: "", help: "
+  -w, --word           for --find: match only whole words" },
+    OptionRow { name: "--style", letter: None, effect: Takes(Operand::Style), modes: Modes::Rewriting,
+        value: "a file with rules, such as style.txt", help: "
+      --style FILE     for --fix: rewrite by the rules in FILE; without it, drop
+                       needless escapes of quotes and needless hashes, and write
+                       1e5 for 1E5" },
+    OptionRow { name: "--rule", letter: None, effect: Takes(Operand::Rule), modes: Modes::Rewriting,
+        value: "a rule of --rules, such as fewest_hashes", help: "
+      --rule RULE      for --fix: rewrite by this rule of --rules; RULE is
+                       NAME=VALUE, or NAME for NAME=true; may be repeated" },
+    OptionRow { name: "--macros", letter: None, effect: Takes(Operand::Macros), modes: Modes::BadOrRewriting,
+        value: "skip or all", help: "
+      --macros WHICH   skip or all: with skip, the default, --fix leaves
+                       literals in macro calls, macro_rules! and attributes
+                       unchanged, and --bad doesn't check their suffixes and
+                       ranges" },
+    OptionRow { name: "--all", letter: None, effect: Sets(Flag::AllDirectories), modes: Modes::All, value: "", help: "
+
+Files:
+      --all            also read hidden files and directories, and `target`" },
+    OptionRow { name: "--extension", letter: None, effect: Takes(Operand::Extension), modes: Modes::All,
+        value: "one extension, such as rs.in", help: "
+      --extension EXT  in directories, read *.EXT instead of *.rs; may be
+                       repeated" },
+    OptionRow { name: "--exclude", letter: None, effect: Takes(Operand::Pattern), modes: Modes::All,
+        value: "a pattern, such as tests/ui", help: "
+      --exclude GLOB   in directories, skip what GLOB matches, as in .gitignore,
+                       with *, ?, ** and / only; may be repeated" },
+    OptionRow { name: "--files-from", letter: None, effect: Takes(Operand::List), modes: Modes::All,
+        value: "a file that lists paths, such as list.txt", help: "
+      --files-from FILE
+                       also read the paths in FILE, which end with line ends, or
+                       with NUL; `-` is standard input; may be repeated" },
+    OptionRow { name: "--files", letter: None, effect: Sets(Flag::Files), modes: Modes::Printing, value: "", help: "
+      --files          print the paths of the files that would be read, and read
+                       none" },
+    OptionRow { name: "--lines", letter: None, effect: Sets(Flag::Lines), modes: Modes::Listing, value: "", help: "
+
+Output:
+      --lines          print positions as LINE:COLUMN, the default for files" },
+    OptionRow { name: "--bytes", letter: None, effect: Sets(Flag::Bytes), modes: Modes::Listing, value: "", help: "
+      --bytes          print byte ranges LO..HI, the default for standard input" },
+    OptionRow { name: "--text", letter: None, effect: Sets(Flag::Text), modes: Modes::Literals, value: "", help: "
+      --text           print literals as written" },
+    OptionRow { name: "--json", letter: None, effect: Sets(Flag::Json), modes: Modes::Listing, value: "", help: "
+      --json           print one JSON object per finding" },
+    OptionRow { name: "--format", letter: None, effect: Takes(Operand::Format), modes: Modes::Listing,
+        value: "text, json or github", help: "
+      --format FORM    text; json, as --json; or github, for annotations" },
+    OptionRow { name: "--context", letter: Some('C'), effect: Takes(Operand::Around), modes: Modes::Listing,
+        value: "a number of lines, such as 2", help: "
+  -C, --context NUM    show the source line, and NUM lines before and after it" },
+    OptionRow { name: "--before-context", letter: Some('B'), effect: Takes(Operand::Before), modes: Modes::Listing,
+        value: "a number of lines, such as 2", help: "
+  -B, --before-context NUM
+                       show the source line, and NUM lines before it" },
+    OptionRow { name: "--after-context", letter: Some('A'), effect: Takes(Operand::After), modes: Modes::Listing,
+        value: "a number of lines, such as 2", help: "
+  -A, --after-context NUM
+                       show the source line, and NUM lines after it" },
+    OptionRow { name: "--color", letter: None, effect: Takes(Operand::Color), modes: Modes::All,
+        value: "auto, always or never", help: "
+      --color WHEN     auto, always or never; auto means on a terminal, unless
+                       NO_COLOR is set and not empty, or TERM is dumb" },
+    OptionRow { name: "--count", letter: Some('c'), effect: Sets(Flag::Count), modes: Modes::Listing, value: "", help: "
+  -c, --count          print the number of findings of each file that has some" },
+    OptionRow { name: "--files-with-matches", letter: Some('l'), effect: Sets(Flag::FilesWithMatches), modes: Modes::Listing, value: "", help: "
+  -l, --files-with-matches
+                       print the path of each file that has findings" },
+    OptionRow { name: "--null", letter: Some('Z'), effect: Sets(Flag::Nul), modes: Modes::All, value: "", help: "
+  -Z, --null           end the paths of -c, -l and --files with NUL" },
+    OptionRow { name: "--quiet", letter: Some('q'), effect: Sets(Flag::Quiet), modes: Modes::All, value: "", help: "
+  -q, --quiet          print no findings; errors, totals and the output of --fix
+                       for standard input are still printed" },
+    OptionRow { name: "--no-messages", letter: None, effect: Sets(Flag::NoMessages), modes: Modes::All, value: "", help: "
+      --no-messages    print no errors and no warnings of files; the exit status
+                       stays the same" },
+    OptionRow { name: "--stats", letter: None, effect: Sets(Flag::Stats), modes: Modes::All, value: "", help: "
+      --stats          print totals at the end: files read, files with findings,
+                       findings, and files with an error; for --fix, also how
+                       many literals each rule changes" },
+    OptionRow { name: "--", letter: None, effect: EndsOptions, modes: Modes::All, value: "", help: "
+      --               every argument that follows is a PATH" },
+    OptionRow { name: "--rules", letter: None, effect: Sets(Flag::Rules), modes: Modes::All, value: "", help: "
+      --rules          print the rules of a style, with values and examples" },
+    OptionRow { name: "--generate", letter: None, effect: Takes(Operand::Generated), modes: Modes::All,
+        value: "man, bash, zsh, fish, sarif-jq or problem-matcher", help: "
+      --generate WHAT  man, bash, zsh, fish, sarif-jq or problem-matcher: print
+                       the manual page, the completions for this shell, a jq
+                       program that makes SARIF of --json, or a file with
+                       problem matchers for GitHub" },
+    OptionRow { name: "--help", letter: Some('h'), effect: Sets(Flag::Help), modes: Modes::All, value: "", help: "
+  -h, --help           print this help" },
+    OptionRow { name: "--version", letter: Some('V'), effect: Sets(Flag::Version), modes: Modes::All, value: "", help: "
+  -V, --version        print the version" },
 ];
+
+/// Returns the rows of the table.
+#[tactic(auto, unfolding(crate::specs::Options::options))]
+pub(crate) fn rows() -> &'static [OptionRow]
+    ensures { map entry_of result.now ≡ options }
+{
+    &OPTIONS
+}
 
 /// Returns the first row with the name `word`, or `None`.
 fn row_named<'r>(rows: &'r [OptionRow], word: &str) -> Option<&'r OptionRow>
@@ -304,10 +211,7 @@ pub(crate) fn effect_of(word: &str) -> Option<Effect>
     ensures known { IfSome result (λ effect. IsOptionWord effect word.now) }
     ensures unknown { IfNone result (effect_named word.now ≡ None) }
 {
-    match row_named(OPTIONS.as_slice(), word) {
-        Some(row) => Some(row.effect),
-        None => None,
-    }
+    Some(row_named(rows(), word)?.effect)
 }
 
 /// Returns the effect of the short option with the letter `c`, or `None` if there is no such option.
@@ -315,9 +219,33 @@ pub(crate) fn effect_of_letter(c: char) -> Option<Effect>
     ensures known { IfSome result (λ effect. IsLetter effect c) }
     ensures unknown { IfNone result (effect_lettered c ≡ None) }
 {
-    match row_lettered(OPTIONS.as_slice(), c) {
-        Some(row) => Some(row.effect),
-        None => None,
+    Some(row_lettered(rows(), c)?.effect)
+}
+
+/// Whether an option has a value of the kind `operand`.
+fn takes_value(operand: Operand, effect: Effect) -> bool
+    ensures { result ≡ has_value operand effect }
+{
+    match effect {
+        Takes(other) => operand == other,
+        Sets(_) | EndsOptions => false,
+    }
+}
+
+/// Returns the first row of an option that has a value of the kind `operand`, or `None`.
+fn row_taking(rows: &[OptionRow], operand: Operand) -> Option<&OptionRow>
+    ensures { option_copied result ≡ find (λ row. has_value operand row.effect) rows.now }
+{
+    rows.iter().find(|row| takes_value(operand, row.effect))
+}
+
+/// Returns the name of the option that has a value of the kind `operand`, and the values that it expects.
+pub(crate) fn expected_by(operand: Operand) -> (&'static str, &'static str)
+    ensures { Expects operand result.0.now result.1.now }
+{
+    match row_taking(rows(), operand) {
+        Some(row) => (row.name, row.value),
+        None => unreachable!(),
     }
 }
 
@@ -334,34 +262,39 @@ pub(crate) fn joined_of(word: &str) -> Option<(Operand, &str)>
     Some((operand, text))
 }
 
-/// Whether every argument after an option is a path.
-fn ends_options(effect: Effect) -> bool
-    ensures { result ≡ ends effect }
+/// Whether an option is suggested for a word that is similar to the option's name. `--` is never suggested.
+fn suggests(row: &OptionRow, word: &str) -> bool
+    ensures { result ≡ is_suggested (entry_of row.now) word.now }
 {
-    matches!(effect, Effect::EndsOptions)
+    !matches!(row.effect, EndsOptions) && is_near(word, row.name)
 }
 
-/// Returns the first row whose name `word` is similar to, or `None`. The row of `--` is skipped.
+/// Returns the first row that is suggested for `word`, or `None`.
 fn row_near<'r>(rows: &'r [OptionRow], word: &str) -> Option<&'r OptionRow>
-    ensures { option_copied result ≡ find (λ row. suggests row.effect row.name.now word.now) rows.now }
+    ensures { option_copied result ≡ find (λ row. is_suggested (entry_of row) word.now) rows.now }
 {
-    rows.iter()
-        .find(|row| !ends_options(row.effect) && is_near(word, row.name))
+    rows.iter().find(|row| suggests(row, word))
 }
 
-/// Returns the name of the first option that an argument is similar to, or `None`. Only the part before `=` is compared.
+/// Returns the first row that is suggested for `word`, and whose name is at most one byte longer than `word`, or `None`.
+fn row_as_long<'r>(rows: &'r [OptionRow], word: &str) -> Option<&'r OptionRow>
+    ensures { option_copied result ≡ find (λ row. is_as_long (entry_of row) word.now) rows.now }
+{
+    rows.iter().find(|row| suggests(row, word) && row.name.len().saturating_sub(1) <= word.len())
+}
+
+/// Returns the name of the first option that an argument is similar to, or `None`. Options whose names are at most one byte longer
+/// than the argument come first. Only the part before `=` is compared.
 pub(crate) fn meant_by(word: &str) -> Option<&'static str>
     ensures { IsMeant word.now result }
 {
-    match row_near(OPTIONS.as_slice(), option_part(word)) {
-        Some(row) => Some(row.name),
-        None => None,
-    }
+    let word = option_part(word);
+    Some(row_as_long(rows(), word).or(row_near(rows(), word))?.name)
 }
 
 /// Whether the command has the option of a row, and the option has no effect in the command's mode.
 fn is_without_effect(command: Command<'_>, row: &OptionRow) -> bool
-    ensures { result ≡ has_none row.now.effect row.now.modes (wishes_of command.entry [] [] [] [] [] [] []) }
+    ensures { result ≡ has_none row.now.effect row.now.modes (wishes_of command.entry none_collected) }
 {
     has_option(command, row.effect) && !goes_with(row.modes, mode_of(command))
 }
@@ -369,7 +302,7 @@ fn is_without_effect(command: Command<'_>, row: &OptionRow) -> bool
 /// Returns the first row whose option the command has, although it has no effect in the command's mode, or `None`.
 fn row_without_effect<'r>(rows: &'r [OptionRow], command: Command<'_>) -> Option<&'r OptionRow>
     ensures { option_copied result
-        ≡ find (λ row. has_none row.effect row.modes (wishes_of command.entry [] [] [] [] [] [] [])) rows.now }
+        ≡ find (λ row. has_none row.effect row.modes (wishes_of command.entry none_collected)) rows.now }
 {
     rows.iter().find(|row| is_without_effect(command, row))
 }
@@ -377,11 +310,9 @@ fn row_without_effect<'r>(rows: &'r [OptionRow], command: Command<'_>) -> Option
 /// Returns the first option of the command that has no effect in its mode, and the modes in which it has one, or `None`.
 pub(crate) fn without_effect(command: Command<'_>) -> Option<(&'static str, Modes)>
     ensures some { IfSome result (λ found.
-        option_without_effect (wishes_of command.entry [] [] [] [] [] [] []) ≡ Some (found.0.now, found.1)) }
-    ensures none { IfNone result (option_without_effect (wishes_of command.entry [] [] [] [] [] [] []) ≡ None) }
+        option_without_effect (wishes_of command.entry none_collected) ≡ Some (found.0.now, found.1)) }
+    ensures none { IfNone result (option_without_effect (wishes_of command.entry none_collected) ≡ None) }
 {
-    match row_without_effect(OPTIONS.as_slice(), command) {
-        Some(row) => Some((row.name, row.modes)),
-        None => None,
-    }
+    let row = row_without_effect(rows(), command)?;
+    Some((row.name, row.modes))
 }

@@ -31,20 +31,29 @@ use Rattle.rl_scan.specs.Visits.{nothing}
 use Rattle.rl_scan.specs.Runs.{Streams, WritesFront}
 use Rattle.rl_scan.proofs.Handing.{hands_none, written_on}
 use Rattle.rl_scan.proofs.RunLemmas.{not_empty}
-use Rattle.rl_options.specs.Wishes.{Wishes, style_of, wishes_of, reads_current_directory}
+use Rattle.rl_options.specs.HelpPage.{help_page}
+use Rattle.rl_options.specs.Wishes.{Collected, Wishes, style_of, wishes_of, reads_current_directory}
 use Rattle.rl_options.specs.Words.{AskForWishes}
-use Rattle.rl_scan.specs.Endings.{EndsText, EndsWish, EndsAsked, EndsAsScan, EndsFrom, EndsListed, EndsPaths, EndsRuled, EndsScan, EndsStyled, paths_read, IsCommandFor, IsRulesError, IsSelecting, WritesNothing}
+use Rattle.rl_scan.specs.Endings.{EndsText, EndsWish, EndsAsked, EndsAsScan, EndsFrom, EndsListed, EndsPaths, EndsRuled, EndsScan, EndsStyled, EndsWithoutMemory, paths_read, IsCommandFor, IsRulesError, IsSelecting, WritesNothing}
 
 -- The bytes of a writer are unchanged if nothing is written.
 pub keeps_same : (a : Option (List ℕ)) → Keeps a a
 keeps_same None = tt
 keeps_same (Some xs) = refl
 
--- If the help is requested, the result of writing it is the result of the call. `ends_version` is the lemma for the version.
+-- If the help is requested, the result of writing it is the result of the call. `ends_no_help` is the lemma for a failed allocation,
+-- and `ends_version` the lemma for the version.
 pub ends_help : {B : Type 0} (wishes : Wishes) (lacks_input : Bool) (holds : Option World) (o0 o1 e : Option (List ℕ))
     (h : Option (List Replacement)) (text : List ℕ) (ending : Ending (CallError B)) → wishes.action ≡ Help
-    → EndsText text o0 o1 ending → EndsAsked wishes lacks_input holds (written_on o0 o1 e e h h) ending
-ends_help wishes lacks_input holds o0 o1 e h text ending is ends = rw is (text, (ends, keeps_same e, refl))
+    → text ≡ help_page → EndsText text o0 o1 ending
+    → EndsAsked wishes lacks_input holds (written_on o0 o1 e e h h) ending
+ends_help wishes lacks_input holds o0 o1 e h text ending is page ends =
+    rw is (inl (subst (λ (t : List ℕ). EndsText t o0 o1 ending) page ends, keeps_same e, refl))
+
+pub ends_no_help : {B : Type 0} (wishes : Wishes) (lacks_input : Bool) (holds : Option World) (o e : Option (List ℕ))
+    (h : Option (List Replacement)) (ending : Ending (CallError B)) → wishes.action ≡ Help → EndsWithoutMemory ending
+    → EndsAsked wishes lacks_input holds (written_on o o e e h h) ending
+ends_no_help wishes lacks_input holds o e h ending is ends = rw is (inr (ends, (keeps_same o, keeps_same e, refl)))
 
 pub ends_version : {B : Type 0} (wishes : Wishes) (lacks_input : Bool) (holds : Option World)
     (o0 o1 e : Option (List ℕ)) (h : Option (List Replacement)) (text : List ℕ) (ending : Ending (CallError B))
@@ -75,11 +84,12 @@ front_none command (Some w) waypoints o e h =
     inl ([], more.0, nothing, more.1, refl, ((0, Appends-nil o), (0, Appends-nil e), hands_none h))
 
 -- The command with its separately parsed lists is the command of the arguments.
-pub command_for : (command selecting : Command) (style : Style) (finds extensions excludes lists settings allowed paths : List (List ℕ))
-    → IsSelecting command style finds extensions excludes lists allowed selecting
-    → IsCommandFor (wishes_of command finds extensions excludes lists settings allowed paths) style selecting
-command_for command selecting style finds extensions excludes lists settings allowed paths is = record {
-  asked = is.same finds extensions excludes lists settings allowed paths;
+pub command_for : (command selecting : Command) (style : Style) (values : Collected)
+    → IsSelecting command style values.finds values.extensions values.excludes values.files_from values.allowed selecting
+    → IsCommandFor (wishes_of command values) style selecting
+command_for command selecting style values is = record {
+  values = values;
+  asked = is.same values;
   finds_are = is.finds_are;
   extensions_are = is.extensions_are;
   excludes_are = is.excludes_are;
@@ -105,21 +115,19 @@ pub ends_listed : {B : Type 0} (files : List (Bor (List ℕ))) (command : Comman
 ends_listed [] command lacks_input holds paths streams ending some ends = absurd (false≢true (sym some))
 ends_listed (file ∷ files) command lacks_input holds paths streams ending some ends = ends
 
-pub scan_ends : {B : Type 0} (command selecting : Command) (style : Style)
-    (finds extensions excludes lists settings allowed paths : List (List ℕ)) (lacks_input is_here : Bool) (holds : Option World)
-    (streams : Streams) (ending : Ending (CallError B))
-    → IsSelecting command style finds extensions excludes lists allowed selecting
-    → is_here ≡ reads_current_directory lacks_input (wishes_of command finds extensions excludes lists settings allowed paths)
-    → EndsFrom (borrowed_texts selecting.files_from.now) selecting is_here holds paths streams ending
-    → EndsScan (wishes_of command finds extensions excludes lists settings allowed paths) style lacks_input holds streams ending
-scan_ends command selecting style finds extensions excludes lists settings allowed paths lacks_input is_here holds streams ending is here
-    ends = (
-      selecting,
-      command_for command selecting style finds extensions excludes lists settings allowed paths is,
-      subst (λ (b : Bool). EndsFrom lists selecting b holds paths streams ending) here
-          (subst (λ (files : List (List ℕ)). EndsFrom files selecting is_here holds paths streams ending) is.lists_are
-          ends),
-    )
+pub scan_ends : {B : Type 0} (command selecting : Command) (style : Style) (values : Collected)
+    (lacks_input is_here : Bool) (holds : Option World) (streams : Streams) (ending : Ending (CallError B))
+    → IsSelecting command style values.finds values.extensions values.excludes values.files_from values.allowed selecting
+    → is_here ≡ reads_current_directory lacks_input (wishes_of command values)
+    → EndsFrom (borrowed_texts selecting.files_from.now) selecting is_here holds values.paths streams ending
+    → EndsScan (wishes_of command values) style lacks_input holds streams ending
+scan_ends command selecting style values lacks_input is_here holds streams ending is here ends = (
+  selecting,
+  command_for command selecting style values is,
+  subst (λ (b : Bool). EndsFrom values.files_from selecting b holds values.paths streams ending) here
+      (subst (λ (files : List (List ℕ)). EndsFrom files selecting is_here holds values.paths streams ending) is.lists_are
+      ends),
+)
 
 -- Without values of `--rule`, the result of the call with the default style is that of the call. `ends_some_ruled` is the lemma for
 -- one value or more.

@@ -1,5 +1,5 @@
 -- Lemmas about the output for a file.
-use Rattle.rl_syntax.proofs.Common.{IsAscii, IsUtf8, List, None, Option, [], ap, append_assoc, chars, chars-IsAscii, codes, encodes-chars, refl, subst, sym, ℕ, ◌++◌, ◌∙◌, ◌≡◌}
+use Rattle.rl_syntax.proofs.Common.{Bool, IsAscii, IsUtf8, List, None, Option, [], ap, append_assoc, chars, chars-IsAscii, codes, encodes-chars, refl, subst, sym, ℕ, ◌++◌, ◌∙◌, ◌≡◌}
 use Rattle.std.specs.Prelude.{encode_utf8_all, MatchOption}
 use Rattle.rl_files.specs.Visible.{visible}
 use Rattle.rl_files.specs.Walks.{path_error_message}
@@ -47,13 +47,13 @@ script_reported path a b line utf8 first shown written = line_reported path
     (low_text (codes ": left alone: its first line begins with #!\n") refl) utf8 first shown written
 
 -- The parts of the line for a path that can't be read are that line.
-pub error_reported : (path : List ℕ) (why : PathError) (hint a b errors : List ℕ) → hint ≡ error_hint path why → IsUtf8 b
+pub error_reported : (lacks_find : Bool) (path : List ℕ) (why : PathError) (hint a b errors : List ℕ) → hint ≡ error_hint lacks_find path why → IsUtf8 b
     → a ≡ codes "rl_scan: " → chars b ≡ chars a ++ visible (chars path)
     → errors ≡ b ++ (codes ": " ++ (path_error_message why ++ (hint ++ codes "\n")))
     → chars errors ≡ codes "rl_scan: " ++ (visible (chars path)
-    ++ chars (codes ": " ++ (path_error_message why ++ (error_hint path why ++ codes "\n"))))
-error_reported path why hint a b errors is utf8 first shown written = line_shown path
-    (codes ": " ++ (path_error_message why ++ (error_hint path why ++ codes "\n"))) a b errors utf8 first shown
+    ++ chars (codes ": " ++ (path_error_message why ++ (error_hint lacks_find path why ++ codes "\n"))))
+error_reported lacks_find path why hint a b errors is utf8 first shown written = line_shown path
+    (codes ": " ++ (path_error_message why ++ (error_hint lacks_find path why ++ codes "\n"))) a b errors utf8 first shown
     (written ∙ ap (λ (z : List ℕ). b ++ (codes ": " ++ (path_error_message why ++ (z ++ codes "\n")))) is)
 
 -- Without context, the output lines are those without lines of context.

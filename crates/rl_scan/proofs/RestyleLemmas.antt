@@ -1,5 +1,5 @@
 -- Lemmas about the output for a source whose literals are rewritten.
-use Rattle.rl_syntax.proofs.Common.{List, Option, [], ◌∷◌, inl, inr, refl, subst, sym, true, ℕ, ◌≡◌, ◌∙◌}
+use Rattle.rl_syntax.proofs.Common.{false, List, Option, [], ◌∷◌, inl, inr, refl, subst, sym, true, ℕ, ◌≡◌, ◌∙◌}
 use Rattle.std.specs.Prelude.{IfOk, Ok, Err}
 use Rattle.std.specs.declared.result.Result.{Result}
 use Rattle.rl_files.specs.Replacements.{Replacement}
@@ -39,7 +39,7 @@ prints_handing out counts r p prints = record {
 
 -- If the file can't be replaced, the line with the reason is the output.
 pub unreplaced : {A E : Type 0} (path text new out : List ℕ) (counts : ℕ × List Rule) (why : PathError)
-    (r : Result (Report A) E) (old now : Option (List Replacement)) → now ≡ old → IfOk r (λ p. IsErrorReport path why (in_report p))
+    (r : Result (Report A) E) (old now : Option (List Replacement)) → now ≡ old → IfOk r (λ p. IsErrorReport false path why (in_report p))
     → IfOk r (λ p. ReportsAs (IsReplaced path text new out counts) p old now)
 unreplaced path text new out counts why (Ok p) old now same is = ([], inr (why, is), same ∙ hands_none old)
 unreplaced path text new out counts why (Err e) old now same is = tt

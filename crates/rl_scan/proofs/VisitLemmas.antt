@@ -10,6 +10,7 @@ use Rattle.rl_files.specs.declared.tree.PathError.TheVariants.{OutOfMemory}
 use Rattle.rl_options.specs.declared.command.Command.{Command}
 use Rattle.rl_scan.specs.declared.report.Report.{Report}
 use Rattle.rl_options.specs.Reads.{IsNotUtf8}
+use Rattle.rl_options.specs.Hints.{may_lack_find}
 use Rattle.rl_scan.specs.Reports.{Findings, IsErrorReport, IsListReport, in_report}
 use Rattle.rl_scan.specs.Visits.{IsBytesReport, IsReadReport, IsReport, ReportsAs}
 use Rattle.rl_options.specs.Wishes.{lists_files}
@@ -32,7 +33,7 @@ reports_as IsThis IsThat (Err e) old new so is = tt
 -- If the file's bytes aren't UTF-8, the line with this error is the output.
 pub no_text_reported : {A E : Type 0} (command : Command) (path bytes : List ℕ) (why : PathError)
     (r : Result (Report A) E) (h : Option (List Replacement)) → IsNotUtf8 bytes why
-    → IfOk r (λ p. IsErrorReport path why (in_report p)) → IfOk r (λ p. ReportsAs (IsBytesReport command path bytes) p h h)
+    → IfOk r (λ p. IsErrorReport (may_lack_find command) path why (in_report p)) → IfOk r (λ p. ReportsAs (IsBytesReport command path bytes) p h h)
 no_text_reported command path bytes why (Ok p) h no_text is = ([], inr (why, no_text, is), hands_none h)
 no_text_reported command path bytes why (Err e) h no_text is = tt
 
@@ -51,7 +52,7 @@ was_read command (Some w) path bytes p old new found (handed, inr (why, no_text,
 pub was_unread : {A E : Type 0} (command : Command) (holds : Option World) (path : List ℕ) (why : PathError)
     (r : Result (Report A) E) (old new : Option (List Replacement)) → new ≡ old
     → (why ≡ OutOfMemory) ⊎ IfSome holds (λ w. w.bytes path ≡ Err why)
-    → IfOk r (λ p. IsErrorReport path why (in_report p))
+    → IfOk r (λ p. IsErrorReport (may_lack_find command) path why (in_report p))
     → IfOk r (λ p. IfSome holds (λ w. ReportsAs (IsReadReport command w path) p old new))
 was_unread command holds path why (Err e) old new same unread is = tt
 was_unread command None path why (Ok p) old new same unread is = tt
@@ -79,7 +80,7 @@ read_reported command None path (Ok p) old new reads is = tt
 read_reported command (Some w) path (Ok p) old new reads (handed, is, on) = (handed, inr (reads, is), on)
 
 pub failed_reported : {A E : Type 0} (command : Command) (holds : Option World) (path : List ℕ) (why : PathError)
-    (r : Result (Report A) E) (h : Option (List Replacement)) → IfOk r (λ p. IsErrorReport path why (in_report p))
+    (r : Result (Report A) E) (h : Option (List Replacement)) → IfOk r (λ p. IsErrorReport (may_lack_find command) path why (in_report p))
     → IfOk r (λ p. IfSome holds (λ w. ReportsAs (IsReport command w (ErrorAt path why)) p h h))
 failed_reported command holds path why (Err e) h is = tt
 failed_reported command None path why (Ok p) h is = tt

@@ -26,12 +26,13 @@ use Rattle.rl_options.specs.declared.rules.LineError.{LineError}
 use Rattle.rl_options.specs.declared.rules.RulesError.{RulesError}
 use Rattle.rl_options.specs.declared.rules.RulesError.TheVariants as rules
 use Rattle.rl_options.specs.Rules.{HasNoRules, HasRules, IsNoStyle, line_error_words}
+use Rattle.rl_options.specs.HelpPage.{help_page}
 use Rattle.rl_options.specs.RulesPage.{rules_page}
 use Rattle.rl_options.specs.Generated.{generated_text}
 use Rattle.rl_restyle.specs.Settings.{settings_text}
 use Rattle.rl_files.specs.Listed.{AreWithAllListed, IsFirstUnread}
 use Rattle.rl_scan.specs.Runs.{Streams, WritesWalk, WritesFront, asked_status}
-use Rattle.rl_options.specs.Wishes.{Wishes, reads_current_directory, wishes_of}
+use Rattle.rl_options.specs.Wishes.{Collected, Wishes, reads_current_directory, wishes_of}
 use Rattle.rl_options.specs.Words.{AskForWishes, CannotAsk, word_message}
 
 -- The line on standard error for the reason why a call fails.
@@ -158,9 +159,7 @@ extensions_read (extension ∷ extensions) = extension ∷ extensions
 -- the lists of paths, the allowed findings, and the rules of the style.
 pub record IsSelecting (command : Command) (rules : Style) (finds extensions excludes lists permitted : List (List ℕ))
     (selecting : Command) : Type 0 where
-  pub same : (texts endings patterns files settings allowed paths : List (List ℕ))
-      → wishes_of selecting texts endings patterns files settings allowed paths
-      ≡ wishes_of command texts endings patterns files settings allowed paths
+  pub same : (values : Collected) → wishes_of selecting values ≡ wishes_of command values
   pub finds_are : borrowed_texts selecting.finds.now ≡ finds
   pub extensions_are : borrowed_texts selecting.selection.extensions.now ≡ extensions_read extensions
   pub excludes_are : borrowed_texts selecting.selection.excludes.now ≡ excludes
@@ -170,8 +169,8 @@ pub record IsSelecting (command : Command) (rules : Style) (finds extensions exc
 
 -- The command is that of the parsed arguments. If literals are rewritten, `rules` is their style.
 pub record IsCommandFor (wishes : Wishes) (rules : Style) (command : Command) : Type 0 where
-  pub asked : wishes_of command wishes.finds wishes.extensions wishes.excludes wishes.files_from wishes.settings wishes.allowed wishes.paths
-      ≡ wishes
+  pub values : Collected
+  pub asked : wishes_of command values ≡ wishes
   pub finds_are : borrowed_texts command.finds.now ≡ wishes.finds
   pub extensions_are : borrowed_texts command.selection.extensions.now ≡ extensions_read wishes.extensions
   pub excludes_are : borrowed_texts command.selection.excludes.now ≡ wishes.excludes
@@ -226,11 +225,12 @@ EndsWriting text streams ending =
     × (streams.handed_new ≡ streams.handed_old)
 
 -- The result of a call for an action: a run over files, or writing the help, the version, the rules of a style, or a text for another
--- program.
+-- program. If an allocation for the help fails, nothing is written.
 abbrev pub EndsWish : {B : Type 0} → Action → Wishes → Bool → Option World → Streams → Ending (CallError B) → Type 0
 EndsWish Scan wishes lacks_input holds streams ending = EndsStyled wishes.style wishes lacks_input holds streams ending
 EndsWish Files wishes lacks_input holds streams ending = EndsStyled wishes.style wishes lacks_input holds streams ending
-EndsWish Help wishes lacks_input holds streams ending = (text : List ℕ) × EndsWriting text streams ending
+EndsWish Help wishes lacks_input holds streams ending =
+    EndsWriting help_page streams ending ⊎ (EndsWithoutMemory ending × WritesNothing streams)
 EndsWish Version wishes lacks_input holds streams ending = (text : List ℕ) × EndsWriting text streams ending
 EndsWish Rules wishes lacks_input holds streams ending = EndsWriting rules_page streams ending
 EndsWish (Generate which) wishes lacks_input holds streams ending = EndsWriting (generated_text which) streams ending

@@ -254,13 +254,14 @@ abbrev pub is_error : PathError → Bool
 is_error PathNotUtf8 = false
 is_error _ = true
 
--- The hint after the error of a path. It is empty unless the path doesn't exist.
-abbrev pub error_hint : List ℕ → PathError → List ℕ
-error_hint path NotFound = path_hint path
-error_hint path _ = []
+-- The hint after the error of a path. It is empty unless the path doesn't exist. `lacks_find` says that the path may be a text to
+-- search for.
+abbrev pub error_hint : Bool → List ℕ → PathError → List ℕ
+error_hint lacks_find path NotFound = path_hint lacks_find path
+error_hint lacks_find path _ = []
 
 -- The output for a path that can't be read: one line.
-pub record IsErrorReport (path : List ℕ) (why : PathError) (printed : Findings) : Type 0 where
+pub record IsErrorReport (lacks_find : Bool) (path : List ℕ) (why : PathError) (printed : Findings) : Type 0 where
   pub out : printed.out ≡ []
   pub has_error : printed.has_error ≡ is_error why
   pub handed : printed.handed ≡ []
@@ -270,4 +271,4 @@ pub record IsErrorReport (path : List ℕ) (why : PathError) (printed : Findings
   pub rules : printed.rules ≡ []
   pub errors : chars printed.errors
       ≡ codes "rl_scan: " ++ (visible (chars path)
-      ++ chars (codes ": " ++ (path_error_message why ++ (error_hint path why ++ codes "\n"))))
+      ++ chars (codes ": " ++ (path_error_message why ++ (error_hint lacks_find path why ++ codes "\n"))))

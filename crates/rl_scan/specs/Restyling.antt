@@ -85,7 +85,7 @@ IsCompared command path named text new counts printed =
 abbrev pub IsReplaced : List ℕ → List ℕ → List ℕ → List ℕ → ℕ × List Rule → Findings → Type 0
 IsReplaced path text new out counts printed =
     PrintsAlone out true counts (replacing path text new ∷ []) printed
-    ⊎ ((why : PathError) × IsErrorReport path why printed)
+    ⊎ ((why : PathError) × IsErrorReport false path why printed)
 
 -- The output of `--fix`. A file is replaced if a literal is rewritten. For standard input, the output is the rewritten source.
 abbrev pub IsFixed : Command → List ℕ → Option (Bor (List ℕ)) → List ℕ → List ℕ → List (ℕ × ℕ × List ℕ) → ℕ × List Rule

@@ -11,6 +11,7 @@ use Rattle.rl_options.specs.declared.command.Restyling.{Restyling}
 use Rattle.rl_restyle.specs.declared.rule.Rule.{Rule}
 use Rattle.rl_scan.specs.declared.report.Report.{Report}
 use Rattle.rl_options.specs.Reads.{IsNotUtf8, IsReadError}
+use Rattle.rl_options.specs.Hints.{may_lack_find}
 use Rattle.rl_scan.specs.Reports.{Findings, HandsOn, IsErrorReport, IsListReport, IsTextReport, with_handed}
 use Rattle.rl_scan.specs.Restyling.{IsRestyledReport}
 use Rattle.rl_options.specs.Wishes.{lists_files}
@@ -24,21 +25,21 @@ IsWantedReport (Some restyling) command path text printed = IsRestyledReport res
 abbrev pub IsBytesReport : Command → List ℕ → List ℕ → Findings → Type 0
 IsBytesReport command path bytes printed =
     (IsUtf8 bytes × IsWantedReport command.restyle command path bytes printed)
-    ⊎ ((why : PathError) × IsNotUtf8 bytes why × IsErrorReport path why printed)
+    ⊎ ((why : PathError) × IsNotUtf8 bytes why × IsErrorReport (may_lack_find command) path why printed)
 
 -- The output for a file that is read.
 abbrev pub IsReadReport : Command → World → List ℕ → Findings → Type 0
 IsReadReport command w path printed =
     ((text : List ℕ) × (w.bytes path ≡ Ok text) × IsUtf8 text
     × IsWantedReport command.restyle command path text printed)
-    ⊎ ((why : PathError) × IsReadError w path why × IsErrorReport path why printed)
+    ⊎ ((why : PathError) × IsReadError w path why × IsErrorReport (may_lack_find command) path why printed)
 
 -- The output for one visit of a walk: for a file, which is listed or read, or for a path that can't be read.
 abbrev pub IsReport : Command → World → Visited → Findings → Type 0
 IsReport command w (FileAt path) printed =
     ((lists_files command.action ≡ true) × IsListReport command path printed)
     ⊎ ((lists_files command.action ≡ false) × IsReadReport command w path printed)
-IsReport command w (ErrorAt path why) printed = IsErrorReport path why printed
+IsReport command w (ErrorAt path why) printed = IsErrorReport (may_lack_find command) path why printed
 
 -- With some list of replaced files, the report satisfies `IsThis`, and these files are added to the list `old`.
 abbrev pub ReportsAs : {A : Type 0} → (Findings → Type 0) → Report A → Option (List Replacement)

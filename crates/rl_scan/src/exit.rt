@@ -12,8 +12,8 @@ use rl_files::{
     PathError, Replace, Selection, Tree, Walk, WalkError, push_listed_paths, visible_text,
 };
 use rl_options::{
-    Action, ArgumentError, Command, Console, HELP, LineError, ParsedArguments, Restyling,
-    RulesError, VERSION, generated_text, lists_files, parse_arguments, read_rules_file, rules_page,
+    Action, ArgumentError, Command, Console, LineError, ParsedArguments, Restyling, RulesError,
+    VERSION, generated_text, help_page, lists_files, parse_arguments, read_rules_file, rules_page,
     style_of_settings,
 };
 use rl_program::{Ending, RunError, WriteError, write_bytes};
@@ -504,7 +504,10 @@ fn answer<A: Allocator + Copy, T: Tree, W: Write, E: Write, F: Replace>(
     }) result }
 {
     match asked.command.action {
-        Action::Help => write_text(out, HELP),
+        Action::Help => match help_page(alloc) {
+            Ok(page) => write_text(out, page.as_str()),
+            Err(_) => out_of_memory_ending(),
+        },
         Action::Version => write_text(out, VERSION),
         Action::Rules => write_text(out, rules_page()),
         Action::Generate(which) => write_text(out, generated_text(which)),

@@ -25,8 +25,8 @@ pub use crate::runs::{RunStop, Tally, run};
 pub use crate::visit_report::report_of;
 use rl_files::Host;
 pub use rl_options::{
-    Action, ArgumentError, Command, Console, HELP, LineError, Macros, Output, PlaceForm, Restyling,
-    VERSION,
+    Action, ArgumentError, Command, Console, LineError, Macros, Output, PlaceForm, Restyling,
+    VERSION, help_page,
 };
 use rl_program::finish;
 use std::alloc::Global;

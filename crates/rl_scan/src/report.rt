@@ -341,29 +341,33 @@ fn is_error(error: PathError) -> bool
     !matches!(error, PathError::PathNotUtf8)
 }
 
-/// Returns the hint after the error of a path. It is empty unless the path doesn't exist.
+/// Returns the hint after the error of a path. It is empty unless the path doesn't exist. `lacks_find` is true if the path may be a
+/// text to search for.
 fn hint_after<A: Allocator + Copy>(
     alloc: A,
+    lacks_find: bool,
     path: &str,
     error: PathError,
 ) -> Result<String<A>, AllocError>
-    ensures { IfOk result (λ hint. string_bytes hint ≡ error_hint path.now error) }
+    ensures { IfOk result (λ hint. string_bytes hint ≡ error_hint lacks_find path.now error) }
 {
     match error {
-        PathError::NotFound => path_hint(alloc, path),
+        PathError::NotFound => path_hint(alloc, lacks_find, path),
         _ => Ok(String::new(alloc)),
     }
 }
 
 /// Returns the output for a path that can't be read: a line on standard error. For a skipped name or path the line is a warning.
+/// `lacks_find` is true if the path may be a text to search for.
 pub(crate) fn report_error<A: Allocator + Copy>(
     alloc: A,
+    lacks_find: bool,
     path: &str,
     error: PathError,
 ) -> Result<Report<A>, AllocError>
-    ensures { IfOk result (λ r. IsErrorReport path.now error (in_report r)) }
+    ensures { IfOk result (λ r. IsErrorReport lacks_find path.now error (in_report r)) }
 {
-    let hint = hint_after(alloc, path, error)?;
+    let hint = hint_after(alloc, lacks_find, path, error)?;
     let mut errors = String::from_str(alloc, "rl_scan: ")?;
     push_visible(&mut errors, path)?;
     writeln!(&mut errors, ": {error}{hint}")?;

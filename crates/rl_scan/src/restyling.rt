@@ -158,7 +158,7 @@ fn report_replaced<A: Allocator + Copy, F: Replace>(
 {
     match files.replace(alloc, path, text.as_bytes(), new.as_bytes()) {
         Ok(()) => Ok(report_out(alloc, out, true, count)),
-        Err(why) => report_error(alloc, path, why),
+        Err(why) => report_error(alloc, false, path, why),
     }
 }
 

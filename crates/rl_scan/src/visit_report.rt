@@ -8,7 +8,7 @@ ghost use Rattle.rl_scan.specs.Visits.{IsBytesReport, IsReadReport, IsReport, Is
 use crate::report::{Report, report_error, report_listed, report_text};
 use crate::restyling::report_restyled;
 use rl_files::{PathError, Replace, Tree, Visit};
-use rl_options::{Command, lists_files};
+use rl_options::{Command, lists_files, may_lack_find};
 use std::alloc::{AllocError, Allocator};
 
 /// Returns the output for the source `text`. Its literals are rewritten if the command requests it.
@@ -43,7 +43,12 @@ fn report_bytes<A: Allocator + Copy, F: Replace>(
 {
     match std::str::from_utf8(bytes) {
         Ok(text) => report_wanted(alloc, command, files, path, text),
-        Err(error) => report_error(alloc, path, PathError::NotUtf8(error.valid_up_to())),
+        Err(error) => report_error(
+            alloc,
+            may_lack_find(command),
+            path,
+            PathError::NotUtf8(error.valid_up_to()),
+        ),
     }
 }
 
@@ -61,11 +66,11 @@ fn report_file<A: Allocator + Copy, T: Tree, F: Replace>(
 {
     let bytes = match tree.bytes(alloc, path) {
         Ok(bytes) => bytes,
-        Err(error) => return report_error(alloc, path, error),
+        Err(error) => return report_error(alloc, may_lack_find(command), path, error),
     };
     match report_bytes(alloc, command, files, path, bytes.as_slice()) {
         Ok(report) => Ok(report),
-        Err(_) => report_error(alloc, path, PathError::OutOfMemory),
+        Err(_) => report_error(alloc, may_lack_find(command), path, PathError::OutOfMemory),
     }
 }
 
@@ -93,6 +98,11 @@ pub fn report_of<A: Allocator + Copy, T: Tree, F: Replace>(
             report_listed(alloc, command, path.as_str())
         }
         Visit::File(path) => report_file(alloc, command, tree, files, path.as_str()),
-        Visit::Failed(path, error) => report_error(alloc, path.as_str(), *error),
+        Visit::Failed(path, error) => report_error(
+            alloc,
+            may_lack_find(command),
+            path.as_str(),
+            *error,
+        ),
     }
 }

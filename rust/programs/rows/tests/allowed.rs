@@ -225,7 +225,7 @@ fn characters_by_number() {
 
 /// Arguments with an error, and the error.
 const REJECTED: [(&[&str], &str); 19] = [
-    (&["--allow"], "--allow needs a value, such as --allow unknown-suffix"),
+    (&["--allow"], "--allow needs a value: the id of a finding, such as unknown-suffix"),
     (
         &["--allow", "joiner"],
         "--allow has no effect without a mode: use --bad or --invisible",

@@ -47,7 +47,7 @@ pub returns-in-Some-clause-rejected : goal.returns-in-Some-clause-rejected
 returns-in-Some-clause-rejected g c = inl (
   c.in-Some.operand,
   wishes_in c.loop-word.asked,
-  c.missing.ensures,
+  c.expected_by.ensures,
   subst (λ (n : Next). AskSoFar c.args.has_colors (map string_bytes c.args.words.now) n (wishes_in c.loop-word.asked))
       c.in-Some.ensures.some (all_taken c.args.has_colors string_bytes c.args.words.now c.loop-word.word-index
       c.loop-word.asked.next (wishes_in c.loop-word.asked) (omega (arith, c.loop-word-test.false))

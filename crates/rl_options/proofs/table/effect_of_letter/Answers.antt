@@ -1,14 +1,11 @@
-use Rattle.rl_syntax.proofs.Common.{ap, map, option_map, sym, ◌∙◌}
-use Rattle.rl_options.proofs.OptionLemmas.{entry_of, letter_is}
-use Rattle.rl_options.specs.Options.{options}
+use Rattle.rl_syntax.proofs.Common.{ap, option_map, sym, ◌∙◌}
+use Rattle.rl_options.proofs.OptionLemmas.{letter_is}
 use Rattle.rl_options.proofs.table.effect_of_letter.Goals as goal
 
-pub returns-in-Some-clause-known : goal.returns-in-Some-clause-known
-unfolding options
-returns-in-Some-clause-known c = sym (letter_is _ _ c.row_lettered.result (ap (map entry_of) c.as_slice.ensures)
-    c.row_lettered.ensures) ∙ ap (option_map (λ row. row.now.effect)) c.in-Some.is
+pub returns-clause-known : goal.returns-clause-known
+returns-clause-known c = sym (letter_is _ _ c.row_lettered.result c.rows.ensures c.row_lettered.ensures)
+    ∙ ap (option_map (λ row. row.now.effect)) c.in_ok-row_lettered.was
 
-pub returns-in-None-clause-unknown : goal.returns-in-None-clause-unknown
-unfolding options
-returns-in-None-clause-unknown c = sym (letter_is _ _ c.row_lettered.result (ap (map entry_of) c.as_slice.ensures)
-    c.row_lettered.ensures) ∙ ap (option_map (λ row. row.now.effect)) c.in-None.is
+pub returns-in_err-row_lettered-clause-unknown : goal.returns-in_err-row_lettered-clause-unknown
+returns-in_err-row_lettered-clause-unknown c = sym (letter_is _ _ c.row_lettered.result c.rows.ensures c.row_lettered.ensures)
+    ∙ ap (option_map (λ row. row.now.effect)) c.in_err-row_lettered.was

@@ -1,14 +1,11 @@
-use Rattle.rl_syntax.proofs.Common.{ap, map, option_map, sym, ◌∙◌}
-use Rattle.rl_options.specs.Options.{options}
-use Rattle.rl_options.proofs.OptionLemmas.{entry_of, without_effect_is}
+use Rattle.rl_syntax.proofs.Common.{ap, option_map, sym, ◌∙◌}
+use Rattle.rl_options.proofs.OptionLemmas.{without_effect_is}
 use Rattle.rl_options.proofs.table.without_effect.Goals as goal
 
-pub returns-in-Some-clause-some : goal.returns-in-Some-clause-some
-unfolding options
-returns-in-Some-clause-some c = sym (without_effect_is _ _ c.row_without_effect.result (ap (map entry_of) c.as_slice.ensures)
-    c.row_without_effect.ensures) ∙ ap (option_map (λ row. (row.now.name.now, row.now.modes))) c.in-Some.is
+pub returns-clause-some : goal.returns-clause-some
+returns-clause-some c = sym (without_effect_is _ _ c.row_without_effect-row.result c.rows.ensures
+    c.row_without_effect-row.ensures) ∙ ap (option_map (λ row. (row.now.name.now, row.now.modes))) c.in_ok-row.was
 
-pub returns-in-None-clause-none : goal.returns-in-None-clause-none
-unfolding options
-returns-in-None-clause-none c = sym (without_effect_is _ _ c.row_without_effect.result (ap (map entry_of) c.as_slice.ensures)
-    c.row_without_effect.ensures) ∙ ap (option_map (λ row. (row.now.name.now, row.now.modes))) c.in-None.is
+pub returns-in_err-row-clause-none : goal.returns-in_err-row-clause-none
+returns-in_err-row-clause-none c = sym (without_effect_is _ _ c.row_without_effect-row.result c.rows.ensures
+    c.row_without_effect-row.ensures) ∙ ap (option_map (λ row. (row.now.name.now, row.now.modes))) c.in_err-row.was

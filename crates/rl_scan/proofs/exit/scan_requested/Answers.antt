@@ -1,15 +1,13 @@
 use Rattle.rl_syntax.proofs.Common.{sym, ◌∙◌}
-use Rattle.rl_files.specs.Globs.{borrowed_texts}
 use Rattle.rl_files.specs.Trees.{string_texts}
+use Rattle.rl_options.specs.Wishes.{collected_in}
 use Rattle.rl_scan.proofs.EndingLemmas.{ends_listed, ends_named, scan_ends}
 use Rattle.rl_scan.proofs.Handing.{written_on}
 use Rattle.rl_scan.proofs.exit.scan_requested.Goals as goal
 
 pub returns-then-is_empty : goal.returns-then-is_empty
 returns-then-is_empty g c = scan_ends c.args.asked.command c.selecting-command.result c.args.rules
-    (borrowed_texts c.args.asked.finds.items)
-    (borrowed_texts c.args.asked.extensions.items) (borrowed_texts c.args.asked.excludes.items)
-    (borrowed_texts c.args.asked.lists.items) (borrowed_texts c.args.asked.settings.items) (borrowed_texts c.args.asked.allowed.items) (string_texts c.args.asked.paths.items) c.args.lacks_input
+    (collected_in c.args.asked) c.args.lacks_input
     c.reads_current_directory-is_here.result (g.T.Tree.holds c.args.tree.now)
     (written_on (g.W.Write.contents c.args.out.now) (g.W.Write.contents c.scan_named.new.out)
     (g.E.Write.contents c.args.err.now) (g.E.Write.contents c.scan_named.new.err) (g.F.Replace.handed c.args.files.now)
@@ -27,9 +25,7 @@ returns-then-is_empty g c = scan_ends c.args.asked.command c.selecting-command.r
 
 pub returns : goal.returns
 returns g c = scan_ends c.args.asked.command c.selecting-command.result c.args.rules
-    (borrowed_texts c.args.asked.finds.items)
-    (borrowed_texts c.args.asked.extensions.items) (borrowed_texts c.args.asked.excludes.items)
-    (borrowed_texts c.args.asked.lists.items) (borrowed_texts c.args.asked.settings.items) (borrowed_texts c.args.asked.allowed.items) (string_texts c.args.asked.paths.items) c.args.lacks_input
+    (collected_in c.args.asked) c.args.lacks_input
     c.reads_current_directory-is_here.result (g.T.Tree.holds c.args.tree.now)
     (written_on (g.W.Write.contents c.args.out.now) (g.W.Write.contents c.scan_listed.new.out)
     (g.E.Write.contents c.args.err.now) (g.E.Write.contents c.scan_listed.new.err) (g.F.Replace.handed c.args.files.now)

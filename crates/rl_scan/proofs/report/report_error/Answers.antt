@@ -11,7 +11,7 @@ returns g c = record {
   found = refl;
   count = refl;
   rules = c.new-2.ensures.items;
-  errors = rw c.into_bytes.ensures.value (error_reported c.args.path.now c.args.error _ _ _ _ c.in_ok-hint.ensures
+  errors = rw c.into_bytes.ensures.value (error_reported c.args.lacks_find c.args.path.now c.args.error _ _ _ _ c.in_ok-hint.ensures
       (IsUtf8-string_bytes c.push_visible.new.out) c.in_ok-errors.ensures.ok c.in_ok-push_visible.ensures
       c.in_ok-writeln.ensures.bytes);
 }

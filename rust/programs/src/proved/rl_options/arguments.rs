@@ -7,11 +7,11 @@ use crate::rl_options::argument_error::ArgumentError;
 use crate::rl_options::command::{Action, Command, Output, PlaceForm};
 use crate::rl_options::conflicts::clash_of;
 use crate::rl_options::flags::{
-    Effect, Next, Operand, When, add_option, after_front, count_of, edition_of, form_in, form_when,
-    format_of, generated_of, has_more_than_extension, has_other_mark, macros_of, matches_nothing,
-    next_after, operand_of, recolored, when_of,
+    Effect, Next, Operand, When, after_front, contradiction, count_of, edition_of, form_in,
+    form_when, format_of, generated_of, has_more_than_extension, has_other_mark, macros_of,
+    matches_nothing, operand_of, recolored, set_flag, when_of,
 };
-use crate::rl_options::table::{effect_of, effect_of_letter, joined_of, meant_by};
+use crate::rl_options::table::{effect_of, effect_of_letter, expected_by, joined_of, meant_by};
 use crate::rl_files::{Selection, escaped_non_utf8_path, visible_text};
 use crate::rl_output::{Matching, Shown, Spelling, list_contains};
 use crate::rl_restyle::{default_style, option_part};
@@ -64,24 +64,15 @@ fn is_path_after(next: Next, word: &str) -> bool {
     }
 }
 
-/// Returns the error of an option that is the last argument, and whose value is missing. `operand` is the kind of value.
-fn missing<A: Allocator>(operand: Operand) -> ArgumentError<A> {
-    match operand {
-        Operand::Kinds => ArgumentError::NoKinds,
-        Operand::Text => ArgumentError::NoText,
-        Operand::Color => ArgumentError::NoColor,
-        Operand::Extension => ArgumentError::NoExtension,
-        Operand::Pattern => ArgumentError::NoPattern,
-        Operand::List => ArgumentError::NoList,
-        Operand::Edition => ArgumentError::NoEdition,
-        Operand::Format => ArgumentError::NoFormat,
-        Operand::Around | Operand::Before | Operand::After => ArgumentError::NoCount,
-        Operand::Style => ArgumentError::NoStyle,
-        Operand::Rule => ArgumentError::NoRule,
-        Operand::Macros => ArgumentError::NoMacros,
-        Operand::Allowed => ArgumentError::NoAllowed,
-        Operand::Generated => ArgumentError::NoGenerated,
-    }
+/// Returns the error of an unknown value. `part` is the value, or its unknown part, and `operand` is the kind of value.
+fn unknown_value<A: Allocator>(
+    alloc: A,
+    operand: Operand,
+    part: &str,
+) -> Result<ArgumentError<A>, AllocError> {
+    let (name, expected) = expected_by(operand);
+    let part = visible_text(alloc, part)?;
+    Ok(ArgumentError::UnknownValue(part, name, expected))
 }
 
 /// Returns the error for an argument that isn't an option. If the part before `=` is an option, the error is that the option has no
@@ -111,7 +102,7 @@ fn unknown_letter<A: Allocator + Copy>(
 }
 
 /// Returns a file extension without the dot at its start, if there is one.
-fn strip_dot_slash(text: &str) -> &str {
+fn without_dot(text: &str) -> &str {
     match after_front(".", text) {
         Some(extension) => extension,
         None => text,
@@ -146,6 +137,19 @@ fn operand_wanted(wanted: Next) -> Option<Operand> {
     }
 }
 
+/// Whether the values of an option are collected, and the option may be repeated. `operand` is the kind of value.
+fn is_collected(operand: Operand) -> bool {
+    matches!(
+        operand,
+        Operand::Text
+            | Operand::Extension
+            | Operand::Pattern
+            | Operand::List
+            | Operand::Rule
+            | Operand::Allowed
+    )
+}
+
 impl<'a, A: Allocator + Copy> ParsedArguments<'a, A> {
     /// Adds a path to read to the parsed arguments.
     fn take_path(&mut self, alloc: A, word: &str) -> Result<(), AllocError> {
@@ -153,161 +157,82 @@ impl<'a, A: Allocator + Copy> ParsedArguments<'a, A> {
         Ok(())
     }
 
-    /// Sets the kinds of literals that are printed to a list of kinds.
-    fn take_kinds(&mut self, alloc: A, list: &'a str) -> Result<(), ArgumentError<A>> {
-        if let Some(word) = unknown_kind(list) {
-            return Err(ArgumentError::UnknownKind(visible_text(alloc, word)?));
+    /// Sets the property of the command that the value `text` of an option determines. The values of the option aren't collected.
+    /// `has_colors` is true if the output accepts colours.
+    ///
+    /// # Errors
+    ///
+    /// Returns the value if it is unknown, or the first unknown word of a list of kinds.
+    fn set_value(
+        &mut self,
+        has_colors: bool,
+        operand: Operand,
+        text: &'a str,
+    ) -> Result<(), &'a str> {
+        let command = &mut self.command;
+        match operand {
+            Operand::Kinds => match unknown_kind(text) {
+                Some(word) => return Err(word),
+                None => command.shown = Shown::Only(text),
+            },
+            Operand::Color => {
+                let form = form_when(has_colors, when_of(text).ok_or(text)?);
+                command.form = recolored(command.form, form);
+            }
+            Operand::Format => {
+                let format = format_of(text).ok_or(text)?;
+                command.form = form_in(has_colors, command.form, format);
+            }
+            Operand::Edition => command.edition = Some(edition_of(text).ok_or(text)?),
+            Operand::Around => command.around = Some(count_of(text).ok_or(text)?),
+            Operand::Before => command.before = Some(count_of(text).ok_or(text)?),
+            Operand::After => command.after = Some(count_of(text).ok_or(text)?),
+            Operand::Style => command.style = Some(text),
+            Operand::Macros => command.macros = Some(macros_of(text).ok_or(text)?),
+            Operand::Generated => {
+                command.action = Action::Generate(generated_of(text).ok_or(text)?);
+            }
+            _ => {}
         }
-        self.command.shown = Shown::Only(list);
         Ok(())
     }
 
-    /// Adds a text to search for to the parsed arguments.
-    fn take_text(&mut self, text: &'a str) -> Result<(), ArgumentError<A>> {
-        if text.is_empty() {
-            return Err(ArgumentError::EmptyText);
-        }
-        self.command.searches = true;
-        match self.finds.push(text) {
-            Ok(()) => Ok(()),
-            Err(_) => Err(ArgumentError::Memory),
-        }
-    }
-
-    /// Sets whether lines have colours, from the value of `--color`. `has_colors` is true if the output accepts colours.
-    fn take_color(&mut self, alloc: A, has_colors: bool, word: &str) -> Result<(), ArgumentError<A>> {
-        let Some(when) = when_of(word) else {
-            return Err(ArgumentError::UnknownColor(visible_text(alloc, word)?));
-        };
-        self.command.form = recolored(self.command.form, form_when(has_colors, when));
-        Ok(())
-    }
-
-    /// Sets the edition of Rust, from the value of `--edition`.
-    fn take_edition(&mut self, alloc: A, word: &str) -> Result<(), ArgumentError<A>> {
-        let Some(edition) = edition_of(word) else {
-            return Err(ArgumentError::UnknownEdition(visible_text(alloc, word)?));
-        };
-        self.command.edition = Some(edition);
-        Ok(())
-    }
-
-    /// Sets the format of lines, from the value of `--format`. `has_colors` is true if the output accepts colours.
-    fn take_format(
+    /// Adds the value `text` of an option to the values that are collected for it.
+    fn collect_value(
         &mut self,
         alloc: A,
-        has_colors: bool,
-        word: &str,
+        operand: Operand,
+        text: &'a str,
     ) -> Result<(), ArgumentError<A>> {
-        let Some(format) = format_of(word) else {
-            return Err(ArgumentError::UnknownFormat(visible_text(alloc, word)?));
-        };
-        self.command.form = form_in(has_colors, self.command.form, format);
-        Ok(())
-    }
-
-    /// Sets the number of lines of context on both sides, from the value of `--context`.
-    fn take_around(&mut self, alloc: A, word: &str) -> Result<(), ArgumentError<A>> {
-        let Some(count) = count_of(word) else {
-            return Err(ArgumentError::UnknownCount(visible_text(alloc, word)?));
-        };
-        self.command.around = Some(count);
-        Ok(())
-    }
-
-    /// Sets the number of lines of context before a line, from the value of `--before-context`.
-    fn take_before(&mut self, alloc: A, word: &str) -> Result<(), ArgumentError<A>> {
-        let Some(count) = count_of(word) else {
-            return Err(ArgumentError::UnknownCount(visible_text(alloc, word)?));
-        };
-        self.command.before = Some(count);
-        Ok(())
-    }
-
-    /// Sets the number of lines of context after a line, from the value of `--after-context`.
-    fn take_after(&mut self, alloc: A, word: &str) -> Result<(), ArgumentError<A>> {
-        let Some(count) = count_of(word) else {
-            return Err(ArgumentError::UnknownCount(visible_text(alloc, word)?));
-        };
-        self.command.after = Some(count);
-        Ok(())
-    }
-
-    /// Sets the file with the rules of a style, from the value of `--style`.
-    fn take_style(&mut self, file: &'a str) -> Result<(), ArgumentError<A>> {
-        self.command.style = Some(file);
-        Ok(())
-    }
-
-    /// Adds a rule of a style, from the value of `--rule`.
-    fn take_setting(&mut self, setting: &'a str) -> Result<(), ArgumentError<A>> {
-        self.command.sets_rules = true;
-        match self.settings.push(setting) {
-            Ok(()) => Ok(()),
-            Err(_) => Err(ArgumentError::Memory),
-        }
-    }
-
-    /// Adds the identifier of findings that aren't shown, or the number of a character, from the value of `--allow`.
-    fn take_allowed(&mut self, id: &'a str) -> Result<(), ArgumentError<A>> {
-        self.command.allows = true;
-        match self.allowed.push(id) {
-            Ok(()) => Ok(()),
-            Err(_) => Err(ArgumentError::Memory),
-        }
-    }
-
-    /// Sets whether literals in macro code are treated as all others, from the value of `--macros`.
-    fn take_macros(&mut self, alloc: A, word: &str) -> Result<(), ArgumentError<A>> {
-        let Some(macros) = macros_of(word) else {
-            return Err(ArgumentError::UnknownMacros(visible_text(alloc, word)?));
-        };
-        self.command.macros = Some(macros);
-        Ok(())
-    }
-
-    /// Sets the text for another program to print, from the value of `--generate`.
-    fn take_generated(&mut self, alloc: A, word: &str) -> Result<(), ArgumentError<A>> {
-        let Some(which) = generated_of(word) else {
-            return Err(ArgumentError::UnknownGenerated(visible_text(alloc, word)?));
-        };
-        self.command.action = Action::Generate(which);
-        Ok(())
-    }
-
-    /// Adds a file extension to read, from the value of `--extension`.
-    fn take_extension(&mut self, alloc: A, text: &'a str) -> Result<(), ArgumentError<A>> {
-        if has_more_than_extension(text) {
-            return Err(ArgumentError::UnknownExtension(visible_text(alloc, text)?));
-        }
-        match self.extensions.push(strip_dot_slash(text)) {
-            Ok(()) => Ok(()),
-            Err(_) => Err(ArgumentError::Memory),
-        }
-    }
-
-    /// Adds a pattern of paths that aren't read, from the value of `--exclude`.
-    fn take_pattern(&mut self, alloc: A, pattern: &'a str) -> Result<(), ArgumentError<A>> {
-        if pattern.is_empty() {
-            return Err(ArgumentError::EmptyPattern);
-        }
-        if has_other_mark(pattern) {
-            return Err(ArgumentError::OtherPattern(visible_text(alloc, pattern)?));
-        }
-        if matches_nothing(pattern) {
-            return Err(ArgumentError::UselessPattern(visible_text(alloc, pattern)?));
-        }
-        match self.excludes.push(pattern) {
-            Ok(()) => Ok(()),
-            Err(_) => Err(ArgumentError::Memory),
-        }
-    }
-
-    /// Adds a file that lists paths, from the value of `--files-from`.
-    fn take_list(&mut self, file: &'a str) -> Result<(), ArgumentError<A>> {
-        match self.lists.push(file) {
-            Ok(()) => Ok(()),
-            Err(_) => Err(ArgumentError::Memory),
+        match operand {
+            Operand::Text | Operand::Pattern if text.is_empty() => {
+                Err(ArgumentError::EmptyValue(expected_by(operand).0))
+            }
+            Operand::Text => {
+                self.command.searches = true;
+                Ok(self.finds.push(text)?)
+            }
+            Operand::Extension if has_more_than_extension(text) => {
+                Err(unknown_value(alloc, operand, text)?)
+            }
+            Operand::Extension => Ok(self.extensions.push(without_dot(text))?),
+            Operand::Pattern if has_other_mark(text) => {
+                Err(ArgumentError::OtherPattern(visible_text(alloc, text)?))
+            }
+            Operand::Pattern if matches_nothing(text) => {
+                Err(ArgumentError::UselessPattern(visible_text(alloc, text)?))
+            }
+            Operand::Pattern => Ok(self.excludes.push(text)?),
+            Operand::List => Ok(self.lists.push(text)?),
+            Operand::Rule => {
+                self.command.sets_rules = true;
+                Ok(self.settings.push(text)?)
+            }
+            Operand::Allowed => {
+                self.command.allows = true;
+                Ok(self.allowed.push(text)?)
+            }
+            _ => Ok(()),
         }
     }
 
@@ -321,33 +246,28 @@ impl<'a, A: Allocator + Copy> ParsedArguments<'a, A> {
         text: &'a str,
     ) -> Result<(), ArgumentError<A>> {
         self.next = Next::Any;
-        match operand {
-            Operand::Kinds => self.take_kinds(alloc, text),
-            Operand::Text => self.take_text(text),
-            Operand::Color => self.take_color(alloc, has_colors, text),
-            Operand::Extension => self.take_extension(alloc, text),
-            Operand::Pattern => self.take_pattern(alloc, text),
-            Operand::List => self.take_list(text),
-            Operand::Edition => self.take_edition(alloc, text),
-            Operand::Format => self.take_format(alloc, has_colors, text),
-            Operand::Around => self.take_around(alloc, text),
-            Operand::Before => self.take_before(alloc, text),
-            Operand::After => self.take_after(alloc, text),
-            Operand::Style => self.take_style(text),
-            Operand::Rule => self.take_setting(text),
-            Operand::Macros => self.take_macros(alloc, text),
-            Operand::Allowed => self.take_allowed(text),
-            Operand::Generated => self.take_generated(alloc, text),
+        if is_collected(operand) {
+            return self.collect_value(alloc, operand, text);
+        }
+        match self.set_value(has_colors, operand, text) {
+            Ok(()) => Ok(()),
+            Err(part) => Err(unknown_value(alloc, operand, part)?),
         }
     }
 
     /// Adds an option to the parsed arguments, and determines what the next argument may be.
     fn take_effect(&mut self, effect: Effect) -> Result<(), ArgumentError<A>> {
-        match add_option(self.command, effect) {
-            Ok(command) => self.command = command,
-            Err(error) => return Err(error),
+        if let Some(error) = contradiction(self.command, effect) {
+            return Err(error);
         }
-        self.next = next_after(effect);
+        match effect {
+            Effect::Sets(flag) => {
+                set_flag(&mut self.command, flag);
+                self.next = Next::Any;
+            }
+            Effect::Takes(operand) => self.next = Next::Operand(operand),
+            Effect::EndsOptions => self.next = Next::Path,
+        }
         Ok(())
     }
 
@@ -360,9 +280,9 @@ impl<'a, A: Allocator + Copy> ParsedArguments<'a, A> {
         operand: Operand,
         text: &'a str,
     ) -> Result<(), ArgumentError<A>> {
-        match add_option(self.command, Effect::Takes(operand)) {
-            Ok(_) => self.take_operand(alloc, has_colors, operand, text),
-            Err(error) => Err(error),
+        match contradiction(self.command, Effect::Takes(operand)) {
+            Some(error) => Err(error),
+            None => self.take_operand(alloc, has_colors, operand, text),
         }
     }
 
@@ -489,8 +409,8 @@ fn first_command<'a>(has_colors: bool) -> Command<'a> {
 ///
 /// # Errors
 ///
-/// Returns the error of the first invalid argument. After the last argument, it returns an error if that argument is an option
-/// without its value, as `NoKinds`. Then it returns an error if options contradict each other: `TextlessKinds`, `ObjectsOfPaths`,
+/// Returns the error of the first invalid argument. After the last argument, it returns `MissingValue` if that argument is an option
+/// without its value. Then it returns an error if options contradict each other: `TextlessKinds`, `ObjectsOfPaths`,
 /// `StatsOfPaths`, `NoEffect`, `InputTwice` or `TwoStyles`. Then it returns an error if a value of `--allow` has no effect in the
 /// command's mode: `UnclosedAllowed` or `UnknownAllowed`.
 pub fn parse_arguments<A: Allocator + Copy>(
@@ -516,7 +436,8 @@ pub fn parse_arguments<A: Allocator + Copy>(
         }
     }
     if let Some(operand) = operand_wanted(asked.next) {
-        return Err(missing(operand));
+        let (name, expected) = expected_by(operand);
+        return Err(ArgumentError::MissingValue(name, expected));
     }
     if let Some(error) = clash_of(&asked) {
         return Err(error);

@@ -47,7 +47,8 @@ fn prints_no_objects(command: Command<'_>) -> bool {
 }
 
 /// Returns the first error of options that contradict the requested output, or `None`.
-fn printing_clash<A: Allocator>(command: Command<'_>) -> Option<ArgumentError<A>> {
+fn printing_clash<A: Allocator>(asked: &ParsedArguments<'_, A>) -> Option<ArgumentError<A>> {
+    let command = asked.command;
     if command.searches && !may_hold(command.shown) {
         return Some(ArgumentError::TextlessKinds);
     }
@@ -61,14 +62,10 @@ fn printing_clash<A: Allocator>(command: Command<'_>) -> Option<ArgumentError<A>
 }
 
 /// Returns the error of the first option that has no effect in the command's mode, or `None`.
-fn mode_clash<A: Allocator>(command: Command<'_>) -> Option<ArgumentError<A>> {
-    match without_effect(command) {
-        Some((name, modes)) => {
-            let mode = mode_words(mode_of(command));
-            Some(ArgumentError::NoEffect(name, mode, modes_hint(modes)))
-        }
-        None => None,
-    }
+fn mode_clash<A: Allocator>(asked: &ParsedArguments<'_, A>) -> Option<ArgumentError<A>> {
+    let (name, modes) = without_effect(asked.command)?;
+    let mode = mode_words(mode_of(asked.command));
+    Some(ArgumentError::NoEffect(name, mode, modes_hint(modes)))
 }
 
 /// Whether a path is `-`, which is standard input.
@@ -112,10 +109,10 @@ fn has_two_styles(command: Command<'_>) -> bool {
 
 /// Returns the first error of options that contradict each other, or `None`.
 pub(crate) fn clash_of<A: Allocator>(asked: &ParsedArguments<'_, A>) -> Option<ArgumentError<A>> {
-    if let Some(error) = printing_clash(asked.command) {
+    if let Some(error) = printing_clash(asked) {
         return Some(error);
     }
-    if let Some(error) = mode_clash(asked.command) {
+    if let Some(error) = mode_clash(asked) {
         return Some(error);
     }
     if reads_input_twice(asked) {

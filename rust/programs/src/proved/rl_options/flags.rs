@@ -37,7 +37,7 @@ pub(crate) enum Flag {
 }
 
 /// The kind of value that an option has. The value is the next argument, or is in the option's own argument after `=`.
-#[derive(Clone, Copy)]
+#[derive(Clone, Copy, PartialEq, Eq)]
 pub(crate) enum Operand {
     /// A list of kinds of literals.
     Kinds,
@@ -120,18 +120,8 @@ pub(crate) fn after_front<'w>(front: &str, word: &'w str) -> Option<&'w str> {
     word.strip_prefix(front)
 }
 
-/// Whether an option may be added to the command: `--bad`, `--invisible` and `--only` only if the command has none of them.
-fn chooses_once(command: Command<'_>, effect: Effect) -> bool {
-    match effect {
-        Effect::Sets(Flag::Bad | Flag::Hidden) | Effect::Takes(Operand::Kinds) => {
-            matches!(command.shown, Shown::All)
-        }
-        _ => true,
-    }
-}
-
 /// Adds the option `flag` to the command.
-fn set_flag(command: &mut Command<'_>, flag: Flag) {
+pub(crate) fn set_flag(command: &mut Command<'_>, flag: Flag) {
     match flag {
         Flag::Bad => command.shown = Shown::Bad,
         Flag::Hidden => command.shown = Shown::Hidden,
@@ -160,60 +150,28 @@ fn set_flag(command: &mut Command<'_>, flag: Flag) {
     }
 }
 
-/// Adds an option to the command. The value of an option is added by another function.
-fn set_effect(command: &mut Command<'_>, effect: Effect) {
-    match effect {
-        Effect::Sets(flag) => set_flag(command, flag),
-        Effect::Takes(_) | Effect::EndsOptions => {}
-    }
-}
-
-/// Whether an option may be added to the command: `--bad` and `--invisible` can't be combined with `--find`.
-fn goes_with_find(command: Command<'_>, effect: Effect) -> bool {
-    match (effect, command.shown) {
-        (Effect::Sets(Flag::Bad | Flag::Hidden), _) => !command.searches,
-        (Effect::Takes(Operand::Text), Shown::Bad | Shown::Hidden) => false,
-        _ => true,
-    }
-}
-
-/// Whether an option may be added to the command: `--fix`, `--check` and `--diff` only if the command has none of them.
-fn restyles_once(command: Command<'_>, effect: Effect) -> bool {
-    match effect {
-        Effect::Sets(Flag::Fix | Flag::Check | Flag::Diff) => command.restyle.is_none(),
-        _ => true,
-    }
-}
-
-/// Returns the command with an option added.
-///
-/// # Errors
-///
-/// Returns `TwoChoices`, `BadAndFind` or `TwoRestylings` if the option contradicts the command.
-pub(crate) fn add_option<A: Allocator>(
+/// Returns the error of an option that contradicts the earlier options of the command, or `None`.
+pub(crate) fn contradiction<A: Allocator>(
     command: Command<'_>,
     effect: Effect,
-) -> Result<Command<'_>, ArgumentError<A>> {
-    if !chooses_once(command, effect) {
-        return Err(ArgumentError::TwoChoices);
-    }
-    if !goes_with_find(command, effect) {
-        return Err(ArgumentError::BadAndFind);
-    }
-    if !restyles_once(command, effect) {
-        return Err(ArgumentError::TwoRestylings);
-    }
-    let mut next = command;
-    set_effect(&mut next, effect);
-    Ok(next)
-}
-
-/// Returns what the argument after an option may be.
-pub(crate) fn next_after(effect: Effect) -> Next {
-    match effect {
-        Effect::Sets(_) => Next::Any,
-        Effect::Takes(operand) => Next::Operand(operand),
-        Effect::EndsOptions => Next::Path,
+) -> Option<ArgumentError<A>> {
+    match (effect, command.shown) {
+        (Effect::Sets(Flag::Bad | Flag::Hidden), Shown::All) if command.searches => {
+            Some(ArgumentError::BadAndFind)
+        }
+        (Effect::Sets(Flag::Bad | Flag::Hidden) | Effect::Takes(Operand::Kinds), Shown::All) => {
+            None
+        }
+        (Effect::Sets(Flag::Bad | Flag::Hidden) | Effect::Takes(Operand::Kinds), _) => {
+            Some(ArgumentError::TwoChoices)
+        }
+        (Effect::Takes(Operand::Text), Shown::Bad | Shown::Hidden) => {
+            Some(ArgumentError::BadAndFind)
+        }
+        (Effect::Sets(Flag::Fix | Flag::Check | Flag::Diff), _) if command.restyle.is_some() => {
+            Some(ArgumentError::TwoRestylings)
+        }
+        _ => None,
     }
 }
 

@@ -1,97 +1,22 @@
 // Rendered from crates/rl_options/src/help.rt by tools/render, which erases contracts: change that file, and render again.
 //! The output of `--help`, `--version` and `--rules`.
 
-/// The output of `rl_scan --help`.
-pub const HELP: &str = "usage: rl_scan [OPTIONS] [PATH..]
+use crate::rattle_std::prelude::{String};
+use crate::rl_options::table::rows;
+use crate::rattle_std::alloc::{AllocError, Allocator};
+
+/// The start of the output of `rl_scan --help`. The lines of the options follow.
+const INTRODUCTION: &str = "usage: rl_scan [OPTIONS] [PATH..]
 Prints the literals of Rust source files, or the errors in them.
 
 A PATH is a file or a directory. In a directory, rl_scan reads the *.rs files,
 sorted by their paths. It skips hidden files and directories, and `target`
 beside a Cargo.toml, and doesn't follow symbolic links. `-` is standard input.
 Without a PATH and --files-from, rl_scan reads standard input if that is a file,
-a pipe or a socket. Otherwise, or with --files, it reads the current directory.
+a pipe or a socket. Otherwise, or with --files, it reads the current directory.";
 
-Modes: one at most, except --find with --only
-      --bad            print the literals that Rust rejects, and unclosed quotes
-                       and comments
-      --invisible      print invisible and bidirectional characters, anywhere in
-                       a file
-      --only KIND,..   print the literals of these kinds: Str ByteStr CStr Byte
-                       Char Int Float Bool Verbatim, in any case
-  -e, --find TEXT      print the string, character and byte literals whose value
-                       contains TEXT; may be repeated
-      --fix            rewrite files in a style, and print how many literals of
-                       each file changed; for standard input, print the
-                       rewritten source
-      --check          print the changes that --fix would make
-      --diff           print these changes as a unified diff
-
-Options of these modes: --check and --diff take those of --fix
-      --any-suffix     for --bad: accept any suffix, and numbers out of range,
-                       as macros do
-      --no-stray       for --bad, --only, --find and without a mode: a stray
-                       character, at which no token begins, is an error
-      --edition YEAR   for --bad and --fix: the edition whose reserved prefixes
-                       are errors: 2015, 2018, 2021 (default) or 2024
-      --allow ID       for --bad and --invisible: print no findings with the id
-                       ID, which --json prints; for --invisible, ID may also be
-                       a character, such as U+200B; may be repeated
-  -i, --ignore-case    for --find: ignore the case of ASCII letters
-  -w, --word           for --find: match only whole words
-      --style FILE     for --fix: rewrite by the rules in FILE; without it, drop
-                       needless escapes of quotes and needless hashes, and write
-                       1e5 for 1E5
-      --rule RULE      for --fix: rewrite by this rule of --rules; RULE is
-                       NAME=VALUE, or NAME for NAME=true; may be repeated
-      --macros WHICH   skip or all: with skip, the default, --fix leaves
-                       literals in macro calls, macro_rules! and attributes
-                       unchanged, and --bad doesn't check their suffixes and
-                       ranges
-
-Files:
-      --all            also read hidden files and directories, and `target`
-      --extension EXT  in directories, read *.EXT instead of *.rs; may be
-                       repeated
-      --exclude GLOB   in directories, skip what GLOB matches, as in .gitignore,
-                       with *, ?, ** and / only; may be repeated
-      --files-from FILE
-                       also read the paths in FILE, which end with line ends, or
-                       with NUL; `-` is standard input; may be repeated
-      --files          print the paths of the files that would be read, and read
-                       none
-
-Output:
-      --lines          print positions as LINE:COLUMN, the default for files
-      --bytes          print byte ranges LO..HI, the default for standard input
-      --text           print literals as written
-      --json           print one JSON object per finding
-      --format FORM    text; json, as --json; or github, for annotations
-  -C, --context NUM    show the source line, and NUM lines before and after it
-  -B, --before-context NUM
-                       show the source line, and NUM lines before it
-  -A, --after-context NUM
-                       show the source line, and NUM lines after it
-      --color WHEN     auto, always or never; auto means on a terminal, unless
-                       NO_COLOR is set and not empty, or TERM is dumb
-  -c, --count          print the number of findings of each file that has some
-  -l, --files-with-matches
-                       print the path of each file that has findings
-  -Z, --null           end the paths of -c, -l and --files with NUL
-  -q, --quiet          print no findings; errors, totals and the output of --fix
-                       for standard input are still printed
-      --no-messages    print no errors and no warnings of files; the exit status
-                       stays the same
-      --stats          print totals at the end: files read, files with findings,
-                       findings, and files with an error; for --fix, also how
-                       many literals each rule changes
-      --               every argument that follows is a PATH
-      --rules          print the rules of a style, with values and examples
-      --generate WHAT  man, bash, zsh, fish, sarif-jq or problem-matcher: print
-                       the manual page, the completions for this shell, a jq
-                       program that makes SARIF of --json, or a file with
-                       problem matchers for GitHub
-  -h, --help           print this help
-  -V, --version        print the version
+/// The end of the output of `rl_scan --help`, after the lines of the options.
+const CLOSING: &str = "
 
 Lines:
   PATH:LINE:COLUMN: KIND VALUE SUFFIX
@@ -213,4 +138,25 @@ escape_invisible = true or false
 /// Returns the output of `rl_scan --rules`: the rules of a style, each with its values, its meaning and an example.
 pub fn rules_page() -> &'static str {
     RULES_PAGE
+}
+
+/// Appends the lines of `--help` for each option of the table.
+fn push_option_lines<A: Allocator>(page: &mut String<A>) -> Result<(), AllocError> {
+    for row in rows() {
+        page.push_str(row.help)?;
+    }
+    Ok(())
+}
+
+/// Returns the output of `rl_scan --help`: the introduction, the lines of each option in the order of the table, and the closing
+/// parts.
+///
+/// # Errors
+///
+/// Returns an error if an allocation fails.
+pub fn help_page<A: Allocator>(alloc: A) -> Result<String<A>, AllocError> {
+    let mut page = String::from_str(alloc, INTRODUCTION)?;
+    push_option_lines(&mut page)?;
+    page.push_str(CLOSING)?;
+    Ok(page)
 }

@@ -2,6 +2,8 @@
 //! Suggests what a path that doesn't exist was likely meant to be: an option, or a text to search for.
 
 use crate::rattle_std::prelude::{String, format};
+use crate::rl_options::command::Command;
+use crate::rl_options::modes::{Mode, mode_of};
 use crate::rl_options::table::effect_of;
 use crate::rattle_std::alloc::{AllocError, Allocator};
 
@@ -21,16 +23,26 @@ fn may_be_text(path: &str) -> bool {
     !bytes.is_empty() && !bytes.contains(&b'/') && !bytes.contains(&b'.')
 }
 
-/// Returns the hint that follows the error of a path that doesn't exist. For most paths it is empty.
+/// Returns `true` if no option of the command selects a mode, and no file lists paths. So a path may be a text to search for.
+pub fn may_lack_find(command: Command<'_>) -> bool {
+    matches!(mode_of(command), Mode::Unselected) && command.files_from.is_empty()
+}
+
+/// Returns the hint that follows the error of a path that doesn't exist. For most paths it is empty. `lacks_find` is true if the
+/// path may be a text to search for.
 ///
 /// # Errors
 ///
 /// Returns an error if an allocation fails.
-pub fn path_hint<A: Allocator + Copy>(alloc: A, path: &str) -> Result<String<A>, AllocError> {
+pub fn path_hint<A: Allocator + Copy>(
+    alloc: A,
+    lacks_find: bool,
+    path: &str,
+) -> Result<String<A>, AllocError> {
     if is_bare_option(alloc, path)? {
         return format!(in alloc; ": did you mean --{path}?");
     }
-    if may_be_text(path) {
+    if lacks_find && may_be_text(path) {
         return String::from_str(alloc, ": to search for a text, use --find TEXT");
     }
     Ok(String::new(alloc))

@@ -22,6 +22,6 @@ pub use crate::rl_options::command::{
 };
 pub use crate::rl_options::conflicts::{asks_context, lists_files};
 pub use crate::rl_options::generated::generated_text;
-pub use crate::rl_options::help::{HELP, VERSION, rules_page};
-pub use crate::rl_options::hints::path_hint;
+pub use crate::rl_options::help::{VERSION, help_page, rules_page};
+pub use crate::rl_options::hints::{may_lack_find, path_hint};
 pub use crate::rl_options::rules::{LineError, RulesError, read_rules_file, style_of_settings};

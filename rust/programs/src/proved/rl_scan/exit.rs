@@ -7,8 +7,8 @@ use crate::rl_files::{
     PathError, Replace, Selection, Tree, Walk, WalkError, push_listed_paths, visible_text,
 };
 use crate::rl_options::{
-    Action, ArgumentError, Command, Console, HELP, LineError, ParsedArguments, Restyling,
-    RulesError, VERSION, generated_text, lists_files, parse_arguments, read_rules_file, rules_page,
+    Action, ArgumentError, Command, Console, LineError, ParsedArguments, Restyling, RulesError,
+    VERSION, generated_text, help_page, lists_files, parse_arguments, read_rules_file, rules_page,
     style_of_settings,
 };
 use crate::rl_program::{Ending, RunError, WriteError, write_bytes};
@@ -391,7 +391,10 @@ fn answer<A: Allocator + Copy, T: Tree, W: Write, E: Write, F: Replace>(
     files: &mut F,
 ) -> Ending<CallError<A>> {
     match asked.command.action {
-        Action::Help => write_text(out, HELP),
+        Action::Help => match help_page(alloc) {
+            Ok(page) => write_text(out, page.as_str()),
+            Err(_) => out_of_memory_ending(),
+        },
         Action::Version => write_text(out, VERSION),
         Action::Rules => write_text(out, rules_page()),
         Action::Generate(which) => write_text(out, generated_text(which)),

@@ -26,8 +26,8 @@ pub use crate::rl_scan::runs::{RunStop, Tally, run};
 pub use crate::rl_scan::visit_report::report_of;
 use crate::rl_files::Host;
 pub use crate::rl_options::{
-    Action, ArgumentError, Command, Console, HELP, LineError, Macros, Output, PlaceForm, Restyling,
-    VERSION,
+    Action, ArgumentError, Command, Console, LineError, Macros, Output, PlaceForm, Restyling,
+    VERSION, help_page,
 };
 use crate::rl_program::finish;
 use crate::rattle_std::alloc::Global;

@@ -4,7 +4,7 @@
 use crate::rl_scan::report::{Report, report_error, report_listed, report_text};
 use crate::rl_scan::restyling::report_restyled;
 use crate::rl_files::{PathError, Replace, Tree, Visit};
-use crate::rl_options::{Command, lists_files};
+use crate::rl_options::{Command, lists_files, may_lack_find};
 use crate::rattle_std::alloc::{AllocError, Allocator};
 
 /// Returns the output for the source `text`. Its literals are rewritten if the command requests it.
@@ -31,7 +31,12 @@ fn report_bytes<A: Allocator + Copy, F: Replace>(
 ) -> Result<Report<A>, AllocError> {
     match crate::rattle_std::str::from_utf8(bytes) {
         Ok(text) => report_wanted(alloc, command, files, path, text),
-        Err(error) => report_error(alloc, path, PathError::NotUtf8(error.valid_up_to())),
+        Err(error) => report_error(
+            alloc,
+            may_lack_find(command),
+            path,
+            PathError::NotUtf8(error.valid_up_to()),
+        ),
     }
 }
 
@@ -45,11 +50,11 @@ fn report_file<A: Allocator + Copy, T: Tree, F: Replace>(
 ) -> Result<Report<A>, AllocError> {
     let bytes = match tree.bytes(alloc, path) {
         Ok(bytes) => bytes,
-        Err(error) => return report_error(alloc, path, error),
+        Err(error) => return report_error(alloc, may_lack_find(command), path, error),
     };
     match report_bytes(alloc, command, files, path, bytes.as_slice()) {
         Ok(report) => Ok(report),
-        Err(_) => report_error(alloc, path, PathError::OutOfMemory),
+        Err(_) => report_error(alloc, may_lack_find(command), path, PathError::OutOfMemory),
     }
 }
 
@@ -73,6 +78,11 @@ pub fn report_of<A: Allocator + Copy, T: Tree, F: Replace>(
             report_listed(alloc, command, path.as_str())
         }
         Visit::File(path) => report_file(alloc, command, tree, files, path.as_str()),
-        Visit::Failed(path, error) => report_error(alloc, path.as_str(), *error),
+        Visit::Failed(path, error) => report_error(
+            alloc,
+            may_lack_find(command),
+            path.as_str(),
+            *error,
+        ),
     }
 }
