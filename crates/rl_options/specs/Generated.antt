@@ -11,17 +11,17 @@ man_text =
 -- The completions for bash.
 unfoldable pub bash_text : List ℕ
 bash_text =
-    codes "_rl_scan() {\n    local word=${COMP_WORDS[COMP_CWORD]} before=${COMP_WORDS[COMP_CWORD - 1]} at\n    # bash cuts --option=word in three\n    if [[ $word == \"=\" ]]; then\n        word=\n    elif [[ $before == \"=\" ]]; then\n        before=${COMP_WORDS[COMP_CWORD - 2]}\n    fi\n    for ((at = 1; at < COMP_CWORD; at++)); do\n        if [[ ${COMP_WORDS[at]} == -- ]]; then\n            mapfile -t COMPREPLY < <(compgen -f -- \"$word\")\n            return\n        fi\n    done\n    case $before in\n    --only) at=; [[ $word == *,* ]] && at=${word%,*},; mapfile -t COMPREPLY < <(compgen -W \"Str ByteStr CStr Byte Char Int Float Bool Verbatim\" -P \"$at\" -- \"${word##*,}\"); return ;;\n    -e|--find) mapfile -t COMPREPLY < <(compgen -W \"\" -- \"$word\"); return ;;\n    --edition) mapfile -t COMPREPLY < <(compgen -W \"2015 2018 2021 2024\" -- \"$word\"); return ;;\n    --allow) mapfile -t COMPREPLY < <(compgen -W \"\" -- \"$word\"); return ;;\n    --style) mapfile -t COMPREPLY < <(compgen -f -- \"$word\"); return ;;\n    --rule) mapfile -t COMPREPLY < <(compgen -W \"\" -- \"$word\"); return ;;\n    --macros) mapfile -t COMPREPLY < <(compgen -W \"skip all\" -- \"$word\"); return ;;\n    --extension) mapfile -t COMPREPLY < <(compgen -W \"\" -- \"$word\"); return ;;\n    --exclude) mapfile -t COMPREPLY < <(compgen -W \"\" -- \"$word\"); return ;;\n    --files-from) mapfile -t COMPREPLY < <(compgen -f -- \"$word\"); return ;;\n    --format) mapfile -t COMPREPLY < <(compgen -W \"text json github\" -- \"$word\"); return ;;\n    -C|--context) mapfile -t COMPREPLY < <(compgen -W \"\" -- \"$word\"); return ;;\n    -B|--before-context) mapfile -t COMPREPLY < <(compgen -W \"\" -- \"$word\"); return ;;\n    -A|--after-context) mapfile -t COMPREPLY < <(compgen -W \"\" -- \"$word\"); return ;;\n    --color) mapfile -t COMPREPLY < <(compgen -W \"auto always never\" -- \"$word\"); return ;;\n    --generate) mapfile -t COMPREPLY < <(compgen -W \"man bash zsh fish sarif-jq problem-matcher\" -- \"$word\"); return ;;\n    esac\n    if [[ $word == -* ]]; then\n        mapfile -t COMPREPLY < <(compgen -W \"--bad --invisible --only -e --find --fix --check --diff --any-suffix --no-stray --edition --allow -i --ignore-case -w --word --style --rule --macros --all --extension --exclude --files-from --files --lines --bytes --text --json --format -C --context -B --before-context -A --after-context --color -c --count -l --files-with-matches -Z --null -q --quiet --no-messages --stats -- --rules --generate -h --help -V --version\" -- \"$word\")\n    else\n        mapfile -t COMPREPLY < <(compgen -f -- \"$word\")\n    fi\n}\ncomplete -o filenames -F _rl_scan rl_scan\n"
+    codes "_rl_scan() {\n    local word=${COMP_WORDS[COMP_CWORD]} before=${COMP_WORDS[COMP_CWORD - 1]} at\n    # bash cuts --option=word in three\n    if [[ $word == \"=\" ]]; then\n        word=\n    elif [[ $before == \"=\" ]]; then\n        before=${COMP_WORDS[COMP_CWORD - 2]}\n    fi\n    for ((at = 1; at < COMP_CWORD; at++)); do\n        if [[ ${COMP_WORDS[at]} == -- ]]; then\n            mapfile -t COMPREPLY < <(compgen -f -- \"$word\")\n            return\n        fi\n    done\n    case $before in\n    --only) at=; [[ $word == *,* ]] && at=${word%,*},; mapfile -t COMPREPLY < <(compgen -W \"Str ByteStr CStr Byte Char Int Float Bool Verbatim\" -P \"$at\" -- \"${word##*,}\"); return ;;\n    -e|--find) mapfile -t COMPREPLY < <(compgen -W \"\" -- \"$word\"); return ;;\n    --edition) mapfile -t COMPREPLY < <(compgen -W \"2015 2018 2021 2024\" -- \"$word\"); return ;;\n    --allow) mapfile -t COMPREPLY < <(compgen -W \"empty no-literal unfinished no-quote no-number unknown-escape unicode-escape-in-bytes no-hexadecimal-digit no-brace empty-braces too-many-digits past-ascii past-unicode surrogate nul not-ascii must-escape no-character two-characters no-exponent-digit bad-suffix integer-too-large minus too-many-hashes carriage-return early-quote extra-hash underscore-suffix no-digits digit-of-base based-float no-fraction-digit reserved-prefix quoted-suffix unknown-suffix float-suffix out-of-range stray-character bidirectional-character joiner variation-selector control-character invisible-character\" -- \"$word\"); return ;;\n    --style) mapfile -t COMPREPLY < <(compgen -f -- \"$word\"); return ;;\n    --rule) mapfile -t COMPREPLY < <(compgen -W \"hex_digits drop_underscores drop_leading_zeros suffix_separator binary_groups octal_groups decimal_groups hexadecimal_groups min_digits float_zero exponent_letter drop_exponent_plus escape_digits fewest_escape_digits drop_ascii_escapes named_escapes drop_quote_escapes fewest_hashes drop_raw escape_invisible\" -- \"$word\"); return ;;\n    --macros) mapfile -t COMPREPLY < <(compgen -W \"skip all\" -- \"$word\"); return ;;\n    --extension) mapfile -t COMPREPLY < <(compgen -W \"\" -- \"$word\"); return ;;\n    --exclude) mapfile -t COMPREPLY < <(compgen -W \"\" -- \"$word\"); return ;;\n    --files-from) mapfile -t COMPREPLY < <(compgen -f -- \"$word\"); return ;;\n    --format) mapfile -t COMPREPLY < <(compgen -W \"text json github\" -- \"$word\"); return ;;\n    -C|--context) mapfile -t COMPREPLY < <(compgen -W \"\" -- \"$word\"); return ;;\n    -B|--before-context) mapfile -t COMPREPLY < <(compgen -W \"\" -- \"$word\"); return ;;\n    -A|--after-context) mapfile -t COMPREPLY < <(compgen -W \"\" -- \"$word\"); return ;;\n    --color) mapfile -t COMPREPLY < <(compgen -W \"auto always never\" -- \"$word\"); return ;;\n    --generate) mapfile -t COMPREPLY < <(compgen -W \"man bash zsh fish sarif-jq problem-matcher\" -- \"$word\"); return ;;\n    esac\n    if [[ $word == -* ]]; then\n        mapfile -t COMPREPLY < <(compgen -W \"--bad --invisible --only -e --find --fix --check --diff --any-suffix --no-stray --edition --allow -i --ignore-case -w --word --style --rule --macros --all --extension --exclude --files-from --files --lines --bytes --text --json --format -C --context -B --before-context -A --after-context --color -c --count -l --files-with-matches -Z --null -q --quiet --no-messages --stats -- --rules --generate -h --help -V --version\" -- \"$word\")\n    else\n        mapfile -t COMPREPLY < <(compgen -f -- \"$word\")\n    fi\n}\ncomplete -o filenames -F _rl_scan rl_scan\n"
 
 -- The completions for zsh.
 unfoldable pub zsh_text : List ℕ
 zsh_text =
-    codes "#compdef rl_scan\n_arguments -s -S \\\n    '--bad[print the literals that Rust rejects, and unclosed quotes and comments]' \\\n    '--invisible[print invisible and bidirectional characters, anywhere in a file]' \\\n    '--only=[print the literals of these kinds: Str ByteStr CStr Byte Char Int Float Bool Verbatim, in any case]:KIND,..:(Str ByteStr CStr Byte Char Int Float Bool Verbatim)' \\\n    '*-e+[print the string, character and byte literals whose value contains TEXT; may be repeated]:TEXT: ' \\\n    '*--find=[print the string, character and byte literals whose value contains TEXT; may be repeated]:TEXT: ' \\\n    '--fix[rewrite files in a style, and print how many literals of each file changed; for standard input, print the rewritten source]' \\\n    '--check[print the changes that --fix would make]' \\\n    '--diff[print these changes as a unified diff]' \\\n    '--any-suffix[for --bad: accept any suffix, and numbers out of range, as macros do]' \\\n    '--no-stray[for --bad, --only, --find and without a mode: a stray character, at which no token begins, is an error]' \\\n    '--edition=[for --bad and --fix: the edition whose reserved prefixes are errors: 2015, 2018, 2021 (default) or 2024]:YEAR:(2015 2018 2021 2024)' \\\n    '*--allow=[for --bad and --invisible: print no findings with the id ID, which --json prints; for --invisible, ID may also be a character, such as U+200B; may be repeated]:ID: ' \\\n    '-i[for --find: ignore the case of ASCII letters]' \\\n    '--ignore-case[for --find: ignore the case of ASCII letters]' \\\n    '-w[for --find: match only whole words]' \\\n    '--word[for --find: match only whole words]' \\\n    '--style=[for --fix: rewrite by the rules in FILE; without it, drop needless escapes of quotes and needless hashes, and write 1e5 for 1E5]:FILE:_files' \\\n    '*--rule=[for --fix: rewrite by this rule of --rules; RULE is NAME=VALUE, or NAME for NAME=true; may be repeated]:RULE: ' \\\n    '--macros=[skip or all: with skip, the default, --fix leaves literals in macro calls, macro_rules! and attributes unchanged, and --bad doesn'\\''t check their suffixes and ranges]:WHICH:(skip all)' \\\n    '--all[also read hidden files and directories, and `target`]' \\\n    '*--extension=[in directories, read *.EXT instead of *.rs; may be repeated]:EXT: ' \\\n    '*--exclude=[in directories, skip what GLOB matches, as in .gitignore, with *, ?, ** and / only; may be repeated]:GLOB: ' \\\n    '*--files-from=[also read the paths in FILE, which end with line ends, or with NUL; `-` is standard input; may be repeated]:FILE:_files' \\\n    '--files[print the paths of the files that would be read, and read none]' \\\n    '--lines[print positions as LINE:COLUMN, the default for files]' \\\n    '--bytes[print byte ranges LO..HI, the default for standard input]' \\\n    '--text[print literals as written]' \\\n    '--json[print one JSON object per finding]' \\\n    '--format=[text; json, as --json; or github, for annotations]:FORM:(text json github)' \\\n    '-C+[show the source line, and NUM lines before and after it]:NUM: ' \\\n    '--context=[show the source line, and NUM lines before and after it]:NUM: ' \\\n    '-B+[show the source line, and NUM lines before it]:NUM: ' \\\n    '--before-context=[show the source line, and NUM lines before it]:NUM: ' \\\n    '-A+[show the source line, and NUM lines after it]:NUM: ' \\\n    '--after-context=[show the source line, and NUM lines after it]:NUM: ' \\\n    '--color=[auto, always or never; auto means on a terminal, unless NO_COLOR is set and not empty, or TERM is dumb]:WHEN:(auto always never)' \\\n    '-c[print the number of findings of each file that has some]' \\\n    '--count[print the number of findings of each file that has some]' \\\n    '-l[print the path of each file that has findings]' \\\n    '--files-with-matches[print the path of each file that has findings]' \\\n    '-Z[end the paths of -c, -l and --files with NUL]' \\\n    '--null[end the paths of -c, -l and --files with NUL]' \\\n    '-q[print no findings; errors, totals and the output of --fix for standard input are still printed]' \\\n    '--quiet[print no findings; errors, totals and the output of --fix for standard input are still printed]' \\\n    '--no-messages[print no errors and no warnings of files; the exit status stays the same]' \\\n    '--stats[print totals at the end: files read, files with findings, findings, and files with an error; for --fix, also how many literals each rule changes]' \\\n    '--rules[print the rules of a style, with values and examples]' \\\n    '--generate=[man, bash, zsh, fish, sarif-jq or problem-matcher: print the manual page, the completions for this shell, a jq program that makes SARIF of --json, or a file with problem matchers for GitHub]:WHAT:(man bash zsh fish sarif-jq problem-matcher)' \\\n    '-h[print this help]' \\\n    '--help[print this help]' \\\n    '-V[print the version]' \\\n    '--version[print the version]' \\\n    '*:PATH:_files'\n"
+    codes "#compdef rl_scan\n_arguments -s -S \\\n    '--bad[print the literals that Rust rejects, and unclosed quotes and comments]' \\\n    '--invisible[print invisible and bidirectional characters, anywhere in a file]' \\\n    '--only=[print the literals of these kinds: Str ByteStr CStr Byte Char Int Float Bool Verbatim, in any case]:KIND,..:(Str ByteStr CStr Byte Char Int Float Bool Verbatim)' \\\n    '*-e+[print the string, character and byte literals whose value contains TEXT; may be repeated]:TEXT: ' \\\n    '*--find=[print the string, character and byte literals whose value contains TEXT; may be repeated]:TEXT: ' \\\n    '--fix[rewrite files in a style, and print how many literals of each file changed; for standard input, print the rewritten source]' \\\n    '--check[print the changes that --fix would make]' \\\n    '--diff[print these changes as a unified diff]' \\\n    '--any-suffix[for --bad: accept any suffix, and numbers out of range, as macros do]' \\\n    '--no-stray[for --bad, --only, --find and without a mode: a stray character, at which no token begins, is an error]' \\\n    '--edition=[for --bad and --fix: the edition whose reserved prefixes are errors: 2015, 2018, 2021 (default) or 2024]:YEAR:(2015 2018 2021 2024)' \\\n    '*--allow=[for --bad and --invisible: print no findings with the id ID, which --json prints; for --invisible, ID may also be a character, such as U+200B; may be repeated]:ID:(empty no-literal unfinished no-quote no-number unknown-escape unicode-escape-in-bytes no-hexadecimal-digit no-brace empty-braces too-many-digits past-ascii past-unicode surrogate nul not-ascii must-escape no-character two-characters no-exponent-digit bad-suffix integer-too-large minus too-many-hashes carriage-return early-quote extra-hash underscore-suffix no-digits digit-of-base based-float no-fraction-digit reserved-prefix quoted-suffix unknown-suffix float-suffix out-of-range stray-character bidirectional-character joiner variation-selector control-character invisible-character)' \\\n    '-i[for --find: ignore the case of ASCII letters]' \\\n    '--ignore-case[for --find: ignore the case of ASCII letters]' \\\n    '-w[for --find: match only whole words]' \\\n    '--word[for --find: match only whole words]' \\\n    '--style=[for --fix: rewrite by the rules in FILE; without it, drop needless escapes of quotes and needless hashes, and write 1e5 for 1E5]:FILE:_files' \\\n    '*--rule=[for --fix: rewrite by this rule of --rules; RULE is NAME=VALUE, or NAME for NAME=true; may be repeated]:RULE:(hex_digits drop_underscores drop_leading_zeros suffix_separator binary_groups octal_groups decimal_groups hexadecimal_groups min_digits float_zero exponent_letter drop_exponent_plus escape_digits fewest_escape_digits drop_ascii_escapes named_escapes drop_quote_escapes fewest_hashes drop_raw escape_invisible)' \\\n    '--macros=[skip or all: with skip, the default, --fix leaves literals in macro calls, macro_rules! and attributes unchanged, and --bad doesn'\\''t check their suffixes and ranges]:WHICH:(skip all)' \\\n    '--all[also read hidden files and directories, and `target`]' \\\n    '*--extension=[in directories, read *.EXT instead of *.rs; may be repeated]:EXT: ' \\\n    '*--exclude=[in directories, skip what GLOB matches, as in .gitignore, with *, ?, ** and / only; may be repeated]:GLOB: ' \\\n    '*--files-from=[also read the paths in FILE, which end with line ends, or with NUL; `-` is standard input; may be repeated]:FILE:_files' \\\n    '--files[print the paths of the files that would be read, and read none]' \\\n    '--lines[print positions as LINE:COLUMN, the default for files]' \\\n    '--bytes[print byte ranges LO..HI, the default for standard input]' \\\n    '--text[print literals as written]' \\\n    '--json[print one JSON object per finding]' \\\n    '--format=[text; json, as --json; or github, for annotations]:FORM:(text json github)' \\\n    '-C+[show the source line, and NUM lines before and after it]:NUM: ' \\\n    '--context=[show the source line, and NUM lines before and after it]:NUM: ' \\\n    '-B+[show the source line, and NUM lines before it]:NUM: ' \\\n    '--before-context=[show the source line, and NUM lines before it]:NUM: ' \\\n    '-A+[show the source line, and NUM lines after it]:NUM: ' \\\n    '--after-context=[show the source line, and NUM lines after it]:NUM: ' \\\n    '--color=[auto, always or never; auto means on a terminal, unless NO_COLOR is set and not empty, or TERM is dumb]:WHEN:(auto always never)' \\\n    '-c[print the number of findings of each file that has some]' \\\n    '--count[print the number of findings of each file that has some]' \\\n    '-l[print the path of each file that has findings]' \\\n    '--files-with-matches[print the path of each file that has findings]' \\\n    '-Z[end the paths of -c, -l and --files with NUL]' \\\n    '--null[end the paths of -c, -l and --files with NUL]' \\\n    '-q[print no findings; errors, totals and the output of --fix for standard input are still printed]' \\\n    '--quiet[print no findings; errors, totals and the output of --fix for standard input are still printed]' \\\n    '--no-messages[print no errors and no warnings of files; the exit status stays the same]' \\\n    '--stats[print totals at the end: files read, files with findings, findings, and files with an error; for --fix, also how many literals each rule changes]' \\\n    '--rules[print the rules of a style, with values and examples]' \\\n    '--generate=[man, bash, zsh, fish, sarif-jq or problem-matcher: print the manual page, the completions for this shell, a jq program that makes SARIF of --json, or a file with problem matchers for GitHub]:WHAT:(man bash zsh fish sarif-jq problem-matcher)' \\\n    '-h[print this help]' \\\n    '--help[print this help]' \\\n    '-V[print the version]' \\\n    '--version[print the version]' \\\n    '*:PATH:_files'\n"
 
 -- The completions for fish.
 unfoldable pub fish_text : List ℕ
 fish_text =
-    codes "complete -c rl_scan -l bad -d 'print the literals that Rust rejects, and unclosed quotes and comments'\ncomplete -c rl_scan -l invisible -d 'print invisible and bidirectional characters, anywhere in a file'\ncomplete -c rl_scan -l only -x -a 'Str ByteStr CStr Byte Char Int Float Bool Verbatim' -d 'print the literals of these kinds: Str ByteStr CStr Byte Char Int Float Bool Verbatim, in any case'\ncomplete -c rl_scan -s e -l find -x -d 'print the string, character and byte literals whose value contains TEXT; may be repeated'\ncomplete -c rl_scan -l fix -d 'rewrite files in a style, and print how many literals of each file changed; for standard input, print the rewritten source'\ncomplete -c rl_scan -l check -d 'print the changes that --fix would make'\ncomplete -c rl_scan -l diff -d 'print these changes as a unified diff'\ncomplete -c rl_scan -l any-suffix -d 'for --bad: accept any suffix, and numbers out of range, as macros do'\ncomplete -c rl_scan -l no-stray -d 'for --bad, --only, --find and without a mode: a stray character, at which no token begins, is an error'\ncomplete -c rl_scan -l edition -x -a '2015 2018 2021 2024' -d 'for --bad and --fix: the edition whose reserved prefixes are errors: 2015, 2018, 2021 (default) or 2024'\ncomplete -c rl_scan -l allow -x -d 'for --bad and --invisible: print no findings with the id ID, which --json prints; for --invisible, ID may also be a character, such as U+200B; may be repeated'\ncomplete -c rl_scan -s i -l ignore-case -d 'for --find: ignore the case of ASCII letters'\ncomplete -c rl_scan -s w -l word -d 'for --find: match only whole words'\ncomplete -c rl_scan -l style -r -d 'for --fix: rewrite by the rules in FILE; without it, drop needless escapes of quotes and needless hashes, and write 1e5 for 1E5'\ncomplete -c rl_scan -l rule -x -d 'for --fix: rewrite by this rule of --rules; RULE is NAME=VALUE, or NAME for NAME=true; may be repeated'\ncomplete -c rl_scan -l macros -x -a 'skip all' -d 'skip or all: with skip, the default, --fix leaves literals in macro calls, macro_rules! and attributes unchanged, and --bad doesn\\'t check their suffixes and ranges'\ncomplete -c rl_scan -l all -d 'also read hidden files and directories, and `target`'\ncomplete -c rl_scan -l extension -x -d 'in directories, read *.EXT instead of *.rs; may be repeated'\ncomplete -c rl_scan -l exclude -x -d 'in directories, skip what GLOB matches, as in .gitignore, with *, ?, ** and / only; may be repeated'\ncomplete -c rl_scan -l files-from -r -d 'also read the paths in FILE, which end with line ends, or with NUL; `-` is standard input; may be repeated'\ncomplete -c rl_scan -l files -d 'print the paths of the files that would be read, and read none'\ncomplete -c rl_scan -l lines -d 'print positions as LINE:COLUMN, the default for files'\ncomplete -c rl_scan -l bytes -d 'print byte ranges LO..HI, the default for standard input'\ncomplete -c rl_scan -l text -d 'print literals as written'\ncomplete -c rl_scan -l json -d 'print one JSON object per finding'\ncomplete -c rl_scan -l format -x -a 'text json github' -d 'text; json, as --json; or github, for annotations'\ncomplete -c rl_scan -s C -l context -x -d 'show the source line, and NUM lines before and after it'\ncomplete -c rl_scan -s B -l before-context -x -d 'show the source line, and NUM lines before it'\ncomplete -c rl_scan -s A -l after-context -x -d 'show the source line, and NUM lines after it'\ncomplete -c rl_scan -l color -x -a 'auto always never' -d 'auto, always or never; auto means on a terminal, unless NO_COLOR is set and not empty, or TERM is dumb'\ncomplete -c rl_scan -s c -l count -d 'print the number of findings of each file that has some'\ncomplete -c rl_scan -s l -l files-with-matches -d 'print the path of each file that has findings'\ncomplete -c rl_scan -s Z -l null -d 'end the paths of -c, -l and --files with NUL'\ncomplete -c rl_scan -s q -l quiet -d 'print no findings; errors, totals and the output of --fix for standard input are still printed'\ncomplete -c rl_scan -l no-messages -d 'print no errors and no warnings of files; the exit status stays the same'\ncomplete -c rl_scan -l stats -d 'print totals at the end: files read, files with findings, findings, and files with an error; for --fix, also how many literals each rule changes'\ncomplete -c rl_scan -l rules -d 'print the rules of a style, with values and examples'\ncomplete -c rl_scan -l generate -x -a 'man bash zsh fish sarif-jq problem-matcher' -d 'man, bash, zsh, fish, sarif-jq or problem-matcher: print the manual page, the completions for this shell, a jq program that makes SARIF of --json, or a file with problem matchers for GitHub'\ncomplete -c rl_scan -s h -l help -d 'print this help'\ncomplete -c rl_scan -s V -l version -d 'print the version'\n"
+    codes "complete -c rl_scan -l bad -d 'print the literals that Rust rejects, and unclosed quotes and comments'\ncomplete -c rl_scan -l invisible -d 'print invisible and bidirectional characters, anywhere in a file'\ncomplete -c rl_scan -l only -x -a 'Str ByteStr CStr Byte Char Int Float Bool Verbatim' -d 'print the literals of these kinds: Str ByteStr CStr Byte Char Int Float Bool Verbatim, in any case'\ncomplete -c rl_scan -s e -l find -x -d 'print the string, character and byte literals whose value contains TEXT; may be repeated'\ncomplete -c rl_scan -l fix -d 'rewrite files in a style, and print how many literals of each file changed; for standard input, print the rewritten source'\ncomplete -c rl_scan -l check -d 'print the changes that --fix would make'\ncomplete -c rl_scan -l diff -d 'print these changes as a unified diff'\ncomplete -c rl_scan -l any-suffix -d 'for --bad: accept any suffix, and numbers out of range, as macros do'\ncomplete -c rl_scan -l no-stray -d 'for --bad, --only, --find and without a mode: a stray character, at which no token begins, is an error'\ncomplete -c rl_scan -l edition -x -a '2015 2018 2021 2024' -d 'for --bad and --fix: the edition whose reserved prefixes are errors: 2015, 2018, 2021 (default) or 2024'\ncomplete -c rl_scan -l allow -x -a 'empty no-literal unfinished no-quote no-number unknown-escape unicode-escape-in-bytes no-hexadecimal-digit no-brace empty-braces too-many-digits past-ascii past-unicode surrogate nul not-ascii must-escape no-character two-characters no-exponent-digit bad-suffix integer-too-large minus too-many-hashes carriage-return early-quote extra-hash underscore-suffix no-digits digit-of-base based-float no-fraction-digit reserved-prefix quoted-suffix unknown-suffix float-suffix out-of-range stray-character bidirectional-character joiner variation-selector control-character invisible-character' -d 'for --bad and --invisible: print no findings with the id ID, which --json prints; for --invisible, ID may also be a character, such as U+200B; may be repeated'\ncomplete -c rl_scan -s i -l ignore-case -d 'for --find: ignore the case of ASCII letters'\ncomplete -c rl_scan -s w -l word -d 'for --find: match only whole words'\ncomplete -c rl_scan -l style -r -d 'for --fix: rewrite by the rules in FILE; without it, drop needless escapes of quotes and needless hashes, and write 1e5 for 1E5'\ncomplete -c rl_scan -l rule -x -a 'hex_digits drop_underscores drop_leading_zeros suffix_separator binary_groups octal_groups decimal_groups hexadecimal_groups min_digits float_zero exponent_letter drop_exponent_plus escape_digits fewest_escape_digits drop_ascii_escapes named_escapes drop_quote_escapes fewest_hashes drop_raw escape_invisible' -d 'for --fix: rewrite by this rule of --rules; RULE is NAME=VALUE, or NAME for NAME=true; may be repeated'\ncomplete -c rl_scan -l macros -x -a 'skip all' -d 'skip or all: with skip, the default, --fix leaves literals in macro calls, macro_rules! and attributes unchanged, and --bad doesn\\'t check their suffixes and ranges'\ncomplete -c rl_scan -l all -d 'also read hidden files and directories, and `target`'\ncomplete -c rl_scan -l extension -x -d 'in directories, read *.EXT instead of *.rs; may be repeated'\ncomplete -c rl_scan -l exclude -x -d 'in directories, skip what GLOB matches, as in .gitignore, with *, ?, ** and / only; may be repeated'\ncomplete -c rl_scan -l files-from -r -d 'also read the paths in FILE, which end with line ends, or with NUL; `-` is standard input; may be repeated'\ncomplete -c rl_scan -l files -d 'print the paths of the files that would be read, and read none'\ncomplete -c rl_scan -l lines -d 'print positions as LINE:COLUMN, the default for files'\ncomplete -c rl_scan -l bytes -d 'print byte ranges LO..HI, the default for standard input'\ncomplete -c rl_scan -l text -d 'print literals as written'\ncomplete -c rl_scan -l json -d 'print one JSON object per finding'\ncomplete -c rl_scan -l format -x -a 'text json github' -d 'text; json, as --json; or github, for annotations'\ncomplete -c rl_scan -s C -l context -x -d 'show the source line, and NUM lines before and after it'\ncomplete -c rl_scan -s B -l before-context -x -d 'show the source line, and NUM lines before it'\ncomplete -c rl_scan -s A -l after-context -x -d 'show the source line, and NUM lines after it'\ncomplete -c rl_scan -l color -x -a 'auto always never' -d 'auto, always or never; auto means on a terminal, unless NO_COLOR is set and not empty, or TERM is dumb'\ncomplete -c rl_scan -s c -l count -d 'print the number of findings of each file that has some'\ncomplete -c rl_scan -s l -l files-with-matches -d 'print the path of each file that has findings'\ncomplete -c rl_scan -s Z -l null -d 'end the paths of -c, -l and --files with NUL'\ncomplete -c rl_scan -s q -l quiet -d 'print no findings; errors, totals and the output of --fix for standard input are still printed'\ncomplete -c rl_scan -l no-messages -d 'print no errors and no warnings of files; the exit status stays the same'\ncomplete -c rl_scan -l stats -d 'print totals at the end: files read, files with findings, findings, and files with an error; for --fix, also how many literals each rule changes'\ncomplete -c rl_scan -l rules -d 'print the rules of a style, with values and examples'\ncomplete -c rl_scan -l generate -x -a 'man bash zsh fish sarif-jq problem-matcher' -d 'man, bash, zsh, fish, sarif-jq or problem-matcher: print the manual page, the completions for this shell, a jq program that makes SARIF of --json, or a file with problem matchers for GitHub'\ncomplete -c rl_scan -s h -l help -d 'print this help'\ncomplete -c rl_scan -s V -l version -d 'print the version'\n"
 
 -- The program for `jq` that makes SARIF of JSON objects.
 unfoldable pub sarif_jq_text : List ℕ
@@ -31,7 +31,7 @@ sarif_jq_text =
 -- The problem matchers for GitHub.
 unfoldable pub problem_matcher_text : List ℕ
 problem_matcher_text =
-    codes "{\n  \"problemMatcher\": [\n    {\n      \"owner\": \"rl_scan-bad\",\n      \"pattern\": [{ \"regexp\": \"^(.+?):(\\\\d+):(\\\\d+): (error): (.+)$\", \"file\": 1, \"line\": 2, \"column\": 3, \"severity\": 4, \"message\": 5 }]\n    },\n    {\n      \"owner\": \"rl_scan-invisible\",\n      \"severity\": \"error\",\n      \"pattern\": [{ \"regexp\": \"^(.+?):(\\\\d+):(\\\\d+): (U\\\\+[0-9A-F]{4,6}(?: .+)?)$\", \"file\": 1, \"line\": 2, \"column\": 3, \"message\": 4 }]\n    },\n    {\n      \"owner\": \"rl_scan-check\",\n      \"severity\": \"warning\",\n      \"pattern\": [{ \"regexp\": \"^(.+?):(\\\\d+):(\\\\d+): (?!error: )(.+ -> .+ \\\\[[a-z_, ]*\\\\])$\", \"file\": 1, \"line\": 2, \"column\": 3, \"message\": 4 }]\n    }\n  ]\n}\n"
+    codes "{\n  \"problemMatcher\": [\n    {\n      \"owner\": \"rl_scan-bad\",\n      \"pattern\": [{ \"regexp\": \"^(.+?):(\\\\d+):(\\\\d+): (error): (.+)$\", \"file\": 1, \"line\": 2, \"column\": 3, \"severity\": 4, \"message\": 5 }]\n    },\n    {\n      \"owner\": \"rl_scan-invisible\",\n      \"severity\": \"error\",\n      \"pattern\": [{ \"regexp\": \"^(.+?):(\\\\d+):(\\\\d+): (U\\\\+[0-9A-F]{4,6}(?: .+)?)$\", \"file\": 1, \"line\": 2, \"column\": 3, \"message\": 4 }]\n    },\n    {\n      \"owner\": \"rl_scan-check\",\n      \"severity\": \"error\",\n      \"pattern\": [{ \"regexp\": \"^(.+?):(\\\\d+):(\\\\d+): (?!error: )(.+ -> .+ \\\\[[a-z_, ]*\\\\])$\", \"file\": 1, \"line\": 2, \"column\": 3, \"message\": 4 }]\n    }\n  ]\n}\n"
 
 -- The text that `rl_scan --generate` prints.
 abbrev pub generated_text : GeneratedText → List ℕ

@@ -194,9 +194,9 @@ const BASH_TEXT: &str = r###"_rl_scan() {
     --only) at=; [[ $word == *,* ]] && at=${word%,*},; mapfile -t COMPREPLY < <(compgen -W "Str ByteStr CStr Byte Char Int Float Bool Verbatim" -P "$at" -- "${word##*,}"); return ;;
     -e|--find) mapfile -t COMPREPLY < <(compgen -W "" -- "$word"); return ;;
     --edition) mapfile -t COMPREPLY < <(compgen -W "2015 2018 2021 2024" -- "$word"); return ;;
-    --allow) mapfile -t COMPREPLY < <(compgen -W "" -- "$word"); return ;;
+    --allow) mapfile -t COMPREPLY < <(compgen -W "empty no-literal unfinished no-quote no-number unknown-escape unicode-escape-in-bytes no-hexadecimal-digit no-brace empty-braces too-many-digits past-ascii past-unicode surrogate nul not-ascii must-escape no-character two-characters no-exponent-digit bad-suffix integer-too-large minus too-many-hashes carriage-return early-quote extra-hash underscore-suffix no-digits digit-of-base based-float no-fraction-digit reserved-prefix quoted-suffix unknown-suffix float-suffix out-of-range stray-character bidirectional-character joiner variation-selector control-character invisible-character" -- "$word"); return ;;
     --style) mapfile -t COMPREPLY < <(compgen -f -- "$word"); return ;;
-    --rule) mapfile -t COMPREPLY < <(compgen -W "" -- "$word"); return ;;
+    --rule) mapfile -t COMPREPLY < <(compgen -W "hex_digits drop_underscores drop_leading_zeros suffix_separator binary_groups octal_groups decimal_groups hexadecimal_groups min_digits float_zero exponent_letter drop_exponent_plus escape_digits fewest_escape_digits drop_ascii_escapes named_escapes drop_quote_escapes fewest_hashes drop_raw escape_invisible" -- "$word"); return ;;
     --macros) mapfile -t COMPREPLY < <(compgen -W "skip all" -- "$word"); return ;;
     --extension) mapfile -t COMPREPLY < <(compgen -W "" -- "$word"); return ;;
     --exclude) mapfile -t COMPREPLY < <(compgen -W "" -- "$word"); return ;;
@@ -236,13 +236,13 @@ _arguments -s -S \
     '--any-suffix[for --bad: accept any suffix, and numbers out of range, as macros do]' \
     '--no-stray[for --bad, --only, --find and without a mode: a stray character, at which no token begins, is an error]' \
     '--edition=[for --bad and --fix: the edition whose reserved prefixes are errors: 2015, 2018, 2021 (default) or 2024]:YEAR:(2015 2018 2021 2024)' \
-    '*--allow=[for --bad and --invisible: print no findings with the id ID, which --json prints; for --invisible, ID may also be a character, such as U+200B; may be repeated]:ID: ' \
+    '*--allow=[for --bad and --invisible: print no findings with the id ID, which --json prints; for --invisible, ID may also be a character, such as U+200B; may be repeated]:ID:(empty no-literal unfinished no-quote no-number unknown-escape unicode-escape-in-bytes no-hexadecimal-digit no-brace empty-braces too-many-digits past-ascii past-unicode surrogate nul not-ascii must-escape no-character two-characters no-exponent-digit bad-suffix integer-too-large minus too-many-hashes carriage-return early-quote extra-hash underscore-suffix no-digits digit-of-base based-float no-fraction-digit reserved-prefix quoted-suffix unknown-suffix float-suffix out-of-range stray-character bidirectional-character joiner variation-selector control-character invisible-character)' \
     '-i[for --find: ignore the case of ASCII letters]' \
     '--ignore-case[for --find: ignore the case of ASCII letters]' \
     '-w[for --find: match only whole words]' \
     '--word[for --find: match only whole words]' \
     '--style=[for --fix: rewrite by the rules in FILE; without it, drop needless escapes of quotes and needless hashes, and write 1e5 for 1E5]:FILE:_files' \
-    '*--rule=[for --fix: rewrite by this rule of --rules; RULE is NAME=VALUE, or NAME for NAME=true; may be repeated]:RULE: ' \
+    '*--rule=[for --fix: rewrite by this rule of --rules; RULE is NAME=VALUE, or NAME for NAME=true; may be repeated]:RULE:(hex_digits drop_underscores drop_leading_zeros suffix_separator binary_groups octal_groups decimal_groups hexadecimal_groups min_digits float_zero exponent_letter drop_exponent_plus escape_digits fewest_escape_digits drop_ascii_escapes named_escapes drop_quote_escapes fewest_hashes drop_raw escape_invisible)' \
     '--macros=[skip or all: with skip, the default, --fix leaves literals in macro calls, macro_rules! and attributes unchanged, and --bad doesn'\''t check their suffixes and ranges]:WHICH:(skip all)' \
     '--all[also read hidden files and directories, and `target`]' \
     '*--extension=[in directories, read *.EXT instead of *.rs; may be repeated]:EXT: ' \
@@ -297,11 +297,11 @@ complete -c rl_scan -l diff -d 'print these changes as a unified diff'
 complete -c rl_scan -l any-suffix -d 'for --bad: accept any suffix, and numbers out of range, as macros do'
 complete -c rl_scan -l no-stray -d 'for --bad, --only, --find and without a mode: a stray character, at which no token begins, is an error'
 complete -c rl_scan -l edition -x -a '2015 2018 2021 2024' -d 'for --bad and --fix: the edition whose reserved prefixes are errors: 2015, 2018, 2021 (default) or 2024'
-complete -c rl_scan -l allow -x -d 'for --bad and --invisible: print no findings with the id ID, which --json prints; for --invisible, ID may also be a character, such as U+200B; may be repeated'
+complete -c rl_scan -l allow -x -a 'empty no-literal unfinished no-quote no-number unknown-escape unicode-escape-in-bytes no-hexadecimal-digit no-brace empty-braces too-many-digits past-ascii past-unicode surrogate nul not-ascii must-escape no-character two-characters no-exponent-digit bad-suffix integer-too-large minus too-many-hashes carriage-return early-quote extra-hash underscore-suffix no-digits digit-of-base based-float no-fraction-digit reserved-prefix quoted-suffix unknown-suffix float-suffix out-of-range stray-character bidirectional-character joiner variation-selector control-character invisible-character' -d 'for --bad and --invisible: print no findings with the id ID, which --json prints; for --invisible, ID may also be a character, such as U+200B; may be repeated'
 complete -c rl_scan -s i -l ignore-case -d 'for --find: ignore the case of ASCII letters'
 complete -c rl_scan -s w -l word -d 'for --find: match only whole words'
 complete -c rl_scan -l style -r -d 'for --fix: rewrite by the rules in FILE; without it, drop needless escapes of quotes and needless hashes, and write 1e5 for 1E5'
-complete -c rl_scan -l rule -x -d 'for --fix: rewrite by this rule of --rules; RULE is NAME=VALUE, or NAME for NAME=true; may be repeated'
+complete -c rl_scan -l rule -x -a 'hex_digits drop_underscores drop_leading_zeros suffix_separator binary_groups octal_groups decimal_groups hexadecimal_groups min_digits float_zero exponent_letter drop_exponent_plus escape_digits fewest_escape_digits drop_ascii_escapes named_escapes drop_quote_escapes fewest_hashes drop_raw escape_invisible' -d 'for --fix: rewrite by this rule of --rules; RULE is NAME=VALUE, or NAME for NAME=true; may be repeated'
 complete -c rl_scan -l macros -x -a 'skip all' -d 'skip or all: with skip, the default, --fix leaves literals in macro calls, macro_rules! and attributes unchanged, and --bad doesn\'t check their suffixes and ranges'
 complete -c rl_scan -l all -d 'also read hidden files and directories, and `target`'
 complete -c rl_scan -l extension -x -d 'in directories, read *.EXT instead of *.rs; may be repeated'
@@ -404,7 +404,7 @@ const PROBLEM_MATCHER_TEXT: &str = r###"{
     },
     {
       "owner": "rl_scan-check",
-      "severity": "warning",
+      "severity": "error",
       "pattern": [{ "regexp": "^(.+?):(\\d+):(\\d+): (?!error: )(.+ -> .+ \\[[a-z_, ]*\\])$", "file": 1, "line": 2, "column": 3, "message": 4 }]
     }
   ]
