@@ -225,7 +225,8 @@ pub wrong_text : (options : Options) (before text : List ℕ) (wrongs : Option W
     → IsJudged options before text wrongs → is_some wrongs ≡ not none → IsFalse none
     → IsWrongText options before text
 wrong_text options before text None none judged some lacks = absurd (false≢true (some ∙ ap not lacks))
-wrong_text options before text (Some why) none judged some lacks = (why, judged.reading, judged.is_read judged.asked, judged.some)
+wrong_text options before text (Some why) none judged some lacks =
+    (why, (judged.reading, judged.is_read judged.asked, judged.some))
 
 -- If `judge` returns no error, the literal is valid.
 pub right_text : (options : Options) (before text : List ℕ) (wrongs : Option Wrong) (none : Bool)
