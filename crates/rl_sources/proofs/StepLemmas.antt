@@ -162,14 +162,6 @@ has_wrong options before text bad why judged is = (
 )
 
 -- The error that the check for a type returns is that of the literal after the text `before`.
-pub error_after : (before text : List ℕ) (reading : Reading) (parts : Kind × ℕ × List ℕ) (negated : Bool) (r : Option TypeError)
-    → typed_parts text reading ≡ Some parts → negated ≡ may_negate before
-    → IfSome r (λ e. HasTypeError e parts.0 (chars text) parts.1 negated parts.2)
-    → IfSome r (HasReadError before text (Some reading))
-error_after before text reading parts negated r is same h =
-    subst (λ (z : Option (Kind × ℕ × List ℕ)). IfSome r (HavePartsError before text z)) (sym is)
-    (subst (λ (n : Bool). IfSome r (λ e. HasTypeError e parts.0 (chars text) parts.1 n parts.2)) same h)
-
 pub type_after : (before text : List ℕ) (reading : Reading) (parts : Kind × ℕ × List ℕ) (negated : Bool) (r : Option TypeError)
     → typed_parts text reading ≡ Some parts → negated ≡ may_negate before
     → IfNone r (HasType parts.0 (chars text) parts.1 negated parts.2)
@@ -177,17 +169,6 @@ pub type_after : (before text : List ℕ) (reading : Reading) (parts : Kind × �
 type_after before text reading parts negated r is same h =
     subst (λ (z : Option (Kind × ℕ × List ℕ)). IfNone r (HavePartsType before text z)) (sym is)
     (subst (λ (n : Bool). IfNone r (HasType parts.0 (chars text) parts.1 n parts.2)) same h)
-
-pub type_alone : (before text : List ℕ) (reading : Reading) (parts : Kind × ℕ × List ℕ)
-    → typed_parts text reading ≡ Some parts → (parts.0 ≡ Float → ⊥) → parts.2 ≡ []
-    → HasReadType before text (Some reading)
-type_alone before text reading parts is other none =
-    subst (λ (z : Option (Kind × ℕ × List ℕ)). HavePartsType before text z) (sym is) (inl (other, none))
-
-pub typed_anyway : (before text : List ℕ) (reading : Reading) → typed_parts text reading ≡ None
-    → HasReadType before text (Some reading)
-typed_anyway before text reading is =
-    subst (λ (z : Option (Kind × ℕ × List ℕ)). HavePartsType before text z) (sym is) tt
 
 -- No flaw is found in a literal without a flaw. `not_bad` says that a literal without an error isn't invalid.
 no_flaw_found : (any : Bool) (text : List ℕ) (flaw : Flaw) → FindsNoFlaw any text → FindsFlaw any text flaw → ⊥

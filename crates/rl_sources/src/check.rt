@@ -29,6 +29,7 @@ pub(crate) fn looks_for_flaws(options: &Options<'_>) -> bool
 /// Returns the parts of a literal that its type depends on: its kind, the number that an integer represents, and its suffix. Returns
 /// `None` if the literal has a type in any case.
 #[inline(always)]
+#[tactic(auto, using(rl_syntax::proofs::Rests::tail_drop))]
 fn typed_parts<'t>(text: &'t str, reading: &Reading) -> Option<(Kind, u128, &'t str)>
     requires { IsReadingOf File false text.now reading.now }
     ensures parts { option_map (λ p. (p.0, p.1, p.2.now)) result ≡ parts_of text.now reading.now }
@@ -64,6 +65,7 @@ fn type_error_after(before: &str, text: &str, reading: &Reading) -> Option<TypeE
 
 /// Returns the flaw of the literal `text` if it is an integer above 128 bits. With `any_value` such an integer has no flaw, as in a
 /// macro's argument. `reading` is the literal's parse result.
+#[tactic(auto, using(crate::proofs::CheckLemmas::limit_found, crate::proofs::CheckLemmas::value_found))]
 fn value_flaw(any_value: bool, text: &str, reading: &Reading) -> Option<Flaw>
     requires read { IsReadingOf File false text.now reading.now }
     requires token { IsToken (lf_text (chars text.now)) }
