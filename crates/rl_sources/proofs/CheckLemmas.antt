@@ -9,7 +9,7 @@ use Rattle.rl_strict.specs.FileTexts.{IsPlaceInFile}
 use Rattle.rl_strict.specs.Readings.{HasValueOf, IsReadingOf, IsTokenIf}
 use Rattle.rl_strict.specs.declared.line_ends.LineEnds.TheVariants.{File}
 use Rattle.rl_strict.specs.declared.strict_reading.Reading.{Reading}
-use Rattle.rl_strict.specs.declared.strict_reading.Reading.TheVariants.{Text}
+use Rattle.rl_strict.specs.declared.strict_reading.Reading.TheVariants.{Text, Unit}
 use Rattle.rl_strict.specs.declared.line_ends.LineEnds.{LineEnds}
 use Rattle.rl_strict.specs.declared.flaws.Flaw.{Flaw}
 use Rattle.rl_strict.specs.Limits.{ExplainsLimit}
@@ -41,6 +41,12 @@ pub text_cut : (text : List ℕ) (kind : Kind) (body : Body) (reading : Reading)
 text_cut text kind body reading u is e =
     let there : IsReadingOf File false text (Text kind body) = subst (IsReadingOf File false text) e is in
     cut_in_file text there.0.suffix_at body.suffix_at u there.2.suffix_at
+
+pub unit_cut : (text : List ℕ) (kind : Kind) (body : Body) (unit : ℕ) (reading : Reading)
+    → IsReadingOf File false text reading → reading ≡ Unit kind body unit → IsCharBoundary text body.suffix_at
+unit_cut text kind body unit reading is e =
+    let there : IsReadingOf File false text (Unit kind body unit) = subst (IsReadingOf File false text) e is in
+    there.1.stands.following
 
 -- The flaw of an integer above 128 bits is the flaw of a literal whose value matters.
 pub limit_found : (any : Bool) (text : List ℕ) (o : Option Flaw) → any ≡ false → IsToken (lf_text text)
