@@ -1,5 +1,5 @@
 -- Lemmas about the check of a literal: the byte offset of its suffix is a character boundary, and its error.
-use Rattle.rl_syntax.proofs.Common.{◌≡◌, ◌∙◌, ◌+◌, ◌++◌, ℕ, Bool, List, None, Option, Some, IfNone, IfSome, ap, arith, chars, drop, encode_utf8_all, encodes-append, encodes-chars, false, inr, length, length-append, subst, sym, true, IsCharBoundary, IsUtf8}
+use Rattle.rl_syntax.proofs.Common.{◌≡◌, ◌∙◌, ◌+◌, ◌++◌, ◌⊎◌, ℕ, Bool, List, None, Option, Some, IfNone, IfSome, ap, arith, chars, drop, encode_utf8_all, encodes-append, encodes-chars, false, inl, inr, length, length-append, subst, sym, true, IsCharBoundary, IsUtf8}
 use Rattle.std.proofs.Math.Seq.{drop-append_seam}
 use Rattle.std.proofs.lemmas.Str.{IsCharBoundary-from_drop}
 use Rattle.rl_syntax.specs.declared.kind.Kind.{Kind}
@@ -36,17 +36,23 @@ cut_in_file text read at u place =
     ∙ length-append (encode_utf8_all place.front) (encode_utf8_all place.rest) in
     IsCharBoundary-from_drop text at (omega (arith, place.at_is, long)) (subst IsUtf8 (sym dropped) is_text)
 
-pub text_cut : (text : List ℕ) (kind : Kind) (body : Body) (reading : Reading) → IsUtf8 text
+text_cut : (text : List ℕ) (kind : Kind) (body : Body) (reading : Reading) → IsUtf8 text
     → IsReadingOf File false text reading → reading ≡ Text kind body → IsCharBoundary text body.suffix_at
 text_cut text kind body reading u is e =
     let there : IsReadingOf File false text (Text kind body) = subst (IsReadingOf File false text) e is in
     cut_in_file text there.0.suffix_at body.suffix_at u there.2.suffix_at
 
-pub unit_cut : (text : List ℕ) (kind : Kind) (body : Body) (unit : ℕ) (reading : Reading)
+unit_cut : (text : List ℕ) (kind : Kind) (body : Body) (unit : ℕ) (reading : Reading)
     → IsReadingOf File false text reading → reading ≡ Unit kind body unit → IsCharBoundary text body.suffix_at
 unit_cut text kind body unit reading is e =
     let there : IsReadingOf File false text (Unit kind body unit) = subst (IsReadingOf File false text) e is in
     there.1.stands.following
+
+pub quoted_cut : (text : List ℕ) (kind : Kind) (body : Body) (reading : Reading) → IsUtf8 text
+    → IsReadingOf File false text reading → (reading ≡ Text kind body) ⊎ ((unit : ℕ) × (reading ≡ Unit kind body unit))
+    → IsCharBoundary text body.suffix_at
+quoted_cut text kind body reading u is (inl e) = text_cut text kind body reading u is e
+quoted_cut text kind body reading u is (inr (unit, e)) = unit_cut text kind body unit reading is e
 
 -- The flaw of an integer above 128 bits is the flaw of a literal whose value matters.
 pub limit_found : (any : Bool) (text : List ℕ) (o : Option Flaw) → any ≡ false → IsToken (lf_text text)
