@@ -1,5 +1,5 @@
 -- Lemmas about the first error of options that contradict each other.
-use Rattle.rl_syntax.proofs.Common.{Bool, Bor, List, ap, ap₂, length-map, map, refl, string_bytes, sym, ◌&&◌, ◌==◌, ◌||◌, ◌∷◌, ◌≡◌, ℕ}
+use Rattle.rl_syntax.proofs.Common.{Bool, Bor, List, [], ap, ap₂, length-map, map, refl, string_bytes, sym, ◌&&◌, ◌==◌, ◌||◌, ◌∷◌, ◌≡◌, ℕ}
 use Rattle.std.specs.List.{list_any}
 use Rattle.std.specs.Prelude.{String}
 use Rattle.rl_options.specs.declared.command.Command.{Command}

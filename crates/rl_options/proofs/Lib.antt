@@ -4,3 +4,4 @@ pub mod RulesLemmas
 pub mod ClashLemmas
 pub mod OptionLemmas
 pub mod AllowedLemmas
+pub mod HelpLemmas

@@ -1,7 +1,7 @@
 -- Lemmas about searches in the table of options.
 use Rattle.rl_syntax.proofs.Common.{Bool, Bor, List, None, Option, Some, [], and_parts, ap, ap₂, codes, cond, eqb-true, false, list_all, ltb, ltb-true, map, not, not-true, option_map, refl, subst, sym, true, ℕ, ◌&&◌, ◌++◌, ◌<◌, ◌∙◌, ◌∷◌, ◌≡◌, ◌≢◌}
 use Rattle.std.proofs.lemmas.List.{append_cancel_left}
-use Rattle.std.specs.Prelude.{find, option_copied}
+use Rattle.std.specs.Prelude.{IfNone, find, option_copied}
 use Rattle.std.specs.Option.{option_or}
 use Rattle.std.specs.Str.{bytes_eq}
 use Rattle.rl_options.specs.declared.flags.Effect.{Effect}
@@ -14,6 +14,11 @@ use Rattle.rl_options.specs.Wishes.{Wishes}
 use Rattle.rl_options.specs.declared.flags.Operand.TheVariants as takes
 use Rattle.rl_options.specs.Options.{IsJoinedWord, IsLetter, OptionEntry, ends_options, entry_of, is_as_long, is_letter_of, is_suggested, option_taking, takes_value}
 use Rattle.rl_options.specs.Options.{effect_lettered, effect_named, name_meant, options}
+
+-- What holds also holds of a result if that is `None`.
+pub if_none : {X : Type 0} {P : Type 0} (r : Option X) → P → IfNone r P
+if_none None p = p
+if_none (Some x) p = tt
 
 -- A search in a list of images finds the image of what a search in the list finds.
 pub find_map : {X Y : Type 0} (f : X → Y) (q : Y → Bool) (xs : List X) → option_map f (find (λ x. q (f x)) xs)

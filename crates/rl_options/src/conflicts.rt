@@ -85,9 +85,13 @@ fn mode_clash<A: Allocator>(asked: &ParsedArguments<'_, A>) -> Option<ArgumentEr
     ensures some { IfSome result (IsWithoutEffect (wishes_in asked.now)) }
     ensures none { IfNone result (option_without_effect (wishes_in asked.now) ≡ None) }
 {
-    let (name, modes) = without_effect(asked.command)?;
-    let mode = mode_words(mode_of(asked.command));
-    Some(ArgumentError::NoEffect(name, mode, modes_hint(modes)))
+    match without_effect(asked.command) {
+        Some((name, modes)) => {
+            let mode = mode_words(mode_of(asked.command));
+            Some(ArgumentError::NoEffect(name, mode, modes_hint(modes)))
+        }
+        None => None,
+    }
 }
 
 /// Whether a path is `-`, which is standard input.

@@ -10,13 +10,11 @@ ghost use Rattle.rl_options.specs.declared.flags.Operand.{Operand};
 ghost use Rattle.rl_options.specs.declared.flags.When.{When};
 ghost use Rattle.rl_options.specs.Flags.{IsCountWord, color_word, macros_word, colored_form, recolored as with_colors, edition_word, format_word, formatted, generated_word, has_other_mark as other_mark, is_more_than_extension, matches_nothing as is_useless};
 ghost use Rattle.rl_options.specs.Wishes.{Collected, wishes_of};
-ghost use Rattle.rl_options.specs.Words.{GoesWithOptions, IsRejectedEffect, with_flag as flagged};
+ghost use Rattle.rl_options.specs.Words.{with_flag as flagged};
 
-use crate::argument_error::ArgumentError;
 use crate::command::{Action, Command, GeneratedText, Macros, Output, PlaceForm, Restyling};
 use rl_flaws::Edition;
 use rl_output::{Form, Matching, Shown, Spelling};
-use std::alloc::Allocator;
 
 /// An option of `rl_scan` without a value.
 #[derive(Clone, Copy)]
@@ -164,34 +162,6 @@ pub(crate) fn set_flag(command: &mut Command<'_>, flag: Flag)
         Flag::Help => command.action = Action::Help,
         Flag::Version => command.action = Action::Version,
         Flag::Rules => command.action = Action::Rules,
-    }
-}
-
-/// Returns the error of an option that contradicts the earlier options of the command, or `None`.
-pub(crate) fn contradiction<A: Allocator>(
-    command: Command<'_>,
-    effect: Effect,
-) -> Option<ArgumentError<A>>
-    ensures some { IfSome result (λ error. (values : Collected) → IsRejectedEffect effect (wishes_of command.entry values) error) }
-    ensures none { IfNone result ((values : Collected) → GoesWithOptions effect (wishes_of command.entry values)) }
-{
-    match (effect, command.shown) {
-        (Effect::Sets(Flag::Bad | Flag::Hidden), Shown::All) if command.searches => {
-            Some(ArgumentError::BadAndFind)
-        }
-        (Effect::Sets(Flag::Bad | Flag::Hidden) | Effect::Takes(Operand::Kinds), Shown::All) => {
-            None
-        }
-        (Effect::Sets(Flag::Bad | Flag::Hidden) | Effect::Takes(Operand::Kinds), _) => {
-            Some(ArgumentError::TwoChoices)
-        }
-        (Effect::Takes(Operand::Text), Shown::Bad | Shown::Hidden) => {
-            Some(ArgumentError::BadAndFind)
-        }
-        (Effect::Sets(Flag::Fix | Flag::Check | Flag::Diff), _) if command.restyle.is_some() => {
-            Some(ArgumentError::TwoRestylings)
-        }
-        _ => None,
     }
 }
 

@@ -288,8 +288,11 @@ fn row_as_long<'r>(rows: &'r [OptionRow], word: &str) -> Option<&'r OptionRow>
 pub(crate) fn meant_by(word: &str) -> Option<&'static str>
     ensures { IsMeant word.now result }
 {
-    let word = option_part(word);
-    Some(row_as_long(rows(), word).or(row_near(rows(), word))?.name)
+    let (word, rows) = (option_part(word), rows());
+    match row_as_long(rows, word).or(row_near(rows, word)) {
+        Some(row) => Some(row.name),
+        None => None,
+    }
 }
 
 /// Whether the command has the option of a row, and the option has no effect in the command's mode.

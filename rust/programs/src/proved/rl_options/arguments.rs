@@ -7,9 +7,9 @@ use crate::rl_options::argument_error::ArgumentError;
 use crate::rl_options::command::{Action, Command, Output, PlaceForm};
 use crate::rl_options::conflicts::clash_of;
 use crate::rl_options::flags::{
-    Effect, Next, Operand, When, after_front, contradiction, count_of, edition_of, form_in,
-    form_when, format_of, generated_of, has_more_than_extension, has_other_mark, macros_of,
-    matches_nothing, operand_of, recolored, set_flag, when_of,
+    Effect, Flag, Next, Operand, When, after_front, count_of, edition_of, form_in, form_when,
+    format_of, generated_of, has_more_than_extension, has_other_mark, macros_of, matches_nothing,
+    operand_of, recolored, set_flag, when_of,
 };
 use crate::rl_options::table::{effect_of, effect_of_letter, expected_by, joined_of, meant_by};
 use crate::rl_files::{Selection, escaped_non_utf8_path, visible_text};
@@ -255,20 +255,47 @@ impl<'a, A: Allocator + Copy> ParsedArguments<'a, A> {
         }
     }
 
+    /// Returns the error of an option that contradicts the earlier options of the command, or `None`.
+    fn contradiction(&self, effect: Effect) -> Option<ArgumentError<A>> {
+        let command = self.command;
+        match (effect, command.shown) {
+            (Effect::Sets(Flag::Bad | Flag::Hidden), Shown::All) if command.searches => {
+                Some(ArgumentError::BadAndFind)
+            }
+            (Effect::Sets(Flag::Bad | Flag::Hidden) | Effect::Takes(Operand::Kinds), Shown::All) =>
+                { None }
+            (Effect::Sets(Flag::Bad | Flag::Hidden) | Effect::Takes(Operand::Kinds), _) => {
+                Some(ArgumentError::TwoChoices)
+            }
+            (Effect::Takes(Operand::Text), Shown::Bad | Shown::Hidden) => {
+                Some(ArgumentError::BadAndFind)
+            }
+            (Effect::Sets(Flag::Fix | Flag::Check | Flag::Diff), _) if command.restyle.is_some() =>
+                { Some(ArgumentError::TwoRestylings) }
+            _ => None,
+        }
+    }
+
     /// Adds an option to the parsed arguments, and determines what the next argument may be.
     fn take_effect(&mut self, effect: Effect) -> Result<(), ArgumentError<A>> {
-        if let Some(error) = contradiction(self.command, effect) {
+        if let Some(error) = self.contradiction(effect) {
             return Err(error);
         }
         match effect {
             Effect::Sets(flag) => {
                 set_flag(&mut self.command, flag);
                 self.next = Next::Any;
+                Ok(())
             }
-            Effect::Takes(operand) => self.next = Next::Operand(operand),
-            Effect::EndsOptions => self.next = Next::Path,
+            Effect::Takes(operand) => {
+                self.next = Next::Operand(operand);
+                Ok(())
+            }
+            Effect::EndsOptions => {
+                self.next = Next::Path;
+                Ok(())
+            }
         }
-        Ok(())
     }
 
     /// Adds an option whose value is in its own argument, as `--find=TEXT` or `-eTEXT`. `has_colors` is true if the output accepts
@@ -280,7 +307,7 @@ impl<'a, A: Allocator + Copy> ParsedArguments<'a, A> {
         operand: Operand,
         text: &'a str,
     ) -> Result<(), ArgumentError<A>> {
-        match contradiction(self.command, Effect::Takes(operand)) {
+        match self.contradiction(Effect::Takes(operand)) {
             Some(error) => Err(error),
             None => self.take_operand(alloc, has_colors, operand, text),
         }

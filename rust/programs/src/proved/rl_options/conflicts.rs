@@ -63,9 +63,13 @@ fn printing_clash<A: Allocator>(asked: &ParsedArguments<'_, A>) -> Option<Argume
 
 /// Returns the error of the first option that has no effect in the command's mode, or `None`.
 fn mode_clash<A: Allocator>(asked: &ParsedArguments<'_, A>) -> Option<ArgumentError<A>> {
-    let (name, modes) = without_effect(asked.command)?;
-    let mode = mode_words(mode_of(asked.command));
-    Some(ArgumentError::NoEffect(name, mode, modes_hint(modes)))
+    match without_effect(asked.command) {
+        Some((name, modes)) => {
+            let mode = mode_words(mode_of(asked.command));
+            Some(ArgumentError::NoEffect(name, mode, modes_hint(modes)))
+        }
+        None => None,
+    }
 }
 
 /// Whether a path is `-`, which is standard input.

@@ -1,11 +1,9 @@
 // Rendered from crates/rl_options/src/flags.rt by tools/render, which erases contracts: change that file, and render again.
 //! The options of the program `rl_scan`, and their values.
 
-use crate::rl_options::argument_error::ArgumentError;
 use crate::rl_options::command::{Action, Command, GeneratedText, Macros, Output, PlaceForm, Restyling};
 use crate::rl_flaws::Edition;
 use crate::rl_output::{Form, Matching, Shown, Spelling};
-use crate::rattle_std::alloc::Allocator;
 
 /// An option of `rl_scan` without a value.
 #[derive(Clone, Copy)]
@@ -147,31 +145,6 @@ pub(crate) fn set_flag(command: &mut Command<'_>, flag: Flag) {
         Flag::Help => command.action = Action::Help,
         Flag::Version => command.action = Action::Version,
         Flag::Rules => command.action = Action::Rules,
-    }
-}
-
-/// Returns the error of an option that contradicts the earlier options of the command, or `None`.
-pub(crate) fn contradiction<A: Allocator>(
-    command: Command<'_>,
-    effect: Effect,
-) -> Option<ArgumentError<A>> {
-    match (effect, command.shown) {
-        (Effect::Sets(Flag::Bad | Flag::Hidden), Shown::All) if command.searches => {
-            Some(ArgumentError::BadAndFind)
-        }
-        (Effect::Sets(Flag::Bad | Flag::Hidden) | Effect::Takes(Operand::Kinds), Shown::All) => {
-            None
-        }
-        (Effect::Sets(Flag::Bad | Flag::Hidden) | Effect::Takes(Operand::Kinds), _) => {
-            Some(ArgumentError::TwoChoices)
-        }
-        (Effect::Takes(Operand::Text), Shown::Bad | Shown::Hidden) => {
-            Some(ArgumentError::BadAndFind)
-        }
-        (Effect::Sets(Flag::Fix | Flag::Check | Flag::Diff), _) if command.restyle.is_some() => {
-            Some(ArgumentError::TwoRestylings)
-        }
-        _ => None,
     }
 }
 

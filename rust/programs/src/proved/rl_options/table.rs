@@ -249,8 +249,11 @@ fn row_as_long<'r>(rows: &'r [OptionRow], word: &str) -> Option<&'r OptionRow> {
 /// Returns the name of the first option that an argument is similar to, or `None`. Options whose names are at most one byte longer
 /// than the argument come first. Only the part before `=` is compared.
 pub(crate) fn meant_by(word: &str) -> Option<&'static str> {
-    let word = option_part(word);
-    Some(row_as_long(rows(), word).or(row_near(rows(), word))?.name)
+    let (word, rows) = (option_part(word), rows());
+    match row_as_long(rows, word).or(row_near(rows, word)) {
+        Some(row) => Some(row.name),
+        None => None,
+    }
 }
 
 /// Whether the command has the option of a row, and the option has no effect in the command's mode.
