@@ -15,7 +15,7 @@ use Rattle.rl_options.specs.declared.flags.Operand.TheVariants as takes
 use Rattle.rl_options.specs.Options.{IsJoinedWord, IsLetter, OptionEntry, ends_options, entry_of, is_as_long, is_letter_of, is_suggested, option_taking, takes_value}
 use Rattle.rl_options.specs.Options.{effect_lettered, effect_named, name_meant, options}
 
--- What holds also holds of a result if that is `None`.
+-- A fact also holds if a result is `None`.
 pub if_none : {X : Type 0} {P : Type 0} (r : Option X) → P → IfNone r P
 if_none None p = p
 if_none (Some x) p = tt
