@@ -22,7 +22,6 @@ use Rattle.rl_sources.specs.Findings.{FindsFlaw, FindsNoFlaw, IsRight, IsWrong}
 use Rattle.rl_sources.specs.Options.{LooksForFlaws}
 use Rattle.rl_sources.specs.Steps.{IsJudged}
 
-
 cut_in_file : (text : List ℕ) (read at : ℕ) → IsUtf8 text → IsPlaceInFile (chars text) read at → IsCharBoundary text at
 cut_in_file text read at u place =
     let bytes : text ≡ encode_utf8_all place.front ++ encode_utf8_all place.rest = sym (encodes-chars text u)
