@@ -6,7 +6,6 @@ use Rattle.rl_lexer.specs.Sources.{CutSource, IsBorrowedSource, SourceKind, Plai
 use Rattle.rl_lexer.specs.Lexemes.{LiteralForm, IdentifierForm}
 use Rattle.rl_lexer.specs.declared.sources.SourceToken.{SourceToken}
 use Rattle.rl_program.specs.Lines.{Appends}
-use Rattle.rl_output.specs.Choices.{Picks}
 use Rattle.rl_output.specs.declared.choice.Shown.{Shown}
 use Rattle.rl_output.specs.declared.choice.Shown.TheVariants.{All, Only, Bad, Hidden}
 use Rattle.rl_output.specs.declared.place.Place.{Place}

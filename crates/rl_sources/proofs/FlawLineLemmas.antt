@@ -1,5 +1,5 @@
 -- Lemmas about the lines for all flaws of a literal.
-use Rattle.rl_syntax.proofs.Common.{◌≡◌, ◌≤◌, ◌+◌, ◌&&◌, ℕ, Bool, true, false, not, List, [], ◌∷◌, ◌++◌, Option, Some, None, inl, inr, both_ways, drop, length, refl, sym, ap, subst, ◌∙◌, arith, append_assoc, append-nil, encodes-chars, IsUtf8, IsFalse, chars}
+use Rattle.rl_syntax.proofs.Common.{◌≡◌, ◌≤◌, ◌+◌, ◌&&◌, ℕ, Bool, true, false, not, List, [], ◌∷◌, ◌++◌, Some, None, inl, inr, both_ways, drop, length, refl, sym, ap, subst, ◌∙◌, arith, append_assoc, append-nil, encodes-chars, IsUtf8, IsFalse, chars}
 use Rattle.rl_syntax.specs.Texts.{byte_len}
 use Rattle.rl_lexer.proofs.CutLemmas.{byte_len-append}
 use Rattle.rl_lexer.specs.declared.lex_error.LexKind.{LexKind}

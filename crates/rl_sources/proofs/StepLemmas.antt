@@ -1,5 +1,5 @@
 -- Lemmas about the output for one token.
-use Rattle.rl_lenient.proofs.Names.{Float, HasNoReading, HasReading, Kind}
+use Rattle.rl_lenient.proofs.Names.{HasNoReading, HasReading, Kind}
 use Rattle.rl_syntax.proofs.Common.{Bool, Bor, false, ◌==◌, IsUtf8, List, None, Option, Some, [], ap, append_assoc, arith, chars, chars-nil, inl, inr, nat_tests, refl, subst, sym, true, ℕ, ◌++◌, ◌&&◌, ◌∙◌, ◌∷◌, ◌≡◌, ◌⊎◌, IsCharBoundary, and_parts, codes, list_all, length, take, drop, ◌+◌, chars_from_encodes, encodes-append, encodes-chars, length-append, take-append_seam}
 use Rattle.std.proofs.lemmas.List.{append-nil}
 use Rattle.std.proofs.lemmas.Str.{IsCharBoundary-from_drop}
@@ -42,7 +42,7 @@ use Rattle.rl_syntax.specs.Reading.{IsReadAs}
 use Rattle.rl_syntax.proofs.OneReading.{one_reading}
 use Rattle.rl_output.specs.Spots.{bytes_before}
 use Rattle.rl_flaws.specs.Before.{may_negate, reserved}
-use Rattle.rl_flaws.specs.TypeErrors.{HasType, HasTypeError}
+use Rattle.rl_flaws.specs.TypeErrors.{HasType}
 use Rattle.rl_sources.specs.declared.finding.Wrong.{Wrong}
 use Rattle.rl_sources.specs.declared.finding.Wrong.TheVariants as wrong
 use Rattle.rl_flaws.specs.declared.type_errors.TypeError.{TypeError}
