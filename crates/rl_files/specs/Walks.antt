@@ -1,7 +1,7 @@
 -- A walk through directories: the files that it visits, and their order.
 use Rattle.std.specs.Prelude.{◌≡◌, ◌⊎◌, ℕ, ◌==◌, Bool, false, cond, not, ◌&&◌, ◌||◌, ◌+◌, ◌-◌, List, [], ◌∷◌, ◌++◌, map, take, drop, length, codes, string_bytes, Option, Some, None, IfSome, ⊤}
 use Prim.Native.Char.{code}
-use Rattle.std.specs.Char.{is_ascii}
+use Rattle.std.specs.Char.{is_ascii_alphabetic}
 use Rattle.std.specs.Fmt.{decimal}
 use Rattle.std.specs.List.{starts_with, ends_with, flat_map, list_all, list_any}
 use Rattle.std.specs.Str.{bytes_eq, is_utf8}
@@ -70,18 +70,18 @@ is_left_out in_package name =
 abbrev pub has_one_of : List (List ℕ) → List ℕ → Bool
 has_one_of extensions name = list_any (λ extension. has_extension extension name) extensions
 
--- Whether a dot is in a list of bytes, with only ASCII after the dot.
-abbrev pub has_dot_before_ascii : List ℕ → Bool
-has_dot_before_ascii [] = false
-has_dot_before_ascii (b ∷ bs) = ((b == code ".") && list_all is_ascii bs) || has_dot_before_ascii bs
+-- Whether a dot is in a list of bytes, with only ASCII letters after the dot.
+abbrev pub has_dot_before_letters : List ℕ → Bool
+has_dot_before_letters [] = false
+has_dot_before_letters (b ∷ bs) = ((b == code ".") && list_all is_ascii_alphabetic bs) || has_dot_before_letters bs
 
--- Whether a name has an extension in ASCII: a dot that isn't the first byte, and only ASCII after the dot.
-abbrev pub has_ascii_extension : List ℕ → Bool
-has_ascii_extension name = has_dot_before_ascii (drop 1 name)
+-- Whether a name has an extension of ASCII letters: a dot that isn't the first byte, and only letters after the dot.
+abbrev pub has_letter_extension : List ℕ → Bool
+has_letter_extension name = has_dot_before_letters (drop 1 name)
 
--- Whether a name that isn't UTF-8 may be the name of a directory: it has no extension in ASCII.
+-- Whether a name that isn't UTF-8 may be the name of a directory: it has no extension of ASCII letters.
 abbrev pub may_be_directory : List ℕ → Bool
-may_be_directory name = not (is_utf8 name) && not (has_ascii_extension name)
+may_be_directory name = not (is_utf8 name) && not (has_letter_extension name)
 
 -- Whether a walk visits a name. Directories and files with a selected extension are visited, unless the name is left
 -- out. A name that isn't UTF-8 is visited to be reported, if it may be the name of a directory, or of a file with a

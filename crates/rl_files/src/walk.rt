@@ -1,12 +1,12 @@
 //! Walks through directories: determines the files to read, and their order.
 
 ghost use Rattle.std.specs.Prelude.{◌≡◌, ◌≢◌, None, [], ◌∷◌, ◌++◌, drop, OnOk, IfOk, MatchBool, MatchOption, MatchResult, string_bytes};
-ghost use Rattle.std.specs.Char.{is_ascii as ascii};
+ghost use Rattle.std.specs.Char.{is_ascii_alphabetic as letter};
 ghost use Rattle.std.specs.List.{list_all};
 ghost use Rattle.std.specs.Str.{is_utf8 as utf8};
 ghost use Rattle.rl_files.specs.Globs.{is_excluded as excluded, borrowed_texts};
 ghost use Rattle.rl_files.specs.Trees.{names_bytes, string_texts};
-ghost use Rattle.rl_files.specs.Walks.{has_extension as has_ending, has_ascii_extension as ends_in_ascii, are_of_package as of_package, is_left_out as left_out, is_wanted as wanted, has_one_of as has_ending_of, is_directory as directory, may_be_directory as maybe_directory, given_length as base, path_in as path_of, waypoint, waypoint_at, visited, waypoints_of, waypoints_in, given_waypoint, given_waypoints, EndsEarly, EntersInOrder, WalksOn, VisitsFirst, VisitsNone};
+ghost use Rattle.rl_files.specs.Walks.{has_extension as has_ending, has_letter_extension as ends_in_letters, are_of_package as of_package, is_left_out as left_out, is_wanted as wanted, has_one_of as has_ending_of, is_directory as directory, may_be_directory as maybe_directory, given_length as base, path_in as path_of, waypoint, waypoint_at, visited, waypoints_of, waypoints_in, given_waypoint, given_waypoints, EndsEarly, EntersInOrder, WalksOn, VisitsFirst, VisitsNone};
 
 use crate::glob::is_excluded;
 use crate::path_texts::{escaped, escaped_non_utf8_path};
@@ -139,20 +139,20 @@ fn is_left_out(in_package: bool, name: &[u8]) -> bool
     name.starts_with(b".".as_slice()) || in_package && name == b"target/".as_slice()
 }
 
-/// Whether all bytes are ASCII.
-fn is_ascii(bytes: &[u8]) -> bool
-    ensures { result ≡ list_all ascii bytes.now }
+/// Whether all bytes are ASCII letters.
+fn are_letters(bytes: &[u8]) -> bool
+    ensures { result ≡ list_all letter bytes.now }
 {
-    bytes.iter().all(|b| b.is_ascii())
+    bytes.iter().all(|b| b.is_ascii_alphabetic())
 }
 
-/// Whether a name has an extension in ASCII: a dot that isn't the first byte, and only ASCII after the dot.
-fn has_ascii_extension(name: &[u8]) -> bool
-    ensures { result ≡ ends_in_ascii name.now }
+/// Whether a name has an extension of ASCII letters: a dot that isn't the first byte, and only letters after the dot.
+fn has_letter_extension(name: &[u8]) -> bool
+    ensures { result ≡ ends_in_letters name.now }
 {
     let mut rest = bytes_from(name, 1);
     while let [byte, after @ ..] = rest {
-        if *byte == b'.' && is_ascii(after) {
+        if *byte == b'.' && are_letters(after) {
             return true;
         }
         rest = after;
@@ -168,11 +168,11 @@ fn is_utf8(bytes: &[u8]) -> bool
     std::str::from_utf8(bytes).is_ok()
 }
 
-/// Whether a name that isn't UTF-8 may be the name of a directory: it has no extension in ASCII.
+/// Whether a name that isn't UTF-8 may be the name of a directory: it has no extension of ASCII letters.
 fn may_be_directory(name: &[u8]) -> bool
     ensures { result ≡ maybe_directory name.now }
 {
-    !is_utf8(name) && !has_ascii_extension(name)
+    !is_utf8(name) && !has_letter_extension(name)
 }
 
 /// Whether a walk visits a name. Directories and files with a selected extension are visited, unless the name is left out. A name

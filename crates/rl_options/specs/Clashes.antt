@@ -76,9 +76,9 @@ IsWithoutEffect w (NoEffect name mode hint) =
     × (hint.now ≡ modes_hint among)
 IsWithoutEffect w _ = ⊥
 
--- The path is `-`, which is standard input.
+-- The path is standard input: `-` or `/dev/stdin`.
 abbrev pub is_input_name : List ℕ → Bool
-is_input_name path = bytes_eq path (codes "-")
+is_input_name path = bytes_eq path (codes "-") || bytes_eq path (codes "/dev/stdin")
 
 -- The rules of a style are read from standard input.
 abbrev pub is_input_style : Option (List ℕ) → Bool

@@ -1,5 +1,5 @@
 -- The rules of a style in a file, and the errors of such a file. Literals are rewritten by a style. Texts are lists of bytes.
-use Rattle.std.specs.Prelude.{◌≡◌, ℕ, ◌+◌, ⊤, List, ◌++◌, codes, take, String, string_bytes, Option, Some, None, option_map}
+use Rattle.std.specs.Prelude.{◌≡◌, ℕ, ◌+◌, ⊤, List, [], ◌++◌, codes, take, String, string_bytes, Option, Some, None, option_map}
 use denote.Ref.{Bor}
 use Rattle.std.specs.declared.result.Result.TheVariants.{Ok}
 use Rattle.std.specs.Fmt.{decimal}
@@ -58,11 +58,16 @@ pub record IsLineError {A : Type 0} (text : List ℕ) (error : StyleError) (repo
   pub kind_is : reported.kind ≡ error.kind
   pub meant_is : IsRuleMeant error.kind error.name reported.meant
 
+-- The hint that follows the message of an error in the rules of a style. It is empty for most kinds of errors.
+abbrev pub rules_hint : StyleErrorKind → List ℕ
+rules_hint Unknown = codes ": rl_scan --rules lists all rules"
+rules_hint _ = []
+
 -- The message of an error in the rules of a style.
 abbrev pub line_words : {A : Type 0} → ℕ → StyleErrorKind → Option (String A) → Option (Bor (List ℕ)) → List ℕ
 line_words line kind None meant = decimal line ++ (codes ": " ++ style_error_words kind)
 line_words line kind (Some name) None =
-    decimal line ++ (codes ": " ++ (string_bytes name ++ (codes ": " ++ style_error_words kind)))
+    decimal line ++ (codes ": " ++ (string_bytes name ++ (codes ": " ++ (style_error_words kind ++ rules_hint kind))))
 line_words line kind (Some name) (Some meant) =
     decimal line ++ (codes ": " ++ (string_bytes name ++ (codes ": " ++ (style_error_words kind
     ++ (codes "; did you mean '" ++ (meant.now ++ codes "'?"))))))

@@ -94,11 +94,11 @@ fn mode_clash<A: Allocator>(asked: &ParsedArguments<'_, A>) -> Option<ArgumentEr
     }
 }
 
-/// Whether a path is `-`, which is standard input.
+/// Whether a path is standard input: `-` or `/dev/stdin`.
 fn is_input_name(path: &str) -> bool
     ensures { result ≡ names_input path.now }
 {
-    path == "-"
+    path == "-" || path == "/dev/stdin"
 }
 
 /// Whether one of the paths is standard input.

@@ -3,7 +3,7 @@
 ghost use Rattle.std.specs.Prelude.{◌≡◌, IfErr, IfOk, IfSome};
 ghost use Rattle.rl_files.specs.Globs.{borrowed_texts};
 ghost use Rattle.rl_restyle.specs.Styles.{RejectsStyle, SaysStyle};
-ghost use Rattle.rl_options.specs.Rules.{HasNoRules, HasRules, IsNearName, IsNoStyle, IsRuleMeant, IsShownName, IsLineError, line_of};
+ghost use Rattle.rl_options.specs.Rules.{HasNoRules, HasRules, IsNearName, IsNoStyle, IsRuleMeant, IsShownName, IsLineError, line_of, rules_hint as hint_for};
 ghost use Rattle.rl_restyle.specs.Settings.{settings_text as text_for};
 
 use rl_files::{PathError, Tree, visible_text};
@@ -27,6 +27,16 @@ pub struct LineError<A: Allocator = Global> {
     pub meant: Option<&'static str>,
 }
 
+/// Returns the hint that follows the message of an error in the rules of a style. It is empty for most kinds of errors.
+fn rules_hint(kind: StyleErrorKind) -> &'static str
+    ensures { result.now ≡ hint_for kind }
+{
+    match kind {
+        StyleErrorKind::Unknown => ": rl_scan --rules lists all rules",
+        _ => "",
+    }
+}
+
 impl<A: Allocator> fmt::Display for LineError<A> {
     ghost use Rattle.std.specs.Prelude.{Some};
     ghost use Rattle.rl_options.specs.Rules.{line_error_words};
@@ -36,7 +46,13 @@ impl<A: Allocator> fmt::Display for LineError<A> {
     fn fmt<W: fmt::Write>(&self, f: &mut fmt::Formatter<W>) -> fmt::Result {
         match (&self.name, self.meant) {
             (None, _) => write!(f, "{}: {}", self.line, self.kind),
-            (Some(name), None) => write!(f, "{}: {name}: {}", self.line, self.kind),
+            (Some(name), None) => write!(
+                f,
+                "{}: {name}: {}{}",
+                self.line,
+                self.kind,
+                rules_hint(self.kind)
+            ),
             (Some(name), Some(meant)) => write!(
                 f,
                 "{}: {name}: {}; did you mean '{meant}'?",

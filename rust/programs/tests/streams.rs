@@ -131,7 +131,7 @@ fn skipped(paths: &[&str]) -> String {
 fn names_that_are_not_texts() {
     let directory = Path::new(env!("CARGO_TARGET_TMPDIR")).join("names_that_are_not_texts");
     let _ = fs::remove_dir_all(&directory);
-    let inner = [&b"e\xe9"[..], b".f\xe9", "\u{e9}".as_bytes()];
+    let inner = [&b"e\xe9"[..], b".f\xe9", b"h\xe9-1.0", "\u{e9}".as_bytes()];
     for name in inner {
         fs::create_dir_all(directory.join(OsStr::from_bytes(name))).unwrap();
     }
@@ -143,6 +143,7 @@ fn names_that_are_not_texts() {
         b"e\xe9/x.rs",
         b".f\xe9/x.rs",
         b"g.2\xe9",
+        b"h\xe9-1.0/x.rs",
         b"\xc3\xa9/\\\xff.rs",
         b"\xc3\xa9/z.rs",
     ];
@@ -150,29 +151,29 @@ fn names_that_are_not_texts() {
         fs::write(directory.join(OsStr::from_bytes(name)), "1").unwrap();
     }
     let read = "./a.rs\n./\u{e9}/z.rs\n";
-    // The names without an extension may be those of directories.
-    let [e, f, g] = ["e\\xe9", ".f\\xe9", "g.2\\xe9"];
+    // The names without an extension of letters may be those of directories.
+    let [e, f, g, h] = ["e\\xe9", ".f\\xe9", "g.2\\xe9", "h\\xe9-1.0"];
     let below = "\\xc3\\xa9/\\x5c\\xff.rs";
     for (options, out, paths, status) in [
-        (&[][..], read, &["b\\xe9.rs", e, g, below][..], 0),
+        (&[][..], read, &["b\\xe9.rs", e, g, h, below][..], 0),
         (
             &["--all"],
             read,
-            &[".c\\xe9.rs", f, "b\\xe9.rs", e, g, below],
+            &[".c\\xe9.rs", f, "b\\xe9.rs", e, g, h, below],
             0,
         ),
-        (&["--extension", "txt"], "", &["d\\xe9.txt", e, g], 2),
+        (&["--extension", "txt"], "", &["d\\xe9.txt", e, g, h], 2),
         // A `?` of a pattern is one byte.
         (
             &["--exclude", "??", "--exclude", "b?.rs"],
             "./a.rs\n",
-            &[g],
+            &[g, h],
             0,
         ),
         (
             &["--exclude", "*\u{e9}*"],
             "./a.rs\n",
-            &["b\\xe9.rs", e, g],
+            &["b\\xe9.rs", e, g, h],
             0,
         ),
     ] {

@@ -105,16 +105,16 @@ fn is_left_out(in_package: bool, name: &[u8]) -> bool {
     name.starts_with(b".".as_slice()) || in_package && name == b"target/".as_slice()
 }
 
-/// Whether all bytes are ASCII.
-fn is_ascii(bytes: &[u8]) -> bool {
-    bytes.iter().all(|b| b.is_ascii())
+/// Whether all bytes are ASCII letters.
+fn are_letters(bytes: &[u8]) -> bool {
+    bytes.iter().all(|b| b.is_ascii_alphabetic())
 }
 
-/// Whether a name has an extension in ASCII: a dot that isn't the first byte, and only ASCII after the dot.
-fn has_ascii_extension(name: &[u8]) -> bool {
+/// Whether a name has an extension of ASCII letters: a dot that isn't the first byte, and only letters after the dot.
+fn has_letter_extension(name: &[u8]) -> bool {
     let mut rest = bytes_from(name, 1);
     while let [byte, after @ ..] = rest {
-        if *byte == b'.' && is_ascii(after) {
+        if *byte == b'.' && are_letters(after) {
             return true;
         }
         rest = after;
@@ -127,9 +127,9 @@ fn is_utf8(bytes: &[u8]) -> bool {
     crate::rattle_std::str::from_utf8(bytes).is_ok()
 }
 
-/// Whether a name that isn't UTF-8 may be the name of a directory: it has no extension in ASCII.
+/// Whether a name that isn't UTF-8 may be the name of a directory: it has no extension of ASCII letters.
 fn may_be_directory(name: &[u8]) -> bool {
-    !is_utf8(name) && !has_ascii_extension(name)
+    !is_utf8(name) && !has_letter_extension(name)
 }
 
 /// Whether a walk visits a name. Directories and files with a selected extension are visited, unless the name is left out. A name

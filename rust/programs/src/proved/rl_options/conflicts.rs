@@ -72,9 +72,9 @@ fn mode_clash<A: Allocator>(asked: &ParsedArguments<'_, A>) -> Option<ArgumentEr
     }
 }
 
-/// Whether a path is `-`, which is standard input.
+/// Whether a path is standard input: `-` or `/dev/stdin`.
 fn is_input_name(path: &str) -> bool {
-    path == "-"
+    path == "-" || path == "/dev/stdin"
 }
 
 /// Whether one of the paths is standard input.

@@ -22,11 +22,25 @@ pub struct LineError<A: Allocator = Global> {
     pub meant: Option<&'static str>,
 }
 
+/// Returns the hint that follows the message of an error in the rules of a style. It is empty for most kinds of errors.
+fn rules_hint(kind: StyleErrorKind) -> &'static str {
+    match kind {
+        StyleErrorKind::Unknown => ": rl_scan --rules lists all rules",
+        _ => "",
+    }
+}
+
 impl<A: Allocator> fmt::Display for LineError<A> {
     fn fmt(&self, f: &mut fmt::Formatter<'_>) -> fmt::Result {
         match (&self.name, self.meant) {
             (None, _) => write!(f, "{}: {}", self.line, self.kind),
-            (Some(name), None) => write!(f, "{}: {name}: {}", self.line, self.kind),
+            (Some(name), None) => write!(
+                f,
+                "{}: {name}: {}{}",
+                self.line,
+                self.kind,
+                rules_hint(self.kind)
+            ),
             (Some(name), Some(meant)) => write!(
                 f,
                 "{}: {name}: {}; did you mean '{meant}'?",

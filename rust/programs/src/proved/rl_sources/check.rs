@@ -55,12 +55,7 @@ fn value_flaw(any_value: bool, text: &str, reading: &Reading) -> Option<Flaw> {
 ///
 /// `before` is the source before the literal, and `reading` its parse result. The error is that of an integer above 128 bits, a
 /// reserved prefix, or a missing type. If any suffix is allowed, it is a reserved prefix.
-fn find_wrong(
-    options: &Options<'_>,
-    before: &str,
-    text: &str,
-    reading: &Reading,
-) -> Option<Wrong> {
+fn find_wrong(options: &Options<'_>, before: &str, text: &str, reading: &Reading) -> Option<Wrong> {
     if let Some(flaw) = value_flaw(options.any_suffix, text, reading) {
         return Some(Wrong::Flaw(flaw));
     }
