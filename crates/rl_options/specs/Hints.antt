@@ -21,8 +21,8 @@ abbrev pub may_lack_find : Command → Bool
 may_lack_find command =
     is_unselected (mode_of (wishes_of command none_collected)) && (length command.files_from.now == 0)
 
--- The hint that follows the error of a path that doesn't exist. For most paths it is empty. `lacks_find` says that the path may be a
--- text to search for.
+-- The hint that follows the error of a path that doesn't exist. For most paths it is empty. `lacks_find` says that the command
+-- has neither a mode nor `--files-from`.
 abbrev pub path_hint : Bool → List ℕ → List ℕ
 path_hint lacks_find path = cond (is_bare_option path) (codes ": did you mean --" ++ (path ++ codes "?"))
     (cond (lacks_find && may_be_text path) (codes ": to search for a text, use --find TEXT") [])

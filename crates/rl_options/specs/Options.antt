@@ -16,9 +16,9 @@ use Rattle.rl_options.specs.declared.modes.Modes.TheVariants as modes
 use Rattle.rl_options.specs.declared.table.OptionRow.{OptionRow}
 use Rattle.rl_restyle.specs.Meant.{is_near, option_part}
 
--- An option: its name, the letter of the short option, its effect, and the modes in which it has one. `value` is the values that it
--- expects, as messages name them. It is empty if the option has no value. `help` is the lines of `--help` for the option, each after
--- its line end.
+-- An option: its name, the letter of the short option, its effect, and the modes in which the option has an effect. `value` describes
+-- the expected values in messages. `value` is empty if the option has no value. `help` is the lines of `--help` for the option. An LF
+-- precedes each line.
 pub record OptionEntry : Type 0 where
   pub name : List ℕ
   pub letter : Option ℕ

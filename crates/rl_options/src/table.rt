@@ -26,11 +26,12 @@ pub(crate) struct OptionRow {
     pub modes: Modes,
     /// The values that the option expects, in messages. It is empty if the option has no value.
     pub value: &'static str,
-    /// The lines of `--help` for the option, each after its line end. The heading of a part is with its first option.
+    /// The lines of `--help` for the option. An LF precedes each line. The first option of a group also has the group's heading.
     pub help: &'static str,
 }
 
-/// The options of `rl_scan`, in the order of `--help`. If an unknown option is similar to several names, the first one is suggested.
+/// The options of `rl_scan`, in the order of `--help`. [`meant_by`] suggests options in this order, but prefers names that are at most
+/// one byte longer than the argument.
 #[rattlefmt::skip]
 const OPTIONS: [OptionRow; 41] = [
     OptionRow { name: "--bad", letter: None, effect: Sets(Flag::Bad), modes: Modes::Printing, value: "", help: "
@@ -262,7 +263,7 @@ pub(crate) fn joined_of(word: &str) -> Option<(Operand, &str)>
     Some((operand, text))
 }
 
-/// Whether an option is suggested for a word that is similar to the option's name. `--` is never suggested.
+/// Whether an option is suggested for a word: the word is similar to the option's name. `--` is never suggested.
 fn suggests(row: &OptionRow, word: &str) -> bool
     ensures { result ≡ is_suggested (entry_of row.now) word.now }
 {

@@ -129,7 +129,7 @@ edit_in edit = (edit.lo, edit.hi, chars (string_bytes edit.text))
 abbrev pub text_in : {A : Type 0} → Option (String A) → Option (List ℕ)
 text_in new = option_map (λ s. chars (string_bytes s)) new
 
--- The literal, as the code has it, is rewritten.
+-- `choice` selects the literal `l`. Here the literal is a value of the program's type `Restylable`.
 abbrev pub IsChosenLiteral : Choice → Restylable → Type 0
 IsChosenLiteral choice l =
     IsTrue (is_rewritable choice.macros l.is_field l.in_macro) × IsOfKinds choice.kinds (chars l.token.text.now)

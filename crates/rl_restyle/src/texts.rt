@@ -62,8 +62,8 @@ pub(crate) fn new_text<A: Allocator + Copy>(
     }
 }
 
-/// Whether literals at the position of the literal are rewritten: it isn't a field of a tuple, and it isn't inside a macro call
-/// that `macros` excludes.
+/// Whether the position of `literal` allows rewriting: `literal` can't be a field, and isn't in a macro call that `macros`
+/// excludes.
 fn is_rewritable(macros: Macros, literal: Restylable<'_>) -> bool
     ensures { result ≡ rewritable macros literal.entry.is_field literal.entry.in_macro }
 {
@@ -73,7 +73,7 @@ fn is_rewritable(macros: Macros, literal: Restylable<'_>) -> bool
     }
 }
 
-/// Returns the name of the kind of the literal `text`, or `Verbatim` if `syn`'s grammar has no such literal.
+/// Returns the name of the kind of the literal `text`, or `Verbatim` if `text` isn't a literal by `syn`'s grammar.
 fn label_in(text: &str) -> &'static str
     ensures { IsLabelOf (chars text.now) result.now }
 {
@@ -83,7 +83,7 @@ fn label_in(text: &str) -> &'static str
     }
 }
 
-/// Whether the literal `text` is of one of the kinds in a list. Every literal is if there is no list.
+/// Whether the literal `text` is of one of the kinds in a list. If `kinds` is `None`, the result is `true`.
 fn is_of_kinds(kinds: Option<&str>, text: &str) -> bool
     ensures { MatchBool result (IsOfKinds kinds.entry (chars text.now)) (IsOfKinds kinds.entry (chars text.now) → ⊥) }
 {
@@ -93,7 +93,7 @@ fn is_of_kinds(kinds: Option<&str>, text: &str) -> bool
     }
 }
 
-/// Whether the literal is rewritten: literals at its position and of its kind are.
+/// Whether `choice` selects the literal, by its position and its kind.
 fn is_chosen(choice: Choice<'_>, literal: Restylable<'_>) -> bool
     ensures { MatchBool result (IsChosenLiteral choice.entry literal.entry)
         (IsChosenLiteral choice.entry literal.entry → ⊥) }

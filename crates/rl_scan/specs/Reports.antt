@@ -249,13 +249,13 @@ pub record IsListReport (command : Command) (path : List ℕ) (printed : Finding
   pub count : printed.count ≡ 0
   pub rules : printed.rules ≡ []
 
--- An error ends a call with status 2. A path that isn't UTF-8 is skipped with a warning.
+-- The exit status is 2 because of an error. A path that isn't UTF-8 is skipped with a warning.
 abbrev pub is_error : PathError → Bool
 is_error PathNotUtf8 = false
 is_error _ = true
 
--- The hint after the error of a path. It is empty unless the path doesn't exist. `lacks_find` says that the path may be a text to
--- search for.
+-- The hint after the error of a path. Only the error of a path that doesn't exist can have a hint. `lacks_find` says that the
+-- command has neither a mode nor `--files-from`.
 abbrev pub error_hint : Bool → List ℕ → PathError → List ℕ
 error_hint lacks_find path NotFound = path_hint lacks_find path
 error_hint lacks_find path _ = []

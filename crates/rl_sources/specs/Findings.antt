@@ -63,8 +63,8 @@ pub record IsFoundIn (text : List ℕ) (found : Option Found) : Type 0 where
   pub none : IfNone found (HasNoReading (chars text))
   pub some : IfSome found (IsFound text)
 
--- The parts of a literal that its type depends on: its kind, the number that an integer represents, and its suffix. A literal that has
--- a type in any case has none: `true`, `false`, and an integer above 128 bits without a flaw, which is a float by its suffix.
+-- The parts of a literal that its type depends on: its kind, the number that an integer represents, and its suffix. The result is
+-- `None` for `true`, `false` and an integer above 128 bits. Without a flaw, that integer is a float by its suffix.
 abbrev pub typed_parts : List ℕ → Reading → Option (Kind × ℕ × List ℕ)
 typed_parts text (read.Text kind body) = Some (kind, 0, suffix_in text body)
 typed_parts text (read.Unit kind body unit) = Some (kind, 0, suffix_in text body)

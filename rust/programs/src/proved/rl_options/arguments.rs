@@ -157,8 +157,8 @@ impl<'a, A: Allocator + Copy> ParsedArguments<'a, A> {
         Ok(())
     }
 
-    /// Sets the property of the command that the value `text` of an option determines. The values of the option aren't collected.
-    /// `has_colors` is true if the output accepts colours.
+    /// Sets the property of the command that the value `text` of an option determines. `operand` must be a kind whose values aren't
+    /// collected. `has_colors` is true if the output accepts colours.
     ///
     /// # Errors
     ///

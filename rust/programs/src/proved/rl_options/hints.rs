@@ -29,7 +29,7 @@ pub fn may_lack_find(command: Command<'_>) -> bool {
 }
 
 /// Returns the hint that follows the error of a path that doesn't exist. For most paths it is empty. `lacks_find` is true if the
-/// path may be a text to search for.
+/// command has neither a mode nor `--files-from`.
 ///
 /// # Errors
 ///

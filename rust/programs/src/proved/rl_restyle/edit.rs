@@ -20,8 +20,8 @@ pub enum Macros {
 pub struct Choice<'a> {
     /// Whether literals inside macro calls, `macro_rules!` definitions and attributes are rewritten.
     pub macros: Macros,
-    /// The kinds of the literals that are rewritten, or `None` for all kinds. The list has names of kinds with commas between, in
-    /// upper or lower case. A literal's kind is the one by `syn`'s grammar. A literal that isn't one by this grammar has the kind
+    /// The kinds of the literals that are rewritten, or `None` for all kinds. The list has names of kinds, separated by commas, in
+    /// upper or lower case. `syn`'s grammar determines a literal's kind. If `syn`'s grammar doesn't accept the literal, the kind is
     /// `Verbatim`.
     pub kinds: Option<&'a str>,
 }

@@ -50,8 +50,8 @@ pub(crate) fn new_text<A: Allocator + Copy>(
     }
 }
 
-/// Whether literals at the position of the literal are rewritten: it isn't a field of a tuple, and it isn't inside a macro call
-/// that `macros` excludes.
+/// Whether the position of `literal` allows rewriting: `literal` can't be a field, and isn't in a macro call that `macros`
+/// excludes.
 fn is_rewritable(macros: Macros, literal: Restylable<'_>) -> bool {
     match macros {
         Macros::Skip => !literal.is_field && !literal.in_macro,
@@ -59,7 +59,7 @@ fn is_rewritable(macros: Macros, literal: Restylable<'_>) -> bool {
     }
 }
 
-/// Returns the name of the kind of the literal `text`, or `Verbatim` if `syn`'s grammar has no such literal.
+/// Returns the name of the kind of the literal `text`, or `Verbatim` if `text` isn't a literal by `syn`'s grammar.
 fn label_in(text: &str) -> &'static str {
     match parse_literal(text) {
         Some(found) => label_of(Some(found.kind)),
@@ -67,7 +67,7 @@ fn label_in(text: &str) -> &'static str {
     }
 }
 
-/// Whether the literal `text` is of one of the kinds in a list. Every literal is if there is no list.
+/// Whether the literal `text` is of one of the kinds in a list. If `kinds` is `None`, the result is `true`.
 fn is_of_kinds(kinds: Option<&str>, text: &str) -> bool {
     match kinds {
         Some(list) => list_contains(list, label_in(text)),
@@ -75,7 +75,7 @@ fn is_of_kinds(kinds: Option<&str>, text: &str) -> bool {
     }
 }
 
-/// Whether the literal is rewritten: literals at its position and of its kind are.
+/// Whether `choice` selects the literal, by its position and its kind.
 fn is_chosen(choice: Choice<'_>, literal: Restylable<'_>) -> bool {
     is_rewritable(choice.macros, literal) && is_of_kinds(choice.kinds, literal.token.text)
 }

@@ -23,8 +23,7 @@ fn finished<A: Allocator>(source: &str, draft: Draft<A>) -> Result<Restyled<A>, 
 /// Rewrites the literals of a source by a style, and returns the new text and its edits: each literal that the style changes.
 ///
 /// Some literals aren't rewritten: invalid literal tokens, numbers that may be fields of a tuple (`t.0`, `S { 0: x }`), and the
-/// literals that `choice` excludes. The new text is lexed into the same tokens, except that each rewritten literal has its new
-/// text.
+/// literals that `choice` excludes. The tokens of the new text are those of `text`, but each rewritten literal has its new text.
 ///
 /// # Errors
 ///

@@ -57,8 +57,8 @@ fn rejections<A: Allocator + Copy>(
     }
 }
 
-/// Returns the source with the literals that `choice` selects rewritten in the style, or the unchanged source if it can't be
-/// rewritten.
+/// Returns the source in which the literals that `choice` selects are rewritten in the style. A source that can't be rewritten is
+/// returned unchanged.
 fn restyled<A: Allocator + Copy>(
     alloc: A,
     style: Style,
@@ -75,8 +75,8 @@ fn restyled<A: Allocator + Copy>(
     }
 }
 
-/// Rewrites the literals of a source that `choice` selects in a style, unless a token is invalid or isn't closed, or the source
-/// begins as a script.
+/// Rewrites a source in a style: the literals that `choice` selects. A source isn't rewritten if a token is invalid or isn't closed,
+/// or if it begins as a script.
 ///
 /// # Errors
 ///

@@ -284,13 +284,13 @@ pub(crate) fn report_text<A: Allocator + Copy>(
     })
 }
 
-/// Whether an error ends a call with status 2. A path that isn't UTF-8 is skipped, with a warning.
+/// Whether the exit status is 2 because of an error. A path that isn't UTF-8 is skipped with a warning.
 fn is_error(error: PathError) -> bool {
     !matches!(error, PathError::PathNotUtf8)
 }
 
-/// Returns the hint after the error of a path. It is empty unless the path doesn't exist. `lacks_find` is true if the path may be a
-/// text to search for.
+/// Returns the hint after the error of a path. Only the error of a path that doesn't exist can have a hint. `lacks_find` is true if
+/// the command has neither a mode nor `--files-from`.
 fn hint_after<A: Allocator + Copy>(
     alloc: A,
     lacks_find: bool,
@@ -304,7 +304,7 @@ fn hint_after<A: Allocator + Copy>(
 }
 
 /// Returns the output for a path that can't be read: a line on standard error. For a skipped name or path the line is a warning.
-/// `lacks_find` is true if the path may be a text to search for.
+/// `lacks_find` is true if the command has neither a mode nor `--files-from`.
 pub(crate) fn report_error<A: Allocator + Copy>(
     alloc: A,
     lacks_find: bool,

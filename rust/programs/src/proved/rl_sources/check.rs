@@ -15,7 +15,7 @@ pub(crate) fn looks_for_flaws(options: &Options<'_>) -> bool {
 }
 
 /// Returns the parts of a literal that its type depends on: its kind, the number that an integer represents, and its suffix. Returns
-/// `None` if the literal has a type in any case.
+/// `None` for a `bool`, and for an integer above 128 bits.
 #[inline(always)]
 fn typed_parts<'t>(text: &'t str, reading: &Reading) -> Option<(Kind, u128, &'t str)> {
     match reading {
@@ -32,8 +32,8 @@ fn typed_parts<'t>(text: &'t str, reading: &Reading) -> Option<(Kind, u128, &'t 
 
 /// Returns the reason why Rust has no type for the literal `text`, or `None` if it has one.
 ///
-/// `before` is the source before the literal, and `reading` the literal's parse result. For an integer or another literal without a
-/// suffix `before` isn't read.
+/// `before` is the source before the literal, and `reading` the literal's parse result. `before` is read only if the literal
+/// is a float or has a suffix.
 fn type_error_after(before: &str, text: &str, reading: &Reading) -> Option<TypeError> {
     let (kind, magnitude, suffix) = typed_parts(text, reading)?;
     if suffix.is_empty() && !matches!(kind, Kind::Float) {
@@ -42,8 +42,8 @@ fn type_error_after(before: &str, text: &str, reading: &Reading) -> Option<TypeE
     type_error_of(kind, text, magnitude, suffix, may_be_negated(before))
 }
 
-/// Returns the flaw of the literal `text` if it is an integer above 128 bits. With `any_value` such an integer has no flaw, as in a
-/// macro's argument. `reading` is the literal's parse result.
+/// Returns the flaw of the literal `text` if it is an integer above 128 bits that its suffix doesn't make a float. With `any_value`,
+/// the result is `None`, as in a macro's argument. `reading` is the literal's parse result.
 fn value_flaw(any_value: bool, text: &str, reading: &Reading) -> Option<Flaw> {
     if any_value {
         return None;
@@ -53,8 +53,8 @@ fn value_flaw(any_value: bool, text: &str, reading: &Reading) -> Option<Flaw> {
 
 /// Returns the error of the literal `text`, which is a token, or `None` if it has none.
 ///
-/// `before` is the source before the literal, and `reading` its parse result. The error is that of an integer above 128 bits, a
-/// reserved prefix, or a missing type. If any suffix is allowed, it is a reserved prefix.
+/// `before` is the source before the literal, and `reading` its parse result. The error is an integer above 128 bits, a reserved
+/// prefix, or a missing type. If `options` allow any suffix, only a reserved prefix is an error.
 fn find_wrong(options: &Options<'_>, before: &str, text: &str, reading: &Reading) -> Option<Wrong> {
     if let Some(flaw) = value_flaw(options.any_suffix, text, reading) {
         return Some(Wrong::Flaw(flaw));
