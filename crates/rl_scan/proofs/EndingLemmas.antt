@@ -9,6 +9,7 @@ use Rattle.rl_files.specs.Replacements.{Replacement}
 use Rattle.rl_files.specs.Trees.{World}
 use Rattle.rl_files.specs.Walks.{Waypoint}
 use Rattle.rl_files.proofs.WalkLemmas.{some_visits}
+use Rattle.rl_files.specs.declared.walk.WalkError.TheVariants.{OutOfMemory}
 use Rattle.rl_program.specs.declared.exit.Ending.{Ending}
 use Rattle.rl_program.specs.declared.exit.Ending.TheVariants.{Done, FoundBad, Reported, Closed, Usage, Failed}
 use Rattle.rl_options.specs.declared.command.Action.{Action}
@@ -34,7 +35,7 @@ use Rattle.rl_scan.proofs.RunLemmas.{not_empty}
 use Rattle.rl_options.specs.HelpPage.{help_page}
 use Rattle.rl_options.specs.Wishes.{Collected, Wishes, style_of, wishes_of, reads_current_directory}
 use Rattle.rl_options.specs.Words.{AskForWishes}
-use Rattle.rl_scan.specs.Endings.{EndsText, EndsWish, EndsAsked, EndsAsScan, EndsFrom, EndsListed, EndsPaths, EndsRuled, EndsScan, EndsStyled, EndsWithoutMemory, paths_read, IsCommandFor, IsRulesError, IsSelecting, WritesNothing}
+use Rattle.rl_scan.specs.Endings.{EndsText, EndsWish, EndsAsked, EndsAsScan, EndsFrom, EndsListed, EndsPaths, EndsRuled, EndsScan, EndsStyled, paths_read, IsCommandFor, IsRulesError, IsSelecting, WritesNothing}
 
 -- The bytes of a writer are unchanged if nothing is written.
 pub keeps_same : (a : Option (List ℕ)) → Keeps a a
@@ -51,7 +52,8 @@ ends_help wishes lacks_input holds o0 o1 e h text ending is page ends =
     rw is (inl (subst (λ (t : List ℕ). EndsText t o0 o1 ending) page ends, keeps_same e, refl))
 
 pub ends_no_help : {B : Type 0} (wishes : Wishes) (lacks_input : Bool) (holds : Option World) (o e : Option (List ℕ))
-    (h : Option (List Replacement)) (ending : Ending (CallError B)) → wishes.action ≡ Help → EndsWithoutMemory ending
+    (h : Option (List Replacement)) (ending : Ending (CallError B)) → wishes.action ≡ Help
+    → ending ≡ Failed (Walk OutOfMemory)
     → EndsAsked wishes lacks_input holds (written_on o o e e h h) ending
 ends_no_help wishes lacks_input holds o e h ending is ends = rw is (inr (ends, (keeps_same o, keeps_same e, refl)))
 
@@ -227,7 +229,8 @@ no_arguments B Scan wishes lacks_input holds streams ends =
     styled_arguments B wishes.style wishes lacks_input holds streams ends
 no_arguments B Files wishes lacks_input holds streams ends =
     styled_arguments B wishes.style wishes lacks_input holds streams ends
-no_arguments B Help wishes lacks_input holds streams (text, ((never, begun), kept, same)) = never
+no_arguments B Help wishes lacks_input holds streams (inl ((never, begun), kept, same)) = never
+no_arguments B Help wishes lacks_input holds streams (inr (is, same)) = absurd (cc)
 no_arguments B Version wishes lacks_input holds streams (text, ((never, begun), kept, same)) = never
 no_arguments B Rules wishes lacks_input holds streams ((never, begun), kept, same) = never
 no_arguments B (Generate which) wishes lacks_input holds streams ((never, begun), kept, same) = never
@@ -238,7 +241,8 @@ no_word error Scan wishes lacks_input holds streams ends =
     styled_word error wishes.style wishes lacks_input holds streams ends
 no_word error Files wishes lacks_input holds streams ends =
     styled_word error wishes.style wishes lacks_input holds streams ends
-no_word error Help wishes lacks_input holds streams (text, ((never, begun), kept, same)) = never
+no_word error Help wishes lacks_input holds streams (inl ((never, begun), kept, same)) = never
+no_word error Help wishes lacks_input holds streams (inr (is, same)) = absurd (cc)
 no_word error Version wishes lacks_input holds streams (text, ((never, begun), kept, same)) = never
 no_word error Rules wishes lacks_input holds streams ((never, begun), kept, same) = never
 no_word error (Generate which) wishes lacks_input holds streams ((never, begun), kept, same) = never

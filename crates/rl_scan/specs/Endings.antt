@@ -230,7 +230,7 @@ abbrev pub EndsWish : {B : Type 0} → Action → Wishes → Bool → Option Wor
 EndsWish Scan wishes lacks_input holds streams ending = EndsStyled wishes.style wishes lacks_input holds streams ending
 EndsWish Files wishes lacks_input holds streams ending = EndsStyled wishes.style wishes lacks_input holds streams ending
 EndsWish Help wishes lacks_input holds streams ending =
-    EndsWriting help_page streams ending ⊎ (EndsWithoutMemory ending × WritesNothing streams)
+    EndsWriting help_page streams ending ⊎ ((ending ≡ Failed (Walk OutOfMemory)) × WritesNothing streams)
 EndsWish Version wishes lacks_input holds streams ending = (text : List ℕ) × EndsWriting text streams ending
 EndsWish Rules wishes lacks_input holds streams ending = EndsWriting rules_page streams ending
 EndsWish (Generate which) wishes lacks_input holds streams ending = EndsWriting (generated_text which) streams ending

@@ -2,7 +2,10 @@
 
 ghost use Rattle.std.specs.Prelude.{◌≡◌, OnOk};
 ghost use Rattle.rl_files.specs.Globs.{borrowed_texts};
+ghost use Rattle.rl_files.specs.declared.walk.WalkError.TheVariants.{OutOfMemory};
 ghost use Rattle.rl_files.specs.Trees.{string_texts};
+ghost use Rattle.rl_program.specs.declared.exit.Ending.TheVariants.{Failed};
+ghost use Rattle.rl_scan.specs.declared.exit.CallError.TheVariants.{Walk as FailedWalk};
 ghost use Rattle.rl_scan.specs.Endings.{extensions_read, finds_no_file, paths_read, EndsAsScan, EndsAsked, EndsListed, EndsPaths, EndsRuled, EndsRun, EndsScan, EndsStyled, EndsText, EndsWithoutMemory, IsCutShort, IsListError, IsRulesError, IsSelecting, IsStyleError, IsUnwritten};
 ghost use Rattle.rl_scan.specs.Runs.{asked_status};
 ghost use Rattle.rl_options.specs.Wishes.{reads_current_directory as is_read_here, style_of, wishes_in};
@@ -525,7 +528,8 @@ fn answer<A: Allocator + Copy, T: Tree, W: Write, E: Write, F: Replace>(
 
 /// Returns the result of a call whose arguments can't be read, since an allocation failed.
 pub fn out_of_memory_ending<A: Allocator>() -> Ending<CallError<A>>
-    ensures { EndsWithoutMemory result }
+    ensures ending { result ≡ Failed (FailedWalk OutOfMemory) }
+    ensures line { EndsWithoutMemory result }
 {
     let error = CallError::Walk(WalkError::OutOfMemory);
     Ending::Failed(error)

@@ -3,13 +3,13 @@ use Rattle.rl_options.specs.Wishes.{wishes_in}
 use Rattle.rl_scan.proofs.EndingLemmas.{ends_generated, ends_help, ends_no_help, ends_rules, ends_version}
 use Rattle.rl_scan.proofs.exit.answer.Goals as goal
 
-pub returns-in-Help-in-Ok : goal.returns-in-Help-in-Ok
-returns-in-Help-in-Ok g c = ends_help (wishes_in c.args.asked) c.args.lacks_input (g.T.Tree.holds c.args.tree.now) _ _ _ _
+pub returns-in-Ok : goal.returns-in-Ok
+returns-in-Ok g c = ends_help (wishes_in c.args.asked) c.args.lacks_input (g.T.Tree.holds c.args.tree.now) _ _ _ _
     _ c.write_text.result c.in-Help.is (c.as_str.ensures.value ∙ c.in-Ok.ensures) c.write_text.ensures
 
-pub returns-in-Help-in-Err : goal.returns-in-Help-in-Err
-returns-in-Help-in-Err g c = ends_no_help (wishes_in c.args.asked) c.args.lacks_input (g.T.Tree.holds c.args.tree.now) _ _
-    _ c.out_of_memory_ending.result c.in-Help.is c.out_of_memory_ending.ensures
+pub returns-in-Help : goal.returns-in-Help
+returns-in-Help g c = ends_no_help (wishes_in c.args.asked) c.args.lacks_input (g.T.Tree.holds c.args.tree.now) _ _
+    _ c.out_of_memory_ending.result c.in-Help.is c.out_of_memory_ending.ensures.ending
 
 pub returns-in-Version : goal.returns-in-Version
 returns-in-Version g c = ends_version (wishes_in c.args.asked) c.args.lacks_input (g.T.Tree.holds c.args.tree.now) _ _

@@ -12,4 +12,4 @@ returns-in-Err-clause-reports g c = no_text_reported c.args.command c.args.path.
       rw c.valid_up_to.ensures
           c.in-Err.ensures.cases.1,
     )
-    c.report_error.ensures
+    (rw c.may_lack_find.ensures at c.report_error.ensures)

@@ -9,9 +9,9 @@ returns-in-Ok-report_bytes-clause-reports g c = was_read c.args.command (g.T.Tre
 
 pub returns-in-Err-clause-reports : goal.returns-in-Err-clause-reports
 returns-in-Err-clause-reports g c = was_unread c.args.command (g.T.Tree.holds c.args.tree.now) c.args.path.now
-    c.in-Err.error c.report_error.result _ _ refl c.in-Err.ensures c.report_error.ensures
+    c.in-Err.error c.report_error.result _ _ refl c.in-Err.ensures (rw c.may_lack_find.ensures at c.report_error.ensures)
 
 pub returns-clause-reports : goal.returns-clause-reports
 returns-clause-reports g c = was_unread c.args.command (g.T.Tree.holds c.args.tree.now) c.args.path.now _
     c.report_error-in-Err-report_bytes.result _ _ c.in-Err-report_bytes.ensures.kept (inl refl)
-    c.report_error-in-Err-report_bytes.ensures
+    (rw c.may_lack_find-in-Err-report_bytes.ensures at c.report_error-in-Err-report_bytes.ensures)
