@@ -75,8 +75,8 @@ def escaped():
 
 
 def visible(line):
-    """Returns the line as rl_scan prints it."""
-    return escaped().sub(lambda it: '\\u{%x}' % ord(it[0]), line.decode()).encode()
+    """Returns the line as rl_scan prints it. A runner of GitHub takes a line with `##[` for a command."""
+    return escaped().sub(lambda it: '\\u{%x}' % ord(it[0]), line.decode()).replace('##[', '##\\u{5b}').encode()
 
 
 # ---- the contents of texts

@@ -33,6 +33,8 @@ NOT_TEXT = b'error: input is not UTF-8'
 # The number of texts, and the number of bytes of sources, that are processed at a time.
 AT_ONCE = (20_000, 4_000_000)
 PLACED = re.compile(rb'(\d+)\.\.(\d+) (.*)', re.S)
+# The start of the error of a source as rl_scan prints it, and its start in this script, which no line of a literal has.
+ERROR, ERROR_AT = re.compile(rb'^(\d+(?:\.\.|:)\d+) error: '), rb'error at \1: '
 # Options with which rl_scan is run, in addition to a run that prints all lines.
 WORDS = (('--lines',), ('--lines', '--no-stray', '--only', 'int,FLOAT,Verbatim'), ('--only', 'verbatim'))
 # The edition for sources with prefixes that later editions reserve.
@@ -52,7 +54,7 @@ def moved(lines, by):
 
 
 def scanned(program, words, data):
-    """Returns the lines of rl_scan, with the line of its error in the form of rl_answers. A line is added if its exit status doesn't
+    """Returns the lines of rl_scan, with its error in the form of this script. A line is added if its exit status doesn't
     fit these lines."""
     ended = subprocess.run([program, *words], input=data, capture_output=True, check=False)
     lines, error = ended.stdout.split(b'\n'), ended.stderr
@@ -60,7 +62,7 @@ def scanned(program, words, data):
         return [b'ended with the status %d, and said %s' % (ended.returncode, error)]
     if re.fullmatch(rb'rl_scan: -: not UTF-8 at byte \d+\n', error):
         return [*lines, NOT_TEXT]
-    return lines + ([re.sub(rb'^(\d+(?:\.\.|:)\d+) error: ', rb'error at \1: ', error[:-1])] if error else [])
+    return lines + ([ERROR.sub(ERROR_AT, error[:-1])] if error else [])
 
 
 def line_places(data, lines):
@@ -181,7 +183,8 @@ class Sides:
         """Returns the results of rl_scan, or of rl_answers."""
         if each:
             return self.scanned(datas)
-        return [answer.split(b'\n') if answer else [] for answer in frame.of_rows(self.asked.rl_answers, 'source', datas)]
+        answers = frame.of_rows(self.asked.rl_answers, 'source', datas)
+        return [[ERROR.sub(ERROR_AT, line) for line in answer.split(b'\n')] if answer else [] for answer in answers]
 
     def theirs(self, datas):
         """Returns the results of rustc's own lexer: for each source its lines and the edition that accepted it, or None and the

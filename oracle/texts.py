@@ -26,9 +26,11 @@ FRAMES = [
 ]
 
 # For each command of rl_tool, texts with the lines that it must print, by `syn` and an independent model. The tests of Cargo
-# include the file too, so it is a tuple of lists of pairs both in Rust and in Python.
+# include the file too, so it is a tuple of lists of pairs both in Rust and, except for the escape \u{..}, in Python.
 RESULTS = Path(frame.TOP, 'rust/programs/tests/stored/texts.rs')
-STORED = dict(zip(('text', 'read', 'attr'), ast.literal_eval(RESULTS.read_bytes().decode())))
+ESCAPE = re.compile(r'\\(?:u\{(\w+)\}|.)')
+PYTHONS = ESCAPE.sub(lambda it: f'\\U{it[1]:0>8}' if it[1] else it[0], RESULTS.read_bytes().decode())
+STORED = dict(zip(('text', 'read', 'attr'), ast.literal_eval(PYTHONS)))
 WORKED = [text for text, _ in STORED['text']] + [
     str(LIMIT + 1) + 'f64', '-' + str(LIMIT + 1) + '_f32', str(LIMIT + 1) + 'f16', '-' + str(LIMIT + 1) + 'f644', hex(LIMIT + 1) + 'f64',
     '"' + 'a' * 5000 + '"', 'b"' + '\\xFF' * 700 + '"', '"' + '\\u{1F600}' * 300 + '"',

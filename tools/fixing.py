@@ -5,8 +5,8 @@
                                         case, in 15 s; the status is 1 if one fails
 
 PROGRAM is an `rl_scan` with `--fix`, which must rewrite `1E5` as `1e5` in its default style. A file keeps its permissions to read,
-write and run it, its owner and group, and the links to it. It doesn't keep other names (hard links), setuid
-and similar bits, and extended attributes. Cases that need root, a tmpfs, `strace` or `chattr` are reported as skipped if it is
+write and run it, its owner and group, and the symbolic links to it. A file that wouldn't keep its other names (hard links), setuid
+and similar bits, or an access control list stays as it is. Cases that need root, a tmpfs, `strace` or `chattr` are reported as skipped if it is
 missing. No case tests a file that changes between the last check and the rename, which are two calls of the system: that is the one
 gap.
 """
@@ -107,17 +107,29 @@ class Fixing(unittest.TestCase):
         self.assertEqual(second.read_bytes(), OLD)
 
     def test_permissions_stay(self):
-        # The bits above the permissions go, such as setuid.
-        for mode in (0o640, 0o600, 0o755, 0o666, 0o644, 0o6755):
+        for mode, umask in ((0o640, 0o027), (0o664, 0o002), (0o770, 0o007), (0o600, 0o077), (0o755, 0o077), (0o666, 0o077)):
             path = self.write(mode=mode)
-            self.fix(path, umask=0o077)
-            self.assertEqual(stat.S_IMODE(path.stat().st_mode), mode & 0o777)
+            self.fix(path, umask=umask)
+            self.assertEqual(stat.S_IMODE(path.stat().st_mode), mode)
+
+    def test_permissions_that_could_change(self):
+        # The last three files may have an access control list, whose mask their group would get.
+        for mode, umask in ((0o4755, 0o022), (0o2755, 0o022), (0o1644, 0o022), (0o640, 0o022), (0o664, 0o022), (0o660, 0o002)):
+            path = self.write(mode=mode)
+            self.left(path, "its permissions or access control list could change", umask=umask)
+            self.assertEqual(stat.S_IMODE(path.stat().st_mode), mode)
+
+    def test_an_access_control_list(self):
+        path = self.write(mode=0o640)
+        if not shutil.which("setfacl") or subprocess.run(["setfacl", "-m", "u:nobody:rw", path], check=False).returncode:
+            self.skipTest("no access control lists")
+        self.left(path, "its permissions or access control list could change", umask=0o022)
 
     @unittest.skipUnless(IS_ROOT, "not root")
     def test_the_owner_stays(self):
         path = self.write(mode=0o640)
         os.chown(path, 1234, 2345)
-        self.fix(path)
+        self.fix(path, umask=0o027)
         found = path.stat()
         self.assertEqual((found.st_uid, found.st_gid, stat.S_IMODE(found.st_mode)), (1234, 2345, 0o640))
 
@@ -141,7 +153,7 @@ class Fixing(unittest.TestCase):
     def test_links_are_followed(self):
         inner, first, second = (self.folder / name for name in ("in", "b.rs", "c.rs"))
         inner.mkdir()
-        self.write("in/a.rs", mode=0o640)
+        self.write("in/a.rs", mode=0o755)
         first.symlink_to("in/a.rs")
         second.symlink_to(first)
         self.fix(second)
@@ -149,11 +161,11 @@ class Fixing(unittest.TestCase):
         self.expect(inner, a=NEW)
         self.expect(b=NEW, c=NEW)
 
-    def test_other_names_keep_the_old_bytes(self):
+    def test_a_file_with_other_names(self):
         path = self.write()
         os.link(path, self.folder / "b.rs")
-        self.fix(path)
-        self.expect(a=NEW, b=OLD)
+        self.fix(path, status=2, words="has other hard links")
+        self.expect(a=OLD, b=OLD)
 
     def test_a_file_that_nobody_may_write(self):
         self.left(self.write(mode=0o444), "permission denied")
@@ -204,7 +216,7 @@ class Fixing(unittest.TestCase):
         path = self.write()
         for number in range(100):
             self.write(f"a.rs.rl_scan-{number}", b"")
-        self.fix(path, status=2, words="write failed")
+        self.fix(path, status=2, words="are in use")
         self.assertEqual((path.read_bytes(), len(list(self.folder.iterdir()))), (OLD, 101))
 
     def test_several_at_once(self):

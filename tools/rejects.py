@@ -51,7 +51,7 @@ TRIED += [(INLINING, *change) for change in [
     ('strict.rs skip_raw_characters', 'strict.rs skip_units', 'skip_units'),
     ('skip_raw_characters: ', 'skip_raw_characters ', 'no entry'),
     ('+ rl_cursors/ranges.rs *', '+ rl_cursors/range.rs *', 'range.rs'),
-    ('+ rl_settings/ *', '+ rl_setting/ *', 'rl_setting/'), ('found.rs parse_number_literal, ', 'found.rs find_numbers, ', 'find_numbers'),
+    ('+ rl_flaws/ *', '+ rl_flaw/ *', 'rl_flaw/'), ('found.rs parse_number_literal, ', 'found.rs find_numbers, ', 'find_numbers'),
     ('strict_reading.rs read_rare', 'strict_reading.rs read_next', 'read_next'),
     ('strict_reading.rs read_rare', 'strict_reading.rs number_at', 'number_at'),
 ]]
@@ -86,10 +86,10 @@ FINE = ['trait Odd {}', 'impl From<u8> for Odd {\n}', 'fn odd() { write!(format!
 BOTH = [*((item, f"rejected: {{'{word}'}}") for word, item in WORDS.items()),
         *((item, f'left: {words}') for words, item in LEFT.items())]
 TRIED += [(IDENT, CORE_PLACE, f'{item}\n\n{CORE_PLACE}', said) for item, said in [
-    *BOTH, ('trait Odd {}', "rejected: {'trait'}"), *((item, None) for item in CORE_FINE),
+    *BOTH, ('trait Odd {}', "traits: {'Odd'}"), *((item, None) for item in CORE_FINE),
     *((f'fn odd(it: {word}) {{}}', f"takes memory: {{'{word}'}}") for word in CORE_MEMORY),
     *((f'fn odd() {{ {word}!(1) }}', f"macros: {{'{word}'}}") for word in CORE_MACROS),
-    *((item, f"impls: {{'{word}'}}") for word, item in CORE_IMPLS.items()),
+    *((item, f"traits: {{'{word}'}}") for word, item in CORE_IMPLS.items()),
 ]]
 TRIED += [(LINE, PLACE, f'{item}\n\n{PLACE}', said) for item, said in [
     *BOTH, *((item, None) for item in FINE),

@@ -9,8 +9,8 @@ BENCH = os.path.dirname(os.path.dirname(os.path.abspath(__file__)))
 TOP = os.path.dirname(BENCH)
 DRIVER = os.path.join(BENCH, 'driver')
 BUILD = os.path.join(DRIVER, 'target')
-# rustc's own lexer, in Debian's rust-src. It depends on `unic-emoji-char`, which Debian doesn't have.
-LEXER = '/usr/src/rustc-*/compiler/rustc_lexer'
+# rustc's own lexer, in Debian's rust-src. It depends on `unicode-xid`, and on `unic-emoji-char`, which Debian doesn't have.
+LEXER, UNICODE_XID = '/usr/src/rustc-*/compiler/rustc_lexer', '/usr/share/cargo/registry/unicode-xid-*'
 LEXER_LINES = """[dependencies.rustc_lexer]
 path = "%s"
 [patch.crates-io.unic-emoji-char]
@@ -41,7 +41,7 @@ def dependencies(oracle):
     found = {}
     if oracle:
         found['oracle'] = '[dependencies.synval]\npath = "%s"\n' % os.path.abspath(oracle)
-    if lexer := glob.glob(LEXER):
+    if (lexer := glob.glob(LEXER)) and glob.glob(UNICODE_XID):
         found['rustc_lexer'] = LEXER_LINES % (max(lexer), os.path.join(DRIVER, 'unic_emoji_char'))
     return found
 
@@ -59,15 +59,16 @@ def with_dependencies(lines):
     return folder
 
 
-def driver(oracle):
-    """Builds the driver and returns its path. First checks that the driver's works have equal sums where they must."""
+def driver(oracle, profile='release'):
+    """Builds the driver in this profile of Cargo and returns its path. First checks that the driver's works have equal sums where they
+    must."""
     features = dependencies(oracle)
     folder = with_dependencies(features.values()) if features else DRIVER
-    command = ['cargo', 'build', '--release', '--offline', '--quiet', '--target-dir', BUILD]
+    command = ['cargo', 'build', '--profile', profile, '--offline', '--quiet', '--target-dir', BUILD]
     command += ['--manifest-path', os.path.join(folder, 'Cargo.toml')]
     command += ['--features', ','.join(features)] if features else []
     subprocess.run(command, cwd=DRIVER, check=True)
-    path = os.path.join(BUILD, 'release/driver')
+    path = os.path.join(BUILD, 'debug' if profile == 'dev' else profile, 'driver')
     subprocess.run([path, 'check', str(CHECKED)], check=True)
     return path
 

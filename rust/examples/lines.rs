@@ -5,7 +5,7 @@
 
 use navyspindle::{
     is_token, parse_settings, write_byte, write_byte_str, write_char, write_str, Lit, Segment,
-    SegmentValue, SyntaxErrorKind,
+    SegmentValue, SettingErrorKind, SyntaxErrorKind,
 };
 use std::borrow::Cow;
 
@@ -51,7 +51,11 @@ fn settings_of(text: &str) -> String {
             entries.iter().map(line).collect()
         }
         Err(error) => {
-            let (range, kind) = (error.range(), error.kind());
+            let range = error.range();
+            let kind = match error.kind() {
+                SettingErrorKind::Syntax(kind) => *kind,
+                _ => SyntaxErrorKind::Repeated,
+            };
             match lexer_words(kind) {
                 Some(words) => format!("error at {}..{}: {words}\n", range.start, range.start),
                 None => format!("error at {}..{}: {kind}\n", range.start, range.end),
@@ -80,7 +84,7 @@ fn lexer_words(kind: SyntaxErrorKind) -> Option<&'static str> {
 
 /// Returns the segments of a quoted literal, and the range for each byte of its value, as one line of JSON.
 fn places_of(text: &str) -> String {
-    let literal = Lit::new(text);
+    let literal = Lit::of_text(text);
     let (segments, places, len) = match &literal {
         Lit::Str(it) => (it.segments(), it.offset_map(), it.value().len()),
         Lit::ByteStr(it) => (it.segments(), it.offset_map(), it.value().len()),
@@ -118,7 +122,7 @@ fn encoded(text: &str) -> String {
 
 /// Returns the value that a literal borrows from its text, as a byte string literal, or `None` as text if it borrows nothing.
 fn borrowed_of(text: &str) -> String {
-    let literal = Lit::new(text);
+    let literal = Lit::of_text(text);
     let bytes = match &literal {
         Lit::Str(string) => borrowed_text(string.value()),
         Lit::ByteStr(string) => borrowed(string.value()),
@@ -147,7 +151,7 @@ fn borrowed_text(text: Cow<'_, str>) -> Option<&[u8]> {
 /// Returns the result of a command for a text, or `None` for an unknown command.
 fn answer(command: &str, text: &str) -> Option<String> {
     let line = match command {
-        "text" => line_of(&Lit::new(text)),
+        "text" => line_of(&Lit::of_text(text)),
         "attr" => settings_of(text),
         "places" => places_of(text),
         "value" => borrowed_of(text),

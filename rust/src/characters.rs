@@ -3,7 +3,7 @@
 #[cfg(doc)]
 use crate::common::example;
 use crate::common::literal_type;
-use crate::rl_lenient::Body;
+use crate::rl_lenient::{parts, Body};
 use crate::rl_syntax::Kind;
 use crate::segments::quoted_type;
 use alloc::borrow::Cow;
@@ -58,7 +58,7 @@ macro_rules! single_type {
             #[inline]
             #[must_use]
             pub fn body(&self) -> &str {
-                &self.text[self.body_range()]
+                parts::body_of(&self.text, &self.parts())
             }
 
             /// Returns the byte range of the text between the quotes.

@@ -1,17 +1,9 @@
 //! Functions and methods that all kinds of literals share.
 
+use crate::rl_lenient::{parts, Body};
 use alloc::borrow::Cow;
 use alloc::string::String;
 use core::ops::Range;
-
-/// Returns the part of the text between the byte offsets `from` and `to`. A part of borrowed text is borrowed for as long.
-#[inline]
-pub(crate) fn part(text: Cow<'_, str>, from: usize, to: usize) -> Cow<'_, str> {
-    match text {
-        Cow::Borrowed(text) => Cow::Borrowed(&text[from..to]),
-        Cow::Owned(text) => Cow::Owned(String::from(&text[from..to])),
-    }
-}
 
 #[inline]
 pub(crate) fn shifted(range: Range<usize>, by: usize) -> Range<usize> {
@@ -26,13 +18,14 @@ pub(crate) fn owned(text: Cow<'_, str>) -> Cow<'static, str> {
 /// Returns the text from the byte offset `suffix_at` to its end.
 #[inline]
 pub(crate) fn suffix_of(text: &str, suffix_at: usize) -> &str {
-    // Most literals have no suffix, so the empty suffix is tested first. Slicing at the text's end needs no other test.
-    let end = text.len();
-    if suffix_at == end {
-        &text[end..]
-    } else {
-        &text[suffix_at..]
-    }
+    let (lo, hi, plain) = (suffix_at, suffix_at, false);
+    let body = Body {
+        lo,
+        hi,
+        suffix_at,
+        plain,
+    };
+    parts::suffix_of(text, &body)
 }
 
 /// Builds the source text of a documentation example: it parses a literal of struct `$name` from `$text`, and continues with the
@@ -42,7 +35,7 @@ pub(crate) fn suffix_of(text: &str, suffix_at: usize) -> &str {
 #[cfg(doc)]
 macro_rules! example {
     (@literal LitVerbatim, $text:literal) => {
-        concat!("use navyspindle::Lit;\n\nlet Lit::Verbatim(literal) = Lit::new(", stringify!($text), ") else { panic!() };\n")
+        concat!("use navyspindle::Lit;\n\nlet Lit::Verbatim(literal) = Lit::of_text(", stringify!($text), ") else { panic!() };\n")
     };
     (@literal $name:ident, $text:literal) => {
         concat!(
@@ -123,28 +116,6 @@ macro_rules! text_type {
 
         impl Eq for $name<'_> {}
 
-        /// Literals of one kind are ordered by their texts.
-        impl Ord for $name<'_> {
-            #[inline]
-            fn cmp(&self, other: &Self) -> core::cmp::Ordering {
-                self.text.cmp(&other.text)
-            }
-        }
-
-        impl PartialOrd for $name<'_> {
-            #[inline]
-            fn partial_cmp(&self, other: &Self) -> Option<core::cmp::Ordering> {
-                Some(self.cmp(other))
-            }
-        }
-
-        impl AsRef<str> for $name<'_> {
-            #[inline]
-            fn as_ref(&self) -> &str {
-                &self.text
-            }
-        }
-
         impl core::hash::Hash for $name<'_> {
             #[inline]
             fn hash<H: core::hash::Hasher>(&self, state: &mut H) {
@@ -200,8 +171,10 @@ macro_rules! literal_type {
             #[inline]
             #[must_use]
             pub fn into_suffix(self) -> alloc::borrow::Cow<'t, str> {
-                let end = self.text.len();
-                $crate::common::part(self.text, self.suffix_at, end)
+                match self.text {
+                    alloc::borrow::Cow::Borrowed(text) => text[self.suffix_at..].into(),
+                    alloc::borrow::Cow::Owned(text) => alloc::string::String::from(&text[self.suffix_at..]).into(),
+                }
             }
         }
 
@@ -211,8 +184,8 @@ macro_rules! literal_type {
 
             #[inline]
             fn try_from(text: &'t str) -> Result<Self, $crate::ParseError> {
-                match $crate::Lit::try_from(text)? {
-                    $crate::Lit::$variant(literal) => Ok(literal),
+                match $crate::Lit::try_from(text) {
+                    Ok($crate::Lit::$variant(literal)) => Ok(literal),
                     other => Err($crate::ParseError::of_kind($crate::Kind::$variant, other)),
                 }
             }
@@ -224,8 +197,8 @@ macro_rules! literal_type {
 
             #[inline]
             fn try_from(text: alloc::string::String) -> Result<Self, $crate::ParseError> {
-                match $crate::Lit::try_from(text)? {
-                    $crate::Lit::$variant(literal) => Ok(literal),
+                match $crate::Lit::try_from(text) {
+                    Ok($crate::Lit::$variant(literal)) => Ok(literal),
                     other => Err($crate::ParseError::of_kind($crate::Kind::$variant, other)),
                 }
             }
@@ -237,8 +210,8 @@ macro_rules! literal_type {
 
             #[inline]
             fn from_str(text: &str) -> Result<Self, $crate::ParseError> {
-                match text.parse()? {
-                    $crate::Lit::$variant(literal) => Ok(literal),
+                match text.parse() {
+                    Ok($crate::Lit::$variant(literal)) => Ok(literal),
                     other => Err($crate::ParseError::of_kind($crate::Kind::$variant, other)),
                 }
             }

@@ -4,10 +4,10 @@
 use crate::common::shifted;
 use crate::help::Separators;
 use crate::lit::Lit;
+use crate::rl_cursors::{first_error, next_config_entry, EntryRejection, EntryStep, NextEntry};
 use crate::rl_lexer::{without_byte_order_mark, Tokens};
-use crate::rl_settings::{first_error, next_config_entry, EntryRejection, EntryStep, NextEntry};
 use crate::setting::{no_such, without_suffix, Key, SettingError, Settings};
-use crate::settings::{entry_of, rejected, Entry, SettingsSyntaxError};
+use crate::settings::{entry_of, of_lexer, rejected, repeated, Entry};
 use alloc::borrow::Cow;
 use alloc::collections::BTreeSet;
 use alloc::ffi::CString;
@@ -44,24 +44,13 @@ use alloc::vec::Vec;
 /// let entries = parse_config(text)?;
 /// let names: Vec<_> = entries.iter().map(|entry| entry.name).collect();
 /// assert_eq!(names, ["title", "server.host", "server.port"]);
-/// assert_eq!(entries[2].value, Lit::new("8080"));
+/// assert_eq!(entries[2].value, Lit::of_text("8080"));
 /// assert_eq!(&text[entries[2].name_range.clone()], "server.port");
 /// assert_eq!(LineIndex::new(text).line_column(entries[2].value_range.start).to_string(), "3:34");
-/// # Ok::<(), navyspindle::SettingsSyntaxError>(())
-/// ```
-///
-/// ```
-/// use navyspindle::{parse_config, SyntaxErrorKind, Part};
-///
-/// let error = parse_config("a = 1 b = 2").unwrap_err();
-/// assert_eq!((error.kind(), error.range()), (SyntaxErrorKind::Expected(Part::Comma), 6..7));
-/// for (text, range) in [("a .b = 1", 2..3), ("a. = 1", 3..4), ("a. b = 1", 1..2)] {
-///     let error = parse_config(text).unwrap_err();
-///     assert_eq!((error.kind(), error.range()), (SyntaxErrorKind::Expected(Part::Name), range));
-/// }
+/// # Ok::<(), navyspindle::SettingError>(())
 /// ```
 #[inline]
-pub fn parse_config(text: &str) -> Result<Vec<Entry<'_>>, SettingsSyntaxError> {
+pub fn parse_config(text: &str) -> Result<Vec<Entry<'_>>, SettingError> {
     let body = without_byte_order_mark(text);
     let front = text.len() - body.len();
     let mut entries = entries_of(body).map_err(|error| error.shifted(front))?;
@@ -74,10 +63,10 @@ pub fn parse_config(text: &str) -> Result<Vec<Entry<'_>>, SettingsSyntaxError> {
 
 /// Returns the settings of a configuration text without a byte order mark.
 #[inline]
-fn entries_of(text: &str) -> Result<Vec<Entry<'_>>, SettingsSyntaxError> {
+fn entries_of(text: &str) -> Result<Vec<Entry<'_>>, SettingError> {
     let separators = Separators::CommasAndLines;
     if let Some(error) = first_error(text) {
-        return Err(SettingsSyntaxError::of_lexer(text, error, separators));
+        return Err(of_lexer(text, error, separators));
     }
     let mut tokens = Tokens::new(text);
     let (mut entries, mut names) = (Vec::new(), BTreeSet::new());
@@ -87,7 +76,7 @@ fn entries_of(text: &str) -> Result<Vec<Entry<'_>>, SettingsSyntaxError> {
             EntryStep::Entry(NextEntry { name, value }) => {
                 let range = name.lo..name.hi;
                 if !names.insert(name.text) {
-                    return Err(SettingsSyntaxError::repeated(name.text, range));
+                    return Err(repeated(name.text, range));
                 }
                 entries.push(entry_of(text, name.text, range, value));
             }

@@ -1,7 +1,7 @@
 //! Decoded values of literals whose text differs from their value, such as strings with escapes.
 
-use crate::rl_cursors::{SegmentValue, Segments};
-use crate::rl_lenient::{decode_bytes_into, float_digits_into, Body};
+use crate::rl_cursors::{split_segment, SegmentValue};
+use crate::rl_lenient::{decode_bytes_into, float_digits_into};
 use crate::rl_syntax::Kind;
 use alloc::string::String;
 use alloc::vec::Vec;
@@ -20,16 +20,17 @@ fn written(front: &str, body: &str, write: impl FnOnce(&str, &mut [u8]) -> usize
 
 /// Returns the value of a string whose body has escapes: the values of the body's segments, joined. The value is no longer than the
 /// body.
-pub(crate) fn text_of(text: &str, body: Body) -> String {
-    let mut out = String::with_capacity(body.hi - body.lo);
-    let mut segments = Segments::of_body(Kind::Str, text, &body);
-    while let Some(segment) = segments.next() {
-        match segment.value {
+pub(crate) fn text_of(body: &str) -> String {
+    let (mut out, mut rest) = (String::with_capacity(body.len()), body);
+    while !rest.is_empty() {
+        let (value, after) = split_segment(Kind::Str, false, rest);
+        match value {
             SegmentValue::Text(run) => out.push_str(run),
             SegmentValue::Char(c) => out.push(c),
             SegmentValue::Byte(_) => unreachable!("a string holds characters"),
             SegmentValue::Nothing => {}
         }
+        rest = after;
     }
     out
 }

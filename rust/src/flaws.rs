@@ -4,7 +4,7 @@
 use crate::kind::Kind;
 use crate::parse_error::{FlawKind, ParseError};
 use crate::rl_flaws;
-use crate::rl_strict::{explain_missing_value, LineEnds};
+use crate::rl_strict::{explain_missing_value, read, LineEnds};
 use crate::segments::Segment;
 use core::fmt;
 use core::iter::FusedIterator;
@@ -53,7 +53,7 @@ impl InvalidPiece {
     }
 
     /// Returns the byte range of the whole piece. For a bad escape it is the whole escape, up to where rustc ends it. For any other
-    /// flaw it is the range that [`ParseError::piece`] returns.
+    /// flaw it is the range that [`ParseError::piece`] returns. But for a missing closing quote, it may be empty at the text's end.
     ///
     /// ```
     /// use navyspindle::flaws;
@@ -111,34 +111,35 @@ impl core::error::Error for InvalidPiece {}
 /// assert_eq!(all.map(|bad| bad.offset()).collect::<Vec<_>>(), [1, 3]);
 /// ```
 #[must_use = "an iterator does nothing until it is asked"]
-pub struct Flaws<'t>(Left<'t>);
-
-/// The flaws that an iterator still has to return: those of a quoted literal, or the only one of another text.
-enum Left<'t> {
-    /// The text, how it is read, the number of its flaws that were already returned, and the iterator over the remaining flaws.
-    All(&'t str, LineEnds, usize, rl_flaws::Flaws<'t>),
-    One(Option<rl_flaws::InvalidPiece>),
+#[derive(Clone)]
+pub struct Flaws<'t> {
+    first: Option<rl_flaws::InvalidPiece>,
+    // The cursor over the further flaws, or `None` if there are none.
+    further: Option<rl_flaws::Flaws<'t>>,
 }
 
 impl<'t> Flaws<'t> {
-    #[inline]
     fn of(text: &'t str, ends: LineEnds) -> Flaws<'t> {
-        Flaws(Left::All(text, ends, 0, rl_flaws::Flaws::of(text, ends)))
+        let all = read(text, ends, false).err();
+        let (first, further) = all
+            .map(|flaw| rl_flaws::Flaws::after(text, ends, flaw))
+            .unzip();
+        Flaws { first, further }
     }
 
     /// Returns the flaws of a text that has no value as a literal. If the text doesn't begin as a quoted literal, the only flaw is
     /// the reason why Rust rejects it.
-    #[inline]
     pub(crate) fn of_unread(text: &'t str) -> Flaws<'t> {
-        if rl_flaws::Pieces::of(text).is_some() {
-            return flaws(text);
+        let flaw = explain_missing_value(text, LineEnds::Text, true);
+        let all = flaws(text);
+        if flaw == all.first.map(|bad| bad.flaw) {
+            return all;
         }
-        Flaws(Left::One(
-            explain_missing_value(text, LineEnds::Text, true).map(|flaw| {
-                let end = flaw.hi;
-                rl_flaws::InvalidPiece { flaw, end }
-            }),
-        ))
+        let first = flaw.map(|flaw| rl_flaws::InvalidPiece { flaw, end: flaw.hi });
+        Flaws {
+            first,
+            further: None,
+        }
     }
 }
 
@@ -147,35 +148,15 @@ impl Iterator for Flaws<'_> {
 
     #[inline]
     fn next(&mut self) -> Option<InvalidPiece> {
-        match &mut self.0 {
-            Left::All(_, _, returned, flaws) => {
-                *returned += 1;
-                flaws.next()
-            }
-            Left::One(flaw) => flaw.take(),
-        }
-        .map(InvalidPiece::of)
+        let bad = match self.first.take() {
+            None => self.further.as_mut()?.next()?,
+            Some(bad) => bad,
+        };
+        Some(InvalidPiece::of(bad))
     }
 }
 
 impl FusedIterator for Flaws<'_> {}
-
-/// The clone begins at the next flaw. Cloning walks over the flaws that were already returned.
-impl Clone for Flaws<'_> {
-    #[inline]
-    fn clone(&self) -> Self {
-        Flaws(match &self.0 {
-            Left::All(text, ends, returned, _) => {
-                let mut flaws = rl_flaws::Flaws::of(text, *ends);
-                for _ in 0..*returned {
-                    flaws.next();
-                }
-                Left::All(text, *ends, *returned, flaws)
-            }
-            Left::One(flaw) => Left::One(*flaw),
-        })
-    }
-}
 
 impl fmt::Debug for Flaws<'_> {
     fn fmt(&self, f: &mut fmt::Formatter<'_>) -> fmt::Result {
@@ -256,6 +237,7 @@ pub fn guess_kind(text: &str) -> Option<Kind> {
 /// assert!(matches!(all.next(), Some(Piece::Bad(bad)) if bad.range() == (1..3)));
 /// ```
 #[derive(Clone, Debug, PartialEq, Eq, Hash)]
+#[non_exhaustive]
 pub enum Piece<'t> {
     /// A segment without a flaw: its range and its value.
     Good(Segment<'t>),

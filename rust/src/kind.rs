@@ -9,7 +9,7 @@ use core::fmt;
 /// ```
 /// use navyspindle::{Kind, Lit};
 ///
-/// let kind = Lit::new("b'a'").kind();
+/// let kind = Lit::of_text("b'a'").kind();
 /// assert_eq!(kind, Kind::Byte);
 /// assert_eq!(kind.to_string(), "byte literal");
 /// ```

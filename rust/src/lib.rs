@@ -1,48 +1,4 @@
-//! Reads, checks, writes and rewrites Rust literals. The crate returns a literal's kind, value and suffix, and the errors of a text
-//! that isn't a literal. For a string, a character or a byte, it also returns the range of the literal's text that each byte of the
-//! value comes from.
-//!
-//! ```
-//! use navyspindle::{Kind, Lit, LitInt, LitStr};
-//!
-//! let literal = Lit::parse("0xFF_u8")?;
-//! assert_eq!((literal.kind(), literal.suffix()), (Kind::Int, "u8"));
-//! assert_eq!(LitInt::parse("0xFF_u8")?.value::<u8>(), Ok(255));
-//! assert_eq!(LitStr::parse(r#""a\x41\n""#)?.value(), "aA\n");
-//!
-//! let error = Lit::parse("0b102").unwrap_err();
-//! assert_eq!(error.to_string(), "invalid digit for this base at byte 4");
-//! # Ok::<(), navyspindle::ParseError>(())
-//! ```
-//!
-//! # Which item to use
-//!
-//! | Task | Items | Feature |
-//! |---|---|---|
-//! | Parse a text that should be one literal | [`Lit::parse`], [`LitStr::parse`], [`LitInt::parse`], ..; [`ParseError`] | – |
-//! | Read a token that rustc or `syn` accepted | [`Lit::of_text`], which is also [`Lit::new`] | – |
-//! | Match on the kind | [`Lit`], [`Kind`]; [`LitStr`], [`LitByteStr`], [`LitCStr`], [`LitByte`], [`LitChar`], [`LitInt`], [`LitFloat`], [`LitBool`], [`LitVerbatim`] | – |
-//! | Get a number of a type | [`LitInt::value`], [`LitFloat::value`]; [`Number`], [`ValueError`] | – |
-//! | Map a byte of a value to the text | [`LitStr::text_offset`], [`LitStr::text_range`], [`LitStr::segments`]; [`OffsetMap`] | – |
-//! | Find the literals of a source file | [`source`](fn@source), [`Source::recover`] | `sources` |
-//! | Check a literal by Rust's grammar, which allows any suffix | [`Lit::check`] | `sources` or `settings` |
-//! | Check that a literal has a type | [`Lit::type_error`] | `flaws` |
-//! | Report every error of a literal | [`flaws`](fn@flaws), [`pieces`], [`guess_kind`] | `flaws` |
-//! | Read a list of literals | [`parse_list`] | `sources` |
-//! | Read literals in your own parser | [`Lit::parse_next`], [`Lit::parse_prefix`], [`skip_trivia`], [`skip_token`], [`leading_comments`] | `sources` |
-//! | Convert bytes to lines and columns | [`LineIndex`] | `sources` |
-//! | Read `name = literal` settings | [`Settings`], [`Key`]; [`parse_settings`](fn@parse_settings), [`parse_config`](fn@parse_config) | `settings` |
-//! | Write a value as a literal | [`write_str`], [`write_integer`], ..; [`LitStr::new`], [`LitInt::suffixed`], .. | `writers` |
-//! | Rewrite literals in a style | [`rewrite`], [`Style`]; with `sources` [`rewrite_source`](fn@rewrite_source) | `style` |
-//! | Read attributes in a procedural macro | [`Attrs`], [`Meta`], [`next_attributes`]; [`MacroError`], [`AtSpan`] | `proc-macro` |
-//! | Read literals in a procedural macro | [`next_literal_of`], [`only_literal_of`], [`next_literal`](fn@next_literal), [`next_value`]; with `settings` [`MacroInput`] | `proc-macro` |
-//!
-//! Ranges and offsets count bytes. All features except `proc-macro` are on by default.
-//!
-//! # Guarantees
-//!
-//! The code in `src/proved` is translated from Rattle, a language like Rust. The Rattle code is proved against a written grammar.
-//! `README.md` tells what is proved, trusted and tested. There is no `unsafe`.
+#![doc = include_str!("../README.md")]
 #![no_std]
 #![forbid(unsafe_code)]
 #![deny(missing_docs)]
@@ -90,6 +46,8 @@ mod list;
 mod list_error;
 mod lit;
 #[cfg(feature = "proc-macro")]
+mod located;
+#[cfg(feature = "proc-macro")]
 mod macro_error;
 #[cfg(feature = "proc-macro")]
 mod macro_places;
@@ -105,8 +63,6 @@ mod parse_error;
 mod prefix;
 #[cfg(feature = "proc-macro")]
 mod proc_macros;
-#[cfg(any(test, all(feature = "proc-macro", feature = "settings")))]
-mod ranges;
 mod segments;
 #[cfg_attr(
     feature = "__rendered",
@@ -159,23 +115,20 @@ mod write;
 #[doc(hidden)]
 pub mod rendered {
     pub use crate::proved::{
-        rl_cursors, rl_flaws, rl_lenient, rl_lexer, rl_recovery, rl_settings, rl_strict, rl_style,
-        rl_syntax, rl_writing,
+        rl_cursors, rl_flaws, rl_lenient, rl_lexer, rl_strict, rl_style, rl_syntax, rl_writing,
     };
 }
 
 // The translated code refers to these crates by the paths that are imported here.
 #[cfg(feature = "flaws")]
 use proved::rl_flaws;
-#[cfg(feature = "sources")]
-use proved::rl_recovery;
+#[cfg(any(feature = "sources", feature = "settings"))]
+use proved::rl_lexer;
 #[cfg(feature = "style")]
 use proved::rl_style;
 #[cfg(any(feature = "writers", feature = "style"))]
 use proved::rl_writing;
 use proved::{rl_cursors, rl_lenient, rl_strict, rl_syntax};
-#[cfg(any(feature = "sources", feature = "settings"))]
-use proved::{rl_lexer, rl_settings};
 
 #[cfg(feature = "proc-macro")]
 pub use attributes::Attrs;
@@ -195,11 +148,13 @@ pub use list::{parse_list, Literals};
 pub use list_error::ListError;
 pub use lit::Lit;
 #[cfg(feature = "proc-macro")]
+pub use located::Located;
+#[cfg(feature = "proc-macro")]
 pub use macro_error::{AtSpan, MacroError};
 #[cfg(all(feature = "proc-macro", feature = "settings"))]
-pub use macro_settings::{parse_macro_settings, MacroEntry, MacroInput};
+pub use macro_settings::MacroInput;
 #[cfg(feature = "proc-macro")]
-pub use meta::{next_attributes, next_value, Meta};
+pub use meta::{next_attributes, next_value, Meta, MetaForm};
 pub use numbers::{Base, LitFloat, LitInt, NumberType};
 pub use parse_error::{FlawKind, ParseError, ParseErrorKind};
 #[cfg(feature = "sources")]
@@ -213,7 +168,7 @@ pub use restyle::{rewrite_source, Edit, Edits};
 /// ```
 /// use navyspindle::{Lit, TypeError};
 ///
-/// let error = Lit::new("256u8").type_error().unwrap();
+/// let error = Lit::of_text("256u8").type_error().unwrap();
 /// assert_eq!(error, TypeError::OutOfRange);
 /// assert_eq!((error.id(), error.message()), ("out-of-range", "out of its type's range"));
 /// ```
@@ -223,7 +178,7 @@ pub use segments::{OffsetMap, Segment, SegmentValue, Segments};
 #[cfg(feature = "settings")]
 pub use setting::{Key, SettingError, SettingErrorKind, Settings};
 #[cfg(feature = "settings")]
-pub use settings::{parse_settings, Entry, SettingsSyntaxError};
+pub use settings::{parse_settings, Entry};
 #[cfg(feature = "sources")]
 pub use source::{source, Recover, Source};
 pub use strings::{LitByteStr, LitCStr, LitStr};
@@ -251,8 +206,3 @@ pub use write::{
 pub fn is_token(text: &str) -> bool {
     rl_strict::read(text, rl_strict::LineEnds::Text, false).is_ok()
 }
-
-/// Compiles and runs the examples of `README.md` as documentation tests.
-#[cfg(doctest)]
-#[doc = include_str!("../README.md")]
-pub struct Readme;

@@ -3,8 +3,7 @@
 use crate::list_error::ListError;
 use crate::lit::Lit;
 use crate::next_literal::placed;
-use crate::rl_cursors::{next_list_literal, ListStep};
-use crate::rl_lexer::Tokens;
+use crate::rl_cursors::{ListLiterals, ListStep};
 use core::fmt;
 use core::iter::FusedIterator;
 use core::ops::Range;
@@ -22,8 +21,7 @@ use core::ops::Range;
 #[must_use = "an iterator does nothing until it is asked"]
 pub struct Literals<'t> {
     text: &'t str,
-    tokens: Tokens<'t>,
-    is_done: bool,
+    list: ListLiterals<'t>,
 }
 
 /// Iterates over the literals of a text, up to the first error. White space and plain comments separate the literals.
@@ -57,8 +55,7 @@ pub struct Literals<'t> {
 pub fn parse_list(text: &str) -> Literals<'_> {
     Literals {
         text,
-        tokens: Tokens::new(text),
-        is_done: false,
+        list: ListLiterals::new(text),
     }
 }
 
@@ -66,18 +63,11 @@ impl<'t> Iterator for Literals<'t> {
     type Item = Result<(Range<usize>, Lit<'t>), ListError>;
 
     fn next(&mut self) -> Option<Self::Item> {
-        if self.is_done {
-            return None;
+        match self.list.next() {
+            ListStep::Literal(next) => Some(Ok(placed(self.text, next))),
+            ListStep::End => None,
+            ListStep::Rejected(rejection) => Some(Err(ListError::of_list(self.text, rejection))),
         }
-        match next_list_literal(&mut self.tokens) {
-            ListStep::Literal(next) => return Some(Ok(placed(self.text, next))),
-            ListStep::End => self.is_done = true,
-            ListStep::Rejected(rejection) => {
-                self.is_done = true;
-                return Some(Err(ListError::of_list(self.text, rejection)));
-            }
-        }
-        None
     }
 }
 
@@ -88,8 +78,7 @@ impl Clone for Literals<'_> {
     fn clone(&self) -> Self {
         Literals {
             text: self.text,
-            tokens: self.tokens.fork(),
-            is_done: self.is_done,
+            list: self.list.fork(),
         }
     }
 }
@@ -97,8 +86,6 @@ impl Clone for Literals<'_> {
 /// Prints the rest of the text.
 impl fmt::Debug for Literals<'_> {
     fn fmt(&self, f: &mut fmt::Formatter<'_>) -> fmt::Result {
-        f.debug_tuple("Literals")
-            .field(&self.tokens.rest())
-            .finish()
+        f.debug_tuple("Literals").field(&self.list.rest()).finish()
     }
 }

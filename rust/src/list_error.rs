@@ -3,8 +3,8 @@
 use crate::common::shifted;
 use crate::error::{range_at, Part, SyntaxErrorKind};
 use crate::rl_cursors::Rejection;
+use crate::rl_cursors::{lexer_error, list_error};
 use crate::rl_lexer::LexError;
-use crate::rl_settings::{lexer_error, list_error};
 use core::fmt;
 use core::ops::Range;
 

@@ -17,7 +17,6 @@ use crate::{
 };
 use alloc::borrow::Cow;
 use alloc::string::String;
-use core::cmp::Ordering;
 use core::fmt;
 use core::ops::Range;
 use core::str::FromStr;
@@ -61,8 +60,7 @@ pub enum Lit<'t> {
     Float(LitFloat<'t>),
     /// A `bool` literal: `true` or `false`.
     Bool(LitBool<'t>),
-    /// A text without a value. [`Lit::parse`] returns it for only one kind of text: a decimal integer above 128 bits with the
-    /// suffix of a float.
+    /// A text without a value. [`Lit::parse`] returns it for only one kind of text: see [`LitVerbatim`].
     Verbatim(LitVerbatim<'t>),
 }
 
@@ -84,29 +82,12 @@ macro_rules! each_kind {
 }
 
 impl<'t> Lit<'t> {
-    /// Reads the text as `syn` reads a token. It is [`Lit::of_text`] under `syn`'s name.
-    ///
-    /// The text is the literal, quotes included: `Lit::new("\"a\"")` is a string. To write the value `a` as a literal, call
-    /// [`LitStr::new`].
-    ///
-    /// ```
-    /// use navyspindle::{Kind, Lit};
-    ///
-    /// assert_eq!(Lit::new("1.5").kind(), Kind::Float);
-    /// assert_eq!(Lit::new("0b102").kind(), Kind::Float);
-    /// assert_eq!(Lit::new("word").kind(), Kind::Verbatim);
-    /// ```
-    #[inline]
-    #[must_use]
-    pub fn new(text: impl Into<Cow<'t, str>>) -> Lit<'t> {
-        Lit::of_text(text)
-    }
-
     /// Reads the text as `syn` reads a token. It never fails: a text without a meaning to `syn`, and an integer above 128 bits,
     /// become [`Lit::Verbatim`].
     ///
     /// `syn` expects tokens that were lexed before, so it accepts some texts that Rust rejects: `0b102` is a float, `1e` an integer
-    /// with the suffix `e`, and `'''` a character. For a text that wasn't lexed, call [`Lit::parse`].
+    /// with the suffix `e`, and `'''` a character. For a text that wasn't lexed, call [`Lit::parse`]. To write the value `a` as a
+    /// literal, call [`LitStr::new`].
     ///
     /// ```
     /// use navyspindle::{Kind, Lit};
@@ -130,12 +111,10 @@ impl<'t> Lit<'t> {
     /// whether Rust has a type for the literal. A string that contains CR LF is an error here. [`Lit::check`] accepts the string,
     /// since rustc reads CR LF in a file as LF.
     ///
-    /// Integers have up to 128 bits. A larger decimal integer with the suffix `f32` or `f64` is a float to Rust, and becomes
-    /// [`Lit::Verbatim`]. [`LitFloat::new`] reads it.
-    ///
     /// # Errors
     ///
-    /// Returns an error if the text isn't a literal, or is another integer above 128 bits. The error has the reason and its range.
+    /// Returns an error if the text isn't a literal, or is an integer above 128 bits. [`LitVerbatim`] has one exception. The error has
+    /// the reason and its range.
     ///
     /// ```
     /// use navyspindle::{FlawKind, Kind, Lit};
@@ -393,9 +372,8 @@ impl<'t> Lit<'t> {
         each_kind!(self, literal => literal.into_text())
     }
 
-    /// Returns the literal's suffix, which may be empty. The suffix of `Verbatim` is always empty. For an integer above 128 bits,
-    /// `LitFloat::new(text)?.suffix()` returns the suffix `f32` or `f64`. Another suffix begins where the range of the error of
-    /// [`Lit::parse`] begins.
+    /// Returns the literal's suffix, which may be empty. The suffix of `Verbatim` is always empty. The suffix of an integer above 128
+    /// bits begins where the range of the error of [`Lit::parse`] begins.
     ///
     /// ```
     /// use navyspindle::Lit;
@@ -548,30 +526,6 @@ impl<'t> Lit<'t> {
     }
 }
 
-impl AsRef<str> for Lit<'_> {
-    #[inline]
-    fn as_ref(&self) -> &str {
-        self.text()
-    }
-}
-
-/// Literals are ordered by text, then by kind. Two literals with the same text can differ in kind only if they were created as
-/// different kinds, such as an integer `1f64` and a float `1f64`.
-impl Ord for Lit<'_> {
-    #[inline]
-    fn cmp(&self, other: &Self) -> Ordering {
-        let by_text = self.text().cmp(other.text());
-        by_text.then_with(|| self.kind().cmp(&other.kind()))
-    }
-}
-
-impl PartialOrd for Lit<'_> {
-    #[inline]
-    fn partial_cmp(&self, other: &Self) -> Option<Ordering> {
-        Some(self.cmp(other))
-    }
-}
-
 /// Prints the literal's text. Width and fill of the format are applied.
 impl fmt::Display for Lit<'_> {
     fn fmt(&self, f: &mut fmt::Formatter<'_>) -> fmt::Result {
@@ -656,7 +610,7 @@ mod tests {
         format!("{literal:?} {} {more} {borrows}", literal.suffix())
     }
 
-    /// Checks the results of `Lit::parse` for one text, borrowed and owned. A literal must be equal to the one that `Lit::new`
+    /// Checks the results of `Lit::parse` for one text, borrowed and owned. A literal must be equal to the one that `Lit::of_text`
     /// reads. An error must have the reason that the proved code returns.
     fn check(text: &str, parsed: &mut usize) {
         let owned = Lit::try_from(String::from(text));
@@ -664,7 +618,7 @@ mod tests {
             Ok(literal) => {
                 *parsed += 1;
                 assert!(is_token(text.strip_prefix('-').unwrap_or(text)), "{text:?}");
-                assert_eq!(told(&literal), told(&Lit::new(text)), "{text:?}");
+                assert_eq!(told(&literal), told(&Lit::of_text(text)), "{text:?}");
                 assert_eq!(owned.map(|it| told(&it)), Ok(told(&literal)), "{text:?}");
             }
             Err(error) => {
@@ -681,49 +635,24 @@ mod tests {
     #[test]
     fn what_is_parsed_is_what_is_read() {
         let mut parsed = 0;
-        let mut each = |fronts: &[&str], characters: &str, most| {
-            for front in fronts {
+        let mut each = |fronts: &str, characters: &str, most| {
+            for front in fronts.split('§') {
                 each_text(front, characters, most, &mut |text| {
                     check(text, &mut parsed)
                 });
             }
         };
-        each(&[""], "019_.eE+-xbu8f", 4);
-        each(
-            &[
-                "1.5",
-                "1e5",
-                "0x",
-                "0b1",
-                "-1.",
-                "1_",
-                "1f3",
-                "1.0f3",
-                "1e+",
-                "12345.6E+",
-            ],
-            "1_.e+-2fé",
-            3,
-        );
-        let largest = "340282366920938463463374607431768211455";
-        each(
-            &[
-                largest,
-                "0xFFFFFFFFFFFFFFFFFFFFFFFFFFFFFFFF",
-                "-34028236692093846346337460743176821145",
-            ],
-            "0_ef64",
-            3,
-        );
-        each(
-            &[
-                "", "r", "b", "c", "br", "cr#", "r#\"", "b'", "\"\\u{1", "'\\u{", "c\"\\x4",
-            ],
-            "\"'\\\r\n\tnxé#_ ",
-            3,
-        );
-        each(&["", "\"", "'", "b'", "r#\"", "\"a\\\n "], "\"'\\\r\n}_", 4);
-        each(&["tru", "fals", "t", "word"], "etrus_", 3);
+        each("", "019_.eE+-xbu8f", 4);
+        let numbers = "1.5§1e5§0x§0b1§-1.§1_§1f3§1.0f3§1e+§12345.6E+";
+        each(numbers, "1_.e+-2fé", 3);
+        // The largest integer, and others of about 128 bits.
+        each("340282366920938463463374607431768211455", "0_ef64", 3);
+        each("0xFFFFFFFFFFFFFFFFFFFFFFFFFFFFFFFF", "0_ef64", 3);
+        each("-34028236692093846346337460743176821145", "0_ef64", 3);
+        let openers = "§r§b§c§br§cr#§r#\"§b'§\"\\u{1§'\\u{§c\"\\x4";
+        each(openers, "\"'\\\r\n\tnxé#_ ", 3);
+        each("§\"§'§b'§r#\"§\"a\\\n ", "\"'\\\r\n}_", 4);
+        each("tru§fals§t§word", "etrus_", 3);
         assert!(parsed > 5_000, "{parsed}");
     }
 

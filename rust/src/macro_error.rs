@@ -5,10 +5,12 @@ use crate::macro_places::Place;
 use crate::parse_error::ParseError;
 use crate::value::ValueError;
 use alloc::string::{String, ToString};
-use alloc::vec::Vec;
-use core::fmt;
+use alloc::vec::{self, Vec};
 use core::num::{ParseFloatError, ParseIntError};
-use proc_macro::{Delimiter, Group, LexError, Literal, Span, TokenStream, TokenTree};
+use core::{fmt, iter};
+use proc_macro::{
+    Delimiter, Group, LexError, Literal, Punct, Spacing, Span, TokenStream, TokenTree,
+};
 
 /// An error in the input of a procedural macro, with the tokens that the error is about.
 ///
@@ -66,13 +68,17 @@ impl Message {
     #[inline]
     fn to_compile_error(&self) -> TokenStream {
         let (first, last) = self.spans();
-        let path: TokenStream = "::core::compile_error!".parse().expect("tokens");
-        let text = TokenTree::from(Literal::string(&self.text));
-        let group = Group::new(Delimiter::Brace, spanned(text, last).into());
-        let path = path.into_iter().map(|tree| spanned(tree, first));
-        let group = spanned(TokenTree::Group(group), last);
-        path.chain([group]).collect()
+        let text = spanned(Literal::string(&self.text).into(), last);
+        call("::core::compile_error!", text.into(), first, last)
     }
+}
+
+/// Returns a call of the macro `path`, from the span `first` to the span `last`.
+fn call(path: &str, arguments: TokenStream, first: Span, last: Span) -> TokenStream {
+    let path: TokenStream = path.parse().expect("tokens");
+    let group = Group::new(Delimiter::Brace, arguments).into();
+    let path = path.into_iter().map(|tree| spanned(tree, first));
+    path.chain([spanned(group, last)]).collect()
 }
 
 /// Returns the token tree with the span `span`.
@@ -217,8 +223,11 @@ impl MacroError {
         self.first.spans().0
     }
 
-    /// Returns a call of `compile_error!` for each error, at the error's tokens. A macro returns these calls in place of its
-    /// output.
+    /// Returns a call of `compile_error!`, at the error's tokens. A macro returns this call in place of its output, which may be
+    /// items, statements, an expression, a type or a pattern.
+    ///
+    /// If errors are combined, their calls are the arguments of one call, because only one call can be an expression. rustc reports
+    /// each of the combined errors, and nothing else.
     ///
     /// ```no_run
     /// extern crate proc_macro;
@@ -228,8 +237,16 @@ impl MacroError {
     #[inline]
     #[must_use]
     pub fn to_compile_error(&self) -> TokenStream {
-        let messages = core::iter::once(&self.first).chain(&self.others);
-        messages.map(Message::to_compile_error).collect()
+        if self.others.is_empty() {
+            return self.first.to_compile_error();
+        }
+        // `compile_error! { concat! { compile_error! { "a" }, compile_error! { "b" }, } }`. rustc expands the inner calls first.
+        let comma = TokenStream::from(TokenTree::Punct(Punct::new(',', Spacing::Alone)));
+        let messages = iter::once(&self.first).chain(&self.others);
+        let calls = messages.flat_map(|message| [message.to_compile_error(), comma.clone()]);
+        let span = self.span();
+        let calls = call("::core::concat!", calls.collect(), span, span);
+        call("::core::compile_error!", calls, span, span)
     }
 
     /// Returns the tokens of [`MacroError::to_compile_error`]. This method takes the error by value, so it can be passed to
@@ -314,6 +331,30 @@ impl fmt::Debug for MacroError {
 
 impl core::error::Error for MacroError {}
 
+/// Iterates over the combined errors, each as an error of its own, in order.
+///
+/// ```no_run
+/// extern crate proc_macro;
+/// let attrs = navyspindle::Attrs::parse("a, b".parse().unwrap())?;
+/// let errors = attrs.check(&[]).unwrap_err();
+/// let messages: Vec<_> = errors.into_iter().map(|error| error.to_string()).collect();
+/// assert_eq!(messages, ["unknown name `a`", "unknown name `b`"]);
+/// # Ok::<(), navyspindle::MacroError>(())
+/// ```
+impl IntoIterator for MacroError {
+    type Item = MacroError;
+    type IntoIter = vec::IntoIter<MacroError>;
+
+    fn into_iter(self) -> Self::IntoIter {
+        let messages = iter::once(self.first).chain(self.others);
+        let errors = messages.map(|first| MacroError {
+            first,
+            others: Vec::new(),
+        });
+        errors.collect::<Vec<_>>().into_iter()
+    }
+}
+
 /// The message for a literal of the wrong kind: the expected kind and the kind that was found.
 pub(crate) struct Mismatch(pub(crate) Kind, pub(crate) Kind);
 
@@ -362,9 +403,6 @@ from_errors! {
     /// Converts a `SettingError`. The message is its [`SettingError::kind`](crate::SettingError::kind), at the macro's call.
     /// [`MacroInput::error`](crate::MacroInput::error) creates an error at the setting's tokens.
     crate::SettingError: error => error.kind(),
-    /// Converts a `SettingsSyntaxError`. The message is the [`SettingError::kind`](crate::SettingError::kind) of the same error, at
-    /// the macro's call.
-    crate::SettingsSyntaxError: error => crate::SettingError::from(error).kind(),
 }
 
 #[cfg(feature = "flaws")]
@@ -443,6 +481,9 @@ mod tests {
         let third = "expected integer literal, found floating point literal";
         let shown = format!("MacroError({first:?}, {first:?}, {third:?}, \"empty text\")");
         assert_eq!(format!("{all:?}"), shown);
+        let each: std::vec::Vec<_> = all.into_iter().map(|error| format!("{error:?}")).collect();
+        assert_eq!(each.len(), 4);
+        assert_eq!(each[2], format!("MacroError({third:?})"));
     }
 
     #[test]

@@ -1,37 +1,10 @@
 //! Settings of procedural macros and attributes.
 
-use crate::ranges::touched;
-use crate::{parse_settings, Lit, MacroError, SettingError, Settings, SettingsSyntaxError};
+use crate::{MacroError, SettingError, Settings};
 use alloc::string::{String, ToString};
 use alloc::vec::Vec;
 use core::ops::Range;
 use proc_macro::{Delimiter, Group, Span, TokenStream, TokenTree};
-
-/// A setting in the input of a procedural macro. See [`parse_macro_settings`].
-///
-/// ```no_run
-/// extern crate proc_macro;
-/// use navyspindle::{MacroEntry, MacroError};
-///
-/// fn deprecated(entry: &MacroEntry) -> MacroError {
-///     MacroError::between("use `size`", entry.name_span, entry.value_span)
-/// }
-/// ```
-#[derive(Clone, Debug)]
-#[non_exhaustive]
-pub struct MacroEntry {
-    /// The setting's name.
-    pub name: String,
-    /// The span of the setting's name.
-    pub name_span: Span,
-    /// The setting's value. A negative number includes its minus.
-    pub value: Lit<'static>,
-    /// The span of the value's literal token, without a minus.
-    pub value_span: Span,
-    /// The span of the minus before the value, if there is one. For an error at the minus and the literal call
-    /// [`MacroError::between`].
-    pub minus_span: Option<Span>,
-}
 
 /// A procedural macro's input as text, with the byte range of each token.
 ///
@@ -194,45 +167,72 @@ impl MacroInput {
     }
 }
 
-/// Parses the input of a macro or an attribute, such as `name = "x", size = 10`, as settings, like [`parse_settings`]. Returns the
-/// settings in order, with their spans.
+/// Returns the indices of the first and the last range that overlap `bytes`. If none overlaps, both are the index of the next range
+/// after `bytes`, or of the last range. Without ranges the result is `None`.
 ///
-/// To read settings by name and kind, use [`MacroInput`]. The function `parse_macro_settings` and `MacroInput` need the feature
-/// `settings` too.
-///
-/// # Errors
-///
-/// Returns an error if the input isn't settings. The error is at the wrong tokens.
-///
-/// ```no_run
-/// extern crate proc_macro;
-/// use navyspindle::{parse_macro_settings, AtSpan, Lit, MacroError};
-///
-/// /// The size that `size = 10` sets, among other settings.
-/// fn size_of(input: proc_macro::TokenStream) -> Result<Option<u32>, MacroError> {
-///     for entry in parse_macro_settings(input)? {
-///         if let ("size", Lit::Int(size)) = (&*entry.name, &entry.value) {
-///             return size.value().map(Some).at(entry.value_span);
-///         }
-///     }
-///     Ok(None)
-/// }
-/// ```
+/// The first range begins at 0. Each other range begins at or after the end of the one before it. The time grows with the logarithm
+/// of the number of ranges.
 #[inline]
-pub fn parse_macro_settings(input: TokenStream) -> Result<Vec<MacroEntry>, MacroError> {
-    let written = MacroInput::of(input);
-    let error = |error: SettingsSyntaxError| written.error(&error.into());
-    let entries = parse_settings(&written.text).map_err(error)?;
-    let entries = entries.into_iter().map(|entry| MacroEntry {
-        name: entry.name.into(),
-        name_span: written.spans(entry.name_range).0,
-        value_span: written.spans(entry.value_range.clone()).1,
-        minus_span: entry
-            .value
-            .text()
-            .starts_with('-')
-            .then(|| written.spans(entry.value_range).0),
-        value: entry.value.into_owned(),
-    });
-    Ok(entries.collect())
+fn touched(ranges: &[Range<usize>], bytes: &Range<usize>) -> Option<(usize, usize)> {
+    let first = ranges.partition_point(|range| range.end <= bytes.start);
+    let after = ranges.partition_point(|range| range.start < bytes.end.max(1));
+    let last = after.checked_sub(1)?;
+    Some(if first < after {
+        (first, last)
+    } else if first < ranges.len() {
+        (first, first)
+    } else {
+        (last, last)
+    })
+}
+
+#[cfg(test)]
+mod tests {
+    use super::touched;
+    use core::ops::Range;
+    use std::vec::Vec;
+
+    /// Returns the result of `touched` by looking at each range.
+    fn by_walks(ranges: &[Range<usize>], bytes: &Range<usize>) -> Option<(usize, usize)> {
+        let has_some =
+            |range: &Range<usize>| range.start < bytes.end.max(1) && range.end > bytes.start;
+        let last = ranges.len().checked_sub(1)?;
+        let following = (0..=last)
+            .find(|&at| ranges[at].end > bytes.start)
+            .unwrap_or(last);
+        let first = (0..=last).find(|&at| has_some(&ranges[at]));
+        let last = (0..=last).rfind(|&at| has_some(&ranges[at]));
+        Some((first.unwrap_or(following), last.unwrap_or(following)))
+    }
+
+    /// Returns up to four ranges of one to three bytes, with up to two bytes between two of them. The digits of `number` determine
+    /// the ranges. The first range begins at 0.
+    fn ranges_of(mut number: usize) -> Vec<Range<usize>> {
+        let (mut ranges, mut end) = (Vec::new(), 0);
+        while number > 0 {
+            let start = if ranges.is_empty() {
+                0
+            } else {
+                end + number % 3
+            };
+            end = start + 1 + number / 3 % 3;
+            ranges.push(start..end);
+            number /= 9;
+        }
+        ranges
+    }
+
+    #[test]
+    fn as_by_walks() {
+        for number in 0..9_usize.pow(4) {
+            let ranges = ranges_of(number);
+            let end = ranges.last().map_or(0, |range| range.end) + 2;
+            for start in 0..=end {
+                for bytes in (start..=end).map(|end| start..end) {
+                    let found = touched(&ranges, &bytes);
+                    assert_eq!(found, by_walks(&ranges, &bytes), "{ranges:?} {bytes:?}");
+                }
+            }
+        }
+    }
 }

@@ -1,30 +1,30 @@
 //! An entry of an attribute: a flag, a value or a list.
 
 use crate::attributes::Attrs;
+use crate::located::Located;
 use crate::macro_error::{MacroError, Mismatch};
 use crate::proc_macros::{next_placed, LitOfKind, Placed};
 use crate::value::Number;
 use crate::value_end::{Shape, ValueEnd};
-use crate::{Kind, Lit, LitBool, LitFloat, LitStr};
+use crate::{Kind, Lit, LitFloat, LitStr};
 use alloc::string::{String, ToString};
 use alloc::vec;
 use alloc::vec::Vec;
 use core::fmt;
 use core::iter::Peekable;
 use proc_macro::token_stream::IntoIter;
-use proc_macro::{Delimiter, Group, Span, TokenStream, TokenTree};
+use proc_macro::{Delimiter, Group, Spacing, Span, TokenStream, TokenTree};
 
 /// An entry of an attribute: a flag (`verbose`), a value (`name = "x"`, `max = u8::MAX`) or a list (`inner(a = 1)`).
 ///
-/// The name is an identifier, or a path such as `a::b`. Keywords are names too, and `r#type` has the name `type`. A list may have
-/// `(..)`, `[..]` or `{..}`.
+/// The name is an identifier, or a path such as `a::b`. Keywords except `_` are names too, and `r#type` has the name `type`. A list
+/// may have `(..)`, `[..]` or `{..}`.
 ///
-/// A value is all tokens up to the next comma. These commas don't end a value:
-///
-/// - a comma in `()`, `[]` or `{}`;
-/// - a comma in `<..>`, if the `<` begins the value, follows `::`, or is inside of other `<..>`;
-/// - if a closure begins the value, a comma among its parameters, or in `<..>` in its return type. `move`, `async` or `static` may
-///   be before the closure.
+/// A value is an expression, or a type such as `HashMap<K, V>`. It ends at the next comma outside of brackets and of the parameters
+/// of a closure. `<` opens brackets where Rust reads it so: where an operand or a type is expected, after `::`, and in the return type
+/// of a closure. After a name, `<` opens brackets if a comma, `+`, `::` or the end follows the `>` that closes them, since an operand
+/// follows an operator `>`. So the value of `a = x < y, b = z > w` is `x < y`. `I<A, B = C>::D` is the one type that isn't read as
+/// one, because `x < y, b = z > ::w` are two entries. Write `<I<A, B = C>>::D`.
 ///
 /// The methods `string`, `number`, `flag` and `literal_of` read a value that is one literal. A number may follow a minus.
 /// `macro_rules!` may pass the literal on as `$e:literal`.
@@ -72,6 +72,28 @@ enum Form {
     Flag,
     Value(Vec<TokenTree>),
     List(Group),
+}
+
+/// The form of an entry of an attribute.
+///
+/// ```no_run
+/// extern crate proc_macro;
+/// use navyspindle::{Meta, MetaForm};
+///
+/// let form = |text: &str| Meta::parse(text.parse().unwrap()).map(|meta| meta.form());
+/// assert_eq!(form("long")?, MetaForm::Flag);
+/// assert_eq!(form("long = \"x\"")?, MetaForm::Value);
+/// assert_eq!(form("long(\"x\")")?, MetaForm::List);
+/// # Ok::<(), navyspindle::MacroError>(())
+/// ```
+#[derive(Clone, Copy, Debug, PartialEq, Eq, Hash)]
+pub enum MetaForm {
+    /// Only a name, such as `verbose`.
+    Flag,
+    /// A name, `=` and a value.
+    Value,
+    /// A name and a list in brackets.
+    List,
 }
 
 impl Meta {
@@ -124,6 +146,10 @@ impl Meta {
             match trees.next() {
                 None => break,
                 Some(tree) if is_mark(&tree, ',') => {}
+                Some(tree) if is_mark(&tree, '>') => {
+                    let message = "expected `,`: before `<` with a comma inside, write `::`";
+                    return Err(MacroError::new(message, tree.span()));
+                }
                 Some(tree) => return Err(MacroError::new("expected `,`", tree.span())),
             }
         }
@@ -141,6 +167,31 @@ impl Meta {
     #[must_use]
     pub fn name(&self) -> &str {
         &self.name
+    }
+
+    /// Returns the form of the entry. [`Meta::value`] and [`Meta::tokens`] return an error for an entry of another form.
+    ///
+    /// ```no_run
+    /// extern crate proc_macro;
+    /// use navyspindle::{Attrs, MacroError, MetaForm};
+    ///
+    /// /// Reads `long`, which is the name of the field, or `long = "x"`.
+    /// fn long(attrs: &Attrs, field: &str) -> Result<Option<String>, MacroError> {
+    ///     match attrs.get("long")? {
+    ///         Some(meta) if meta.form() == MetaForm::Flag => Ok(Some(field.to_string())),
+    ///         Some(meta) => meta.string().map(Some),
+    ///         None => Ok(None),
+    ///     }
+    /// }
+    /// ```
+    #[inline]
+    #[must_use]
+    pub fn form(&self) -> MetaForm {
+        match self.form {
+            Form::Flag => MetaForm::Flag,
+            Form::Value(_) => MetaForm::Value,
+            Form::List(_) => MetaForm::List,
+        }
     }
 
     /// Returns the span of the first token of the entry's name.
@@ -226,7 +277,7 @@ impl Meta {
     #[inline]
     #[must_use]
     pub fn literal(&self) -> Option<(Lit<'static>, Span)> {
-        let placed = self.placed().ok()?;
+        let placed = self.placed("literal").ok()?;
         Some((placed.literal, placed.span))
     }
 
@@ -246,12 +297,71 @@ impl Meta {
     /// # Ok::<(), navyspindle::MacroError>(())
     /// ```
     pub fn literal_of<L: LitOfKind>(&self) -> Result<(L, Span), MacroError> {
-        let placed = self.placed()?;
-        let (first, span) = (placed.first, placed.span);
-        match L::try_from(placed.literal) {
-            Ok(literal) => Ok((literal, span)),
-            Err(other) => Err(mismatch(L::KIND, &other, first, span)),
+        self.placed(L::KIND)?.of_kind()
+    }
+
+    /// Returns the entry's value as a literal of kind `L`, with its spans.
+    ///
+    /// # Errors
+    ///
+    /// Returns the errors of [`Meta::literal_of`].
+    ///
+    /// ```no_run
+    /// extern crate proc_macro;
+    /// use navyspindle::{LitStr, MacroError, Meta};
+    ///
+    /// /// Reads a path without a colon.
+    /// fn path(meta: &Meta) -> Result<String, MacroError> {
+    ///     let path = meta.located::<LitStr>()?;
+    ///     match path.value().find(':') {
+    ///         Some(at) => Err(path.error_inside(at..at + 1, "unexpected `:`")),
+    ///         None => Ok(path.value().into_owned()),
+    ///     }
+    /// }
+    /// ```
+    #[inline]
+    pub fn located<L: LitOfKind>(&self) -> Result<Located<L>, MacroError> {
+        Located::of(self.placed(L::KIND)?)
+    }
+
+    /// Returns the literals of kind `L` of a list such as `alias("a", "b")`, or of an array such as `alias = ["a", "b"]`. Commas are
+    /// between them.
+    ///
+    /// # Errors
+    ///
+    /// Returns an error if the entry is a flag, or has another value or list.
+    ///
+    /// ```no_run
+    /// extern crate proc_macro;
+    /// use navyspindle::{LitStr, Meta};
+    ///
+    /// let meta = Meta::parse(r#"alias("a", "b")"#.parse().unwrap())?;
+    /// let aliases = meta.literals::<LitStr>()?;
+    /// assert_eq!(aliases[1].value(), "b");
+    /// # Ok::<(), navyspindle::MacroError>(())
+    /// ```
+    pub fn literals<L: LitOfKind>(&self) -> Result<Vec<Located<L>>, MacroError> {
+        let group = match &self.form {
+            Form::List(group) => group,
+            Form::Value(trees) => match &trees[..] {
+                [TokenTree::Group(group)] if group.delimiter() == Delimiter::Bracket => group,
+                _ => return Err(self.value_error("expected an array: `[..]`")),
+            },
+            Form::Flag => {
+                return Err(self.error(format_args!("expected a list: `{}(..)`", self.name)))
+            }
+        };
+        let (mut trees, mut literals) = (group.stream().into_iter().peekable(), Vec::new());
+        while trees.peek().is_some() {
+            literals.push(Located::next(&mut trees)?);
+            match trees.next() {
+                Some(tree) if !is_mark(&tree, ',') => {
+                    return Err(MacroError::new("expected `,`", tree.span()))
+                }
+                _ => {}
+            }
         }
+        Ok(literals)
     }
 
     /// Returns the value of the entry's string literal. The literal must have no suffix.
@@ -295,18 +405,21 @@ impl Meta {
     /// # Ok::<(), navyspindle::MacroError>(())
     /// ```
     pub fn number<N: Number>(&self) -> Result<N, MacroError> {
-        let Placed {
-            literal,
-            first,
-            span,
-        } = self.placed()?;
-        let number = match &literal {
+        let expected = match N::TYPE.is_float() {
+            true => Kind::Float,
+            false => Kind::Int,
+        };
+        let placed = self.placed(expected)?;
+        let (first, span) = (placed.first, placed.span);
+        let number = match &placed.literal {
             Lit::Int(literal) => literal.value_or_float(),
             Lit::Float(literal) => literal.value(),
             // An integer above 128 bits that is a float by its suffix.
-            Lit::Verbatim(large) => LitFloat::new(large.text())?.value(),
-            _ if N::TYPE.is_float() => return Err(mismatch(Kind::Float, &literal, first, span)),
-            _ => return Err(mismatch(Kind::Int, &literal, first, span)),
+            Lit::Verbatim(large) => LitFloat::of_text(large.text())?.value(),
+            other => {
+                let message = Mismatch(expected, other.kind());
+                return Err(MacroError::between(message, first, span));
+            }
         };
         number.map_err(|error| MacroError::between(error.message(), first, span))
     }
@@ -329,7 +442,13 @@ impl Meta {
     pub fn flag(&self) -> Result<bool, MacroError> {
         match &self.form {
             Form::Flag => Ok(true),
-            Form::Value(_) => Ok(self.literal_of::<LitBool>()?.0.value()),
+            Form::Value(_) => match self.literal() {
+                Some((Lit::Bool(literal), _)) => Ok(literal.value()),
+                _ => {
+                    let message = format_args!("unexpected value: write `{}` alone", self.name);
+                    Err(self.value_error(message))
+                }
+            },
             Form::List(group) => Err(MacroError::new("unexpected list", group.span_open())),
         }
     }
@@ -403,11 +522,11 @@ impl Meta {
         }
     }
 
-    /// Returns the entry's value if it is one literal, with its spans.
+    /// Returns the entry's value if it is one literal, with its spans. `expected` is the kind that errors name.
     #[inline]
-    fn placed(&self) -> Result<Placed, MacroError> {
+    fn placed(&self, expected: impl fmt::Display) -> Result<Placed, MacroError> {
         let mut trees = self.value_trees()?.iter().cloned();
-        let placed = next_placed(&mut trees)?;
+        let placed = next_placed(&mut trees, expected)?;
         match trees.next() {
             None => Ok(placed),
             Some(tree) => Err(MacroError::new("expected `,`", tree.span())),
@@ -427,31 +546,74 @@ impl fmt::Debug for Meta {
     }
 }
 
-#[inline]
-fn mismatch(expected: Kind, found: &Lit<'_>, first: Span, last: Span) -> MacroError {
-    MacroError::between(Mismatch(expected, found.kind()), first, last)
-}
-
 /// A cursor over token trees, with a view of the next tree and the span of the previous one. `open` is a stack: below the innermost
 /// opened group without brackets are the trees that follow the group.
 struct Trees {
-    open: Vec<Peekable<IntoIter>>,
+    open: Vec<Level>,
     before: Option<Span>,
+}
+
+/// The trees of the input, or of a group without brackets.
+struct Level {
+    trees: Peekable<IntoIter>,
+    /// Whether each of the trees is a `<` that opens angle brackets.
+    opens: vec::IntoIter<bool>,
+}
+
+impl Level {
+    #[inline]
+    fn of(input: TokenStream) -> Level {
+        Level {
+            opens: opening(input.clone()).into_iter(),
+            trees: input.into_iter().peekable(),
+        }
+    }
+}
+
+/// Returns for each of the trees whether it is a `<` that opens angle brackets: what follows the matching `>` is no operand. So the
+/// `>` is no operator.
+fn opening(input: TokenStream) -> Vec<bool> {
+    let mark_of = |tree| match tree {
+        TokenTree::Punct(punct) => Some(punct.as_char()),
+        _ => None,
+    };
+    let marks: Vec<Option<char>> = input.into_iter().map(mark_of).collect();
+    let mut opens = vec![false; marks.len()];
+    let (mut open, mut equals) = (Vec::new(), 0);
+    for (at, &mark) in marks.iter().enumerate() {
+        match mark {
+            Some('=') => equals += 1,
+            Some('<') => open.push((at, equals)),
+            Some('>') if at == 0 || marks[at - 1] != Some('-') => {
+                let Some((from, before)) = open.pop() else {
+                    continue;
+                };
+                opens[from] = match marks.get(at + 1) {
+                    None | Some(Some(',' | '+')) => true,
+                    // With `=` inside, `::` may be an operand, and the `=` that of the next entry.
+                    Some(Some(':')) => equals == before,
+                    Some(_) => false,
+                };
+            }
+            _ => {}
+        }
+    }
+    opens
 }
 
 impl Trees {
     #[inline]
     fn of(input: TokenStream) -> Trees {
         Trees {
-            open: vec![input.into_iter().peekable()],
+            open: vec![Level::of(input)],
             before: None,
         }
     }
 
     /// Returns the innermost opened group that has trees left, after dropping the groups at their end.
     #[inline]
-    fn innermost(&mut self) -> Option<&mut Peekable<IntoIter>> {
-        while self.open.last_mut()?.peek().is_none() {
+    fn innermost(&mut self) -> Option<&mut Level> {
+        while self.open.last_mut()?.trees.peek().is_none() {
             self.open.pop();
         }
         self.open.last_mut()
@@ -459,12 +621,24 @@ impl Trees {
 
     #[inline]
     fn peek(&mut self) -> Option<&TokenTree> {
-        self.innermost()?.peek()
+        self.innermost()?.trees.peek()
+    }
+
+    /// Returns the class of the next tree.
+    #[inline]
+    fn shape(&mut self) -> Option<Shape> {
+        let level = self.innermost()?;
+        match level.opens.as_slice() {
+            [true, ..] => Some(Shape::Open),
+            _ => level.trees.peek().map(shape_of),
+        }
     }
 
     #[inline]
     fn next(&mut self) -> Option<TokenTree> {
-        let tree = self.innermost()?.next()?;
+        let level = self.innermost()?;
+        level.opens.next();
+        let tree = level.trees.next()?;
         self.before = Some(tree.span());
         Some(tree)
     }
@@ -481,7 +655,7 @@ impl Trees {
             if group.delimiter() != Delimiter::None {
                 return;
             }
-            let inside = group.stream().into_iter().peekable();
+            let inside = Level::of(group.stream());
             self.next();
             self.open.push(inside);
         }
@@ -538,11 +712,11 @@ fn next_name(trees: &mut Trees) -> Result<(String, Span, Span), MacroError> {
     trees.open_groups();
     let (mut name, mut first) = (String::new(), None);
     loop {
-        if trees.begins_with_kind(':') {
-            let colon = trees.peek().map_or_else(Span::call_site, TokenTree::span);
+        if let Some(TokenTree::Punct(mark)) = trees.peek().filter(|tree| is_mark(tree, ':')) {
+            let (colon, is_joint) = (mark.span(), mark.spacing() == Spacing::Joint);
             first = first.or(Some(colon));
             trees.next();
-            if !trees.begins_with_kind(':') {
+            if !is_joint || !trees.begins_with_kind(':') {
                 // One colon after a name is a mistake for `=`, as in `name: "a"`.
                 let is_named = !name.is_empty();
                 let expected = if is_named { "`=`" } else { "identifier" };
@@ -555,6 +729,9 @@ fn next_name(trees: &mut Trees) -> Result<(String, Span, Span), MacroError> {
             return Err(trees.expected("identifier"));
         };
         let (text, span) = (word.to_string(), word.span());
+        if text == "_" {
+            return Err(trees.expected("identifier"));
+        }
         trees.next();
         name.push_str(text.strip_prefix("r#").unwrap_or(&text));
         if !trees.begins_with_kind(':') {
@@ -602,12 +779,10 @@ pub fn next_attributes(
     Ok(metas)
 }
 
-/// Consumes and returns the tokens before the next comma. They may be an expression. The comma stays.
+/// Consumes and returns the tokens before the next comma or semicolon. They may be an expression. The comma stays.
 ///
-/// The tokens aren't parsed. A comma in `()`, `[]` or `{}` doesn't end the value. A comma in `<..>` doesn't end it either, if the
-/// `<` begins the value, follows `::`, or is inside of other `<..>`. If a closure begins the value, these commas don't end it: a
-/// comma among the closure's parameters; a comma in `<..>` in its return type. `move`, `async` or `static` may be before the
-/// closure.
+/// The tokens aren't parsed. The value ends where [`Meta`] ends a value, with one exception: after a name, `<` is always an operator,
+/// because the tokens after the comma can't be seen. So write a type with two arguments as `Map::<A, B>` or `<Map<A, B>>`.
 ///
 /// # Errors
 ///
@@ -649,16 +824,16 @@ pub fn next_value(
     })
 }
 
-/// Returns the token trees before the comma that ends a value. `next` consumes and returns the next tree, unless it is that comma.
+/// Returns the token trees before the comma or semicolon that ends a value. `next` consumes and returns the next tree, unless it is that comma.
 fn before_comma(mut next: impl FnMut(&mut ValueEnd) -> Option<TokenTree>) -> Vec<TokenTree> {
     let mut end = ValueEnd::default();
     core::iter::from_fn(|| next(&mut end)).collect()
 }
 
-/// Consumes and returns the value of an entry: all token trees up to the comma that ends it.
+/// Consumes and returns the value of an entry: all token trees up to the comma or semicolon that ends it.
 #[inline]
 fn value_of_entry(trees: &mut Trees) -> Result<Vec<TokenTree>, MacroError> {
-    let value = before_comma(|end| match end.is_at(shape_of(trees.peek()?)) {
+    let value = before_comma(|end| match end.is_at(trees.shape()?) {
         true => None,
         false => trees.next(),
     });
@@ -676,12 +851,12 @@ fn value_of_entry(trees: &mut Trees) -> Result<Vec<TokenTree>, MacroError> {
 #[inline]
 fn shape_of(tree: &TokenTree) -> Shape {
     match tree {
-        TokenTree::Punct(punct) => Shape::Mark(punct.as_char()),
-        TokenTree::Group(group) if group.delimiter() == Delimiter::Brace => Shape::Braces,
-        TokenTree::Ident(word) => match word.to_string().as_str() {
-            "move" | "async" | "static" => Shape::BeforeClosure,
-            _ => Shape::Other,
+        TokenTree::Punct(punct) => match (punct.as_char(), punct.spacing()) {
+            ('<', Spacing::Joint) => Shape::Joint,
+            (mark, _) => Shape::Mark(mark),
         },
+        TokenTree::Group(group) if group.delimiter() == Delimiter::Brace => Shape::Braces,
+        TokenTree::Ident(word) => Shape::of_word(&word.to_string()),
         _ => Shape::Other,
     }
 }

@@ -271,17 +271,17 @@ impl<'t> LitInt<'t> {
     /// ```
     /// use navyspindle::{FlawKind, LitInt};
     ///
-    /// assert_eq!(LitInt::new("0x1F_u8")?.base10_digits(), "31");
-    /// assert!(LitInt::new("1.0").is_err());
+    /// assert_eq!(LitInt::of_text("0x1F_u8")?.base10_digits(), "31");
+    /// assert!(LitInt::of_text("1.0").is_err());
     /// let large = "340282366920938463463374607431768211456";
-    /// assert_eq!(LitInt::new(large).unwrap_err().kind(), FlawKind::TooLarge);
+    /// assert_eq!(LitInt::of_text(large).unwrap_err().kind(), FlawKind::TooLarge);
     /// # Ok::<(), navyspindle::ParseError>(())
     /// ```
-    pub fn new(text: impl Into<Cow<'t, str>>) -> Result<Self, ParseError> {
+    pub fn of_text(text: impl Into<Cow<'t, str>>) -> Result<Self, ParseError> {
         match Lit::of_text(text) {
             Lit::Int(literal) => Ok(literal),
             Lit::Verbatim(literal) => Err(ParseError::of_integer(literal)),
-            other => Err(ParseError::of_kind(Kind::Int, other)),
+            other => Err(ParseError::of_kind(Kind::Int, Ok(other))),
         }
     }
 
@@ -415,21 +415,21 @@ impl<'t> LitFloat<'t> {
     /// ```
     /// use navyspindle::LitFloat;
     ///
-    /// assert_eq!(LitFloat::new("1_0.5")?.base10_digits(), "10.5");
-    /// let literal = LitFloat::new("1f64")?;
+    /// assert_eq!(LitFloat::of_text("1_0.5")?.base10_digits(), "10.5");
+    /// let literal = LitFloat::of_text("1f64")?;
     /// assert_eq!((literal.base10_digits().as_ref(), literal.suffix()), ("1", "f64"));
-    /// assert_eq!(LitFloat::new("0x1F")?.suffix(), "x1F");
-    /// assert!(LitFloat::new("word").is_err());
+    /// assert_eq!(LitFloat::of_text("0x1F")?.suffix(), "x1F");
+    /// assert!(LitFloat::of_text("word").is_err());
     /// # Ok::<(), navyspindle::ParseError>(())
     /// ```
-    pub fn new(text: impl Into<Cow<'t, str>>) -> Result<Self, ParseError> {
+    pub fn of_text(text: impl Into<Cow<'t, str>>) -> Result<Self, ParseError> {
         let text = text.into();
         match float_suffix(&text) {
             Some(suffix) => {
                 let suffix_at = text.len() - suffix.len();
                 Ok(LitFloat::of(text, suffix_at))
             }
-            None => Err(ParseError::of_kind(Kind::Float, Lit::new(text))),
+            None => Err(ParseError::of_kind(Kind::Float, Ok(Lit::of_text(text)))),
         }
     }
 

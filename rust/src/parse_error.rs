@@ -36,11 +36,11 @@ use core::ops::Range;
 pub enum ParseErrorKind {
     /// The text isn't a Rust literal. The `FlawKind` is the reason.
     Flaw(FlawKind),
-    /// The text is a literal of another kind than the one that the caller requested.
+    /// The text is a literal of another kind than the one that the caller requested, or doesn't begin like a literal.
     Kind {
         /// The kind that the caller requested.
         expected: Kind,
-        /// The kind of the literal in the text.
+        /// The kind of the literal in the text. It is `Verbatim` if the text doesn't begin like a literal.
         found: Kind,
     },
 }
@@ -57,6 +57,10 @@ impl fmt::Display for ParseErrorKind {
     fn fmt(&self, f: &mut fmt::Formatter<'_>) -> fmt::Result {
         match self {
             ParseErrorKind::Flaw(kind) => kind.fmt(f),
+            ParseErrorKind::Kind {
+                expected,
+                found: Kind::Verbatim,
+            } => write!(f, "expected {expected}"),
             ParseErrorKind::Kind { expected, found } => {
                 write!(f, "expected {expected}, found {found}")
             }
@@ -96,9 +100,10 @@ impl ParseError {
 
     #[inline]
     pub(crate) fn of_flaw(flaw: Flaw) -> ParseError {
+        let is_open = flaw.kind == FlawKind::Unclosed && flaw.from == flaw.hi;
         ParseError {
             kind: ParseErrorKind::Flaw(flaw.kind),
-            from: flaw.from,
+            from: if is_open { 0 } else { flaw.from },
             lo: flaw.lo,
             hi: flaw.hi,
         }
@@ -114,25 +119,32 @@ impl ParseError {
             Some(integer) => {
                 ParseError::of_flaw(flaw_above_128_bits(text, text.len() - integer.suffix.len()))
             }
-            None => ParseError::of_kind(Kind::Int, Lit::Verbatim(literal)),
+            None => ParseError::of_kind(Kind::Int, Ok(Lit::Verbatim(literal))),
         }
     }
 
-    /// Returns the error for a literal that isn't of the kind `expected`. If Rust has no value for the literal, the error is the
-    /// reason for that. Otherwise the error has both kinds.
+    /// Returns the error for a parse result that isn't a literal of the kind `expected`. If Rust has no value for the text, the error
+    /// is the reason for that, or the expected kind if the text doesn't begin like a literal. Otherwise the error has both kinds.
     #[cold]
     #[inline]
-    pub(crate) fn of_kind(expected: Kind, literal: Lit<'_>) -> ParseError {
-        let found = literal.kind();
-        let other = ParseError {
+    pub(crate) fn of_kind(expected: Kind, found: Result<Lit<'_>, ParseError>) -> ParseError {
+        let of = |found, from, lo, hi| ParseError {
             kind: ParseErrorKind::Kind { expected, found },
-            from: 0,
-            lo: 0,
-            hi: literal.text().len(),
+            from,
+            lo,
+            hi,
         };
-        match literal {
-            Lit::Verbatim(literal) => literal.explain().unwrap_or(other),
-            _ => other,
+        let error = match &found {
+            Ok(Lit::Verbatim(literal)) => literal.explain(),
+            Ok(_) => None,
+            Err(error) => Some(*error),
+        };
+        match (error, found) {
+            (Some(it), _) if it.kind == FlawKind::NotALiteral => {
+                of(Kind::Verbatim, it.from, it.lo, it.hi)
+            }
+            (Some(error), _) | (None, Err(error)) => error,
+            (None, Ok(literal)) => of(literal.kind(), 0, 0, literal.text().len()),
         }
     }
 
@@ -205,7 +217,8 @@ impl ParseError {
     /// Returns the byte range of the piece of text that the error spoils, up to the end of [`range`](ParseError::range).
     ///
     /// In an escape the piece begins at the backslash. In a character or a byte literal it begins after the opening quote. In a
-    /// number or an identifier it begins at the text's start. Otherwise it is only the wrong character.
+    /// number or an identifier it begins at the text's start. If the closing quote is missing, it is the whole text, or the escape
+    /// at the text's end. Otherwise it is only the wrong character.
     ///
     /// ```
     /// use navyspindle::Lit;

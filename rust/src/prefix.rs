@@ -3,8 +3,8 @@
 use crate::list::parse_list;
 use crate::list_error::ListError;
 use crate::lit::Lit;
+use crate::rl_cursors::{leading_literal, leading_signed_literal, LeadingLiteral};
 use crate::rl_lexer::{first_source_token, whitespace};
-use crate::rl_recovery::{leading_literal, leading_signed_literal, LeadingLiteral};
 use crate::rl_syntax::classes::skip_white;
 use crate::rl_syntax::lines::split_line;
 use alloc::borrow::Cow;
@@ -36,43 +36,17 @@ impl<'t> Lit<'t> {
     /// ```
     /// use navyspindle::{skip_trivia, Lit};
     ///
-    /// /// Sums and products of numbers; the value, and what is left.
-    /// fn sum(text: &str) -> Option<(f64, &str)> {
-    ///     let (mut left, mut rest) = product(text)?;
-    ///     while let Some(following) = mark(rest, '+') {
-    ///         let (right, after) = product(following)?;
-    ///         (left, rest) = (left + right, after);
-    ///     }
-    ///     Some((left, rest))
-    /// }
-    ///
-    /// fn product(text: &str) -> Option<(f64, &str)> {
-    ///     let (mut left, mut rest) = number(text)?;
-    ///     while let Some(following) = mark(rest, '*') {
-    ///         let (right, after) = number(following)?;
-    ///         (left, rest) = (left * right, after);
-    ///     }
-    ///     Some((left, rest))
-    /// }
-    ///
-    /// fn number(text: &str) -> Option<(f64, &str)> {
-    ///     if let Some(following) = mark(text, '-') {
-    ///         let (value, rest) = number(following)?;
-    ///         return Some((-value, rest));
-    ///     }
-    ///     match Lit::parse_prefix(skip_trivia(text))? {
-    ///         (Lit::Int(literal), rest) => Some((literal.value::<u32>().ok()?.into(), rest)),
-    ///         (Lit::Float(literal), rest) => Some((literal.value::<f64>().ok()?, rest)),
-    ///         _ => None,
+    /// /// Returns a sum of integers, and the text after it.
+    /// fn sum(text: &str) -> Option<(u32, &str)> {
+    ///     let (literal, rest) = Lit::parse_prefix(skip_trivia(text))?;
+    ///     let Lit::Int(literal) = literal else { return None };
+    ///     let left: u32 = literal.value().ok()?;
+    ///     match skip_trivia(rest).strip_prefix('+') {
+    ///         Some(following) => sum(following).map(|(right, rest)| (left + right, rest)),
+    ///         None => Some((left, rest)),
     ///     }
     /// }
-    ///
-    /// fn mark(text: &str, mark: char) -> Option<&str> {
-    ///     skip_trivia(text).strip_prefix(mark)
-    /// }
-    ///
-    /// assert_eq!(sum("1 + 0x2f * -3.5e2"), Some((-16449.0, "")));
-    /// assert_eq!(sum("2 /* two */ * 3; x"), Some((6.0, "; x")));
+    /// assert_eq!(sum("1 + 0x2f /* two */ + 3; x"), Some((51, "; x")));
     /// ```
     #[must_use]
     pub fn parse_prefix(text: &'t str) -> Option<(Lit<'t>, &'t str)> {

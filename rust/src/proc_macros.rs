@@ -1,12 +1,11 @@
 //! Literals among the tokens of procedural macros.
 
 use crate::macro_error::{spanned, MacroError, Mismatch};
-use crate::{
-    Kind, Lit, LitBool, LitByte, LitByteStr, LitCStr, LitChar, LitFloat, LitInt, LitStr, ParseError,
-};
+use crate::{Kind, Lit, LitBool, LitByte, LitByteStr, LitCStr, LitChar, LitFloat, LitInt, LitStr};
 use alloc::format;
 use alloc::string::{String, ToString};
 use core::fmt;
+use core::ops::Range;
 use core::str::FromStr;
 use proc_macro::{Delimiter, Ident, Literal, Punct, Spacing, Span, TokenStream, TokenTree};
 
@@ -21,13 +20,12 @@ fn parsed(text: String, span: Span) -> Result<Lit<'static>, MacroError> {
 /// The literal may be a literal token, `true` or `false`, a minus and a number, or a literal that a `macro_rules!` macro passes on
 /// as `$e:literal`, in a group without delimiters. The span is that of the literal's own token, inside a group too.
 ///
-/// After a minus, the span is that of the number only, because the stable compiler can't join two spans. For an error at the minus
-/// too, take the span of `tokens.peek()` before the call, and pass both spans to [`MacroError::between`].
+/// After a minus, the span is that of the number only, because the stable compiler can't join two spans. A
+/// [`Located`](crate::Located) has both spans.
 ///
 /// # Errors
 ///
-/// Returns an error if the next token isn't a literal, or if it is an integer above 128 bits that isn't a float by its suffix
-/// ([`Lit::parse`]). Tokens may be consumed in case of an error.
+/// Returns an error if the next token isn't a literal by [`Lit::parse`]. Tokens may be consumed in case of an error.
 ///
 /// ```no_run
 /// extern crate proc_macro;
@@ -52,7 +50,7 @@ fn parsed(text: String, span: Span) -> Result<Lit<'static>, MacroError> {
 pub fn next_literal(
     tokens: &mut impl Iterator<Item = TokenTree>,
 ) -> Result<(Lit<'static>, Span), MacroError> {
-    next_placed(tokens).map(|placed| (placed.literal, placed.span))
+    next_placed(tokens, "literal").map(|placed| (placed.literal, placed.span))
 }
 
 /// Consumes and returns the next literal of a macro's input, which must be of one kind, with its span. It reads like
@@ -78,7 +76,7 @@ pub fn next_literal(
 pub fn next_literal_of<L: LitOfKind>(
     tokens: &mut impl Iterator<Item = TokenTree>,
 ) -> Result<(L, Span), MacroError> {
-    next_placed(tokens)?.of_kind()
+    next_placed(tokens, L::KIND)?.of_kind()
 }
 
 /// Returns the literal that is the whole input of a macro, which must be of one kind, with its span. It reads like
@@ -103,19 +101,25 @@ pub fn next_literal_of<L: LitOfKind>(
 /// }
 /// ```
 pub fn only_literal_of<L: LitOfKind>(input: TokenStream) -> Result<(L, Span), MacroError> {
-    whole(input)?.of_kind()
+    whole(input, L::KIND)?.of_kind()
 }
 
 mod sealed {
     use crate::Kind;
+    use core::ops::Range;
 
     /// The trait that `next_literal_of` requires of a literal's struct.
     pub trait Kinded {
         const KIND: Kind;
+
+        fn text_of(&self) -> &str;
+
+        /// Returns the range of the text that represents a range of the value. For a number or a `bool` it is the whole text.
+        fn range_of(&self, value: Range<usize>) -> Range<usize>;
     }
 }
 
-/// A struct for one kind of literals, which [`next_literal_of`] can return.
+/// A struct for one kind of literals, which [`next_literal_of`] can return. The trait is sealed.
 ///
 /// ```no_run
 /// extern crate proc_macro;
@@ -153,7 +157,7 @@ impl Placed {
     }
 
     /// Returns the literal, which must be of one kind, and its span.
-    fn of_kind<L: LitOfKind>(self) -> Result<(L, Span), MacroError> {
+    pub(crate) fn of_kind<L: LitOfKind>(self) -> Result<(L, Span), MacroError> {
         let (first, span) = (self.first, self.span);
         let literal = L::try_from(self.literal).map_err(|other| {
             let found = other.kind();
@@ -163,37 +167,44 @@ impl Placed {
     }
 }
 
-/// Returns the literal that consists of all tokens of a macro's input.
-#[inline]
-fn whole(input: TokenStream) -> Result<Placed, MacroError> {
+/// Returns the literal that consists of all tokens of a macro's input. `expected` is the kind that errors name.
+pub(crate) fn whole(input: TokenStream, expected: impl fmt::Display) -> Result<Placed, MacroError> {
     let mut tokens = input.into_iter();
-    let placed = next_placed(&mut tokens)?;
+    let placed = next_placed(&mut tokens, expected)?;
     match tokens.next() {
         None => Ok(placed),
         Some(tree) => Err(MacroError::new("unexpected token", tree.span())),
     }
 }
 
+/// Consumes and returns the next literal. `expected` is the kind that errors name.
 pub(crate) fn next_placed(
     tokens: &mut impl Iterator<Item = TokenTree>,
+    expected: impl fmt::Display,
 ) -> Result<Placed, MacroError> {
+    let expected: &dyn fmt::Display = &expected;
     let Some(tree) = tokens.next() else {
-        return Err(MacroError::new(
-            "unexpected end of input, expected literal",
-            Span::call_site(),
-        ));
+        let message = format_args!("unexpected end of input, expected {expected}");
+        return Err(MacroError::new(message, Span::call_site()));
     };
     match &tree {
-        TokenTree::Punct(mark) if mark.as_char() == '-' => negative(tokens.next(), mark.span()),
-        _ => literal_of(&tree),
+        TokenTree::Punct(mark) if mark.as_char() == '-' => {
+            negative(tokens.next(), mark.span(), expected)
+        }
+        _ => literal_of(&tree, expected),
     }
 }
 
 /// Returns the literal that consists of a minus, whose span is `minus`, and of the token tree after it.
 #[inline]
-fn negative(tree: Option<TokenTree>, minus: Span) -> Result<Placed, MacroError> {
-    let tree = tree.ok_or_else(|| MacroError::new("expected literal", minus))?;
-    let Placed { literal, span, .. } = literal_of(&tree)?;
+fn negative(
+    tree: Option<TokenTree>,
+    minus: Span,
+    expected: &dyn fmt::Display,
+) -> Result<Placed, MacroError> {
+    let missing = || MacroError::new(format_args!("expected {expected}"), minus);
+    let tree = tree.ok_or_else(missing)?;
+    let Placed { literal, span, .. } = literal_of(&tree, expected)?;
     let error = |message: &dyn fmt::Display| MacroError::between(message, minus, span);
     match literal {
         Lit::Int(_) | Lit::Float(_) | Lit::Verbatim(_) if !literal.text().starts_with('-') => {
@@ -210,23 +221,21 @@ fn negative(tree: Option<TokenTree>, minus: Span) -> Result<Placed, MacroError> 
 
 /// Returns the literal that a token tree is, with its span. In a group without delimiters, the span is that of the literal's token.
 #[inline]
-fn literal_of(tree: &TokenTree) -> Result<Placed, MacroError> {
-    let expected = || MacroError::new("expected literal", tree.span());
+fn literal_of(tree: &TokenTree, expected: &dyn fmt::Display) -> Result<Placed, MacroError> {
+    let other =
+        |tree: &TokenTree| MacroError::new(format_args!("expected {expected}"), tree.span());
     match tree {
         TokenTree::Literal(literal) => Ok(Placed::at(Lit::try_from(literal)?, literal.span())),
         TokenTree::Ident(word) => {
-            let literal = LitBool::try_from(word.to_string()).map_err(|_| expected())?;
+            let literal = LitBool::try_from(word.to_string()).map_err(|_| other(tree))?;
             Ok(Placed::at(Lit::Bool(literal), word.span()))
         }
         TokenTree::Group(group) if group.delimiter() == Delimiter::None => {
             let mut inside = group.stream().into_iter();
-            let literal = next_placed(&mut inside)?;
-            match inside.next() {
-                Some(tree) => Err(MacroError::new("expected literal", tree.span())),
-                None => Ok(literal),
-            }
+            let literal = next_placed(&mut inside, expected)?;
+            inside.next().map_or(Ok(literal), |tree| Err(other(&tree)))
         }
-        _ => Err(expected()),
+        _ => Err(other(tree)),
     }
 }
 
@@ -247,7 +256,7 @@ impl TryFrom<&TokenTree> for Lit<'static> {
 
     #[inline]
     fn try_from(tree: &TokenTree) -> Result<Self, MacroError> {
-        literal_of(tree).map(|placed| placed.literal)
+        literal_of(tree, &"literal").map(|placed| placed.literal)
     }
 }
 
@@ -267,7 +276,7 @@ impl TryFrom<TokenStream> for Lit<'static> {
 
     #[inline]
     fn try_from(input: TokenStream) -> Result<Self, MacroError> {
-        whole(input).map(|placed| placed.literal)
+        whole(input, "literal").map(|placed| placed.literal)
     }
 }
 
@@ -288,21 +297,16 @@ macro_rules! of_owned {
 of_owned!(Literal, Lit);
 of_owned!(TokenTree, Lit);
 
-/// Implements `TryFrom` for the struct of one kind of literals, by the implementation for `Lit`.
+/// Implements `TryFrom` for the struct of one kind of literals, by `$placed`, which makes a `Placed` of the tree.
 macro_rules! of_tree {
-    ($tree:ident, $name:ident, $variant:ident) => {
+    ($tree:ident, $name:ident, $placed:expr) => {
         impl TryFrom<&$tree> for $name<'static> {
             type Error = MacroError;
 
             #[inline]
             fn try_from(tree: &$tree) -> Result<Self, MacroError> {
-                match Lit::try_from(tree)? {
-                    Lit::$variant(literal) => Ok(literal),
-                    other => {
-                        let error = ParseError::of_kind(Kind::$variant, other);
-                        Err(MacroError::new(error.kind(), tree.span()))
-                    }
-                }
+                let placed: Result<Placed, MacroError> = $placed(tree);
+                placed?.of_kind().map(|(literal, _)| literal)
             }
         }
 
@@ -312,12 +316,23 @@ macro_rules! of_tree {
 
 /// Implements the conversions between the compiler's tokens and the structs of these kinds of literals.
 macro_rules! of_kinds {
-    ($($name:ident $variant:ident)*) => {$(
-        of_tree!(Literal, $name, $variant);
-        of_tree!(TokenTree, $name, $variant);
+    ($range:expr => $($name:ident $variant:ident)*) => {$(
+        of_tree!(Literal, $name, |it: &Literal| Ok(Placed::at(Lit::try_from(it)?, it.span())));
+        of_tree!(TokenTree, $name, |it| literal_of(it, &Kind::$variant));
 
         impl sealed::Kinded for $name<'static> {
             const KIND: Kind = Kind::$variant;
+
+            #[inline]
+            fn text_of(&self) -> &str {
+                self.text()
+            }
+
+            #[inline]
+            fn range_of(&self, value: Range<usize>) -> Range<usize> {
+                let range: fn(&Self, Range<usize>) -> Range<usize> = $range;
+                range(self, value)
+            }
         }
 
         impl LitOfKind for $name<'static> {}
@@ -354,20 +369,21 @@ macro_rules! of_kinds {
     )*};
 }
 
-of_kinds! { LitStr Str LitByteStr ByteStr LitCStr CStr LitByte Byte LitChar Char LitInt Int LitFloat Float LitBool Bool }
+of_kinds! { |literal, value| literal.text_range(value) => LitStr Str LitByteStr ByteStr LitCStr CStr LitByte Byte LitChar Char }
+of_kinds! { |literal, _| 0..literal.text().len() => LitInt Int LitFloat Float LitBool Bool }
 
 impl Lit<'_> {
     /// Returns the literal as tokens with the span `span`: one token, or a minus and a number.
     ///
     /// # Errors
     ///
-    /// Returns an error if Rust rejects the literal's text, which [`Lit::new`] doesn't check.
+    /// Returns an error if Rust rejects the literal's text, which [`Lit::of_text`] doesn't check.
     ///
     /// ```no_run
     /// extern crate proc_macro;
     /// use navyspindle::Lit;
     ///
-    /// let tokens = Lit::new("-1.5").to_token_stream(proc_macro::Span::call_site())?;
+    /// let tokens = Lit::of_text("-1.5").to_token_stream(proc_macro::Span::call_site())?;
     /// assert_eq!(tokens.into_iter().count(), 2);
     /// # Ok::<(), navyspindle::MacroError>(())
     /// ```
@@ -378,7 +394,7 @@ impl Lit<'_> {
 }
 
 #[inline]
-fn tokens_of(text: &str, span: Span) -> Result<TokenStream, MacroError> {
+pub(crate) fn tokens_of(text: &str, span: Span) -> Result<TokenStream, MacroError> {
     // The compiler itself would report a text that isn't a literal, so the text is checked before.
     let literal = Lit::parse(text).map_err(|error| MacroError::new(error.kind(), span))?;
     if let Lit::Bool(_) = literal {

@@ -357,7 +357,7 @@ mod tests {
             };
             (segments.map(line).collect(), (0..=len).map(place).collect())
         };
-        match &Lit::new(text) {
+        match &Lit::of_text(text) {
             Lit::Str(it) => show(it.segments(), it.value().len(), &|at| it.text_offset(at)),
             Lit::ByteStr(it) => show(it.segments(), it.value().len(), &|at| it.text_offset(at)),
             Lit::CStr(it) => show(it.segments(), it.value().len(), &|at| it.text_offset(at)),
@@ -436,7 +436,7 @@ mod tests {
             (r"'\u{1F600}'", &[0, 0, 0, 0, 0, 0, 0, 0, 0, 0, 4, 4]),
         ];
         for (text, values) in rows {
-            let literal = Lit::new(*text);
+            let literal = Lit::of_text(*text);
             let (places, segments) = (literal.offset_map().unwrap(), || {
                 literal.segments().unwrap()
             });

@@ -5,7 +5,7 @@ use crate::error::SyntaxErrorKind;
 use crate::help::STRING;
 use crate::lit::Lit;
 use crate::parse_error::ParseError;
-use crate::settings::{parse_settings, write_help, Entry, SettingsSyntaxError};
+use crate::settings::{parse_settings, Entry};
 use crate::value::{Number, ValueError};
 use alloc::borrow::Cow;
 use alloc::string::{String, ToString};
@@ -113,7 +113,8 @@ impl core::error::Error for SettingErrorKind {
     }
 }
 
-/// An error of settings, with its byte range in the text.
+/// An error of settings, with its byte range in the text. [`parse_settings`](fn@parse_settings), [`parse_config`](crate::parse_config)
+/// and [`Settings`] return it.
 ///
 /// ```
 /// use navyspindle::{Key, Settings};
@@ -133,6 +134,15 @@ pub struct SettingError {
 }
 
 impl SettingError {
+    #[inline]
+    pub(crate) fn of(
+        kind: SettingErrorKind,
+        range: Range<usize>,
+        help: Option<&'static str>,
+    ) -> SettingError {
+        SettingError { kind, range, help }
+    }
+
     /// Returns the kind of the error.
     ///
     /// ```
@@ -255,7 +265,7 @@ impl SettingError {
 impl fmt::Display for SettingError {
     fn fmt(&self, f: &mut fmt::Formatter<'_>) -> fmt::Result {
         write!(f, "{} at byte {}", self.kind, self.range.start)?;
-        write_help(f, self.help)
+        self.help.map_or(Ok(()), |help| write!(f, ": {help}"))
     }
 }
 
@@ -264,19 +274,6 @@ impl core::error::Error for SettingError {
     #[inline]
     fn source(&self) -> Option<&(dyn core::error::Error + 'static)> {
         self.kind.source()
-    }
-}
-
-/// Converts the error to the kind `Repeated` for a repeated name, and to the kind `Syntax` otherwise.
-impl From<SettingsSyntaxError> for SettingError {
-    #[inline]
-    fn from(error: SettingsSyntaxError) -> Self {
-        let (kind, range, help) = (error.kind(), error.range(), error.help());
-        let kind = match error.into_name() {
-            Some(name) => SettingErrorKind::Repeated(name),
-            None => SettingErrorKind::Syntax(kind),
-        };
-        SettingError { kind, range, help }
     }
 }
 
@@ -312,7 +309,7 @@ impl<'t> Settings<'t> {
     ///
     /// # Errors
     ///
-    /// Returns the errors of [`parse_settings`], as the kinds `Syntax` and `Repeated`.
+    /// Returns the errors of [`parse_settings`].
     ///
     /// ```
     /// use navyspindle::{Part, SettingErrorKind, Settings, SyntaxErrorKind};
@@ -352,7 +349,7 @@ impl<'t> Settings<'t> {
     /// use navyspindle::{Lit, Settings};
     ///
     /// let read = Settings::read("a = 1")?;
-    /// assert_eq!(read.get("a").unwrap().value, Lit::new("1"));
+    /// assert_eq!(read.get("a").unwrap().value, Lit::of_text("1"));
     /// assert!(read.get("b").is_none());
     /// # Ok::<(), navyspindle::SettingError>(())
     /// ```
@@ -600,114 +597,5 @@ fn range_in(entry: &Entry<'_>, bytes: Range<usize>) -> Range<usize> {
         shifted(bytes, value.start)
     } else {
         value
-    }
-}
-
-#[cfg(test)]
-mod tests {
-    use super::*;
-    use crate::{FlawKind, ParseErrorKind, ValueErrorKind};
-    use core::error::Error;
-
-    const PORT: Key = Key::new("port", "an integer");
-
-    fn rejected(text: &str) -> (SettingErrorKind, Range<usize>) {
-        let read = Settings::read(text).expect("settings");
-        let error = read.number::<u8>(PORT).expect_err("no number of 8 bits");
-        (error.kind().clone(), error.range())
-    }
-
-    #[test]
-    fn errors_say_what_is_wrong_with_a_value_and_where() {
-        let flaw = |text| {
-            let (kind, range) = rejected(text);
-            let SettingErrorKind::Literal(PORT, error) = kind else {
-                panic!("{text}: {kind:?}")
-            };
-            (error.kind(), range)
-        };
-        let digit = ParseErrorKind::Flaw(FlawKind::InvalidDigit);
-        assert_eq!(flaw("a = 1, port = 0b12"), (digit, 17..18));
-        let exponent = ParseErrorKind::Flaw(FlawKind::NoExponentDigit);
-        assert_eq!(flaw("port = - 1e"), (exponent, 7..11));
-        let kind = SettingErrorKind::Kind(PORT);
-        assert_eq!(rejected("port = 'a'"), (kind, 7..10));
-        let read = Settings::read("port = \"a\"b").expect("settings");
-        let error = read.string(PORT).expect_err("a suffix");
-        let suffix = SettingErrorKind::Suffix(PORT);
-        assert_eq!((error.kind(), error.range()), (&suffix, 10..11));
-    }
-
-    #[test]
-    fn numbers_are_judged_as_the_types_own_literals() {
-        let value = |text| {
-            let (kind, range) = rejected(text);
-            let SettingErrorKind::Value(PORT, error) = kind else {
-                panic!("{text}: {kind:?}")
-            };
-            (error.kind(), range)
-        };
-        assert_eq!(value("port = 256"), (ValueErrorKind::OutOfRange, 7..10));
-        assert_eq!(value("port = 1u16"), (ValueErrorKind::Suffix, 8..11));
-        assert_eq!(value("port = -1"), (ValueErrorKind::Minus, 7..8));
-        assert_eq!(value("port = - 1"), (ValueErrorKind::Minus, 7..10));
-        assert_eq!(value("port = 1.5"), (ValueErrorKind::Form, 7..10));
-        let read = Settings::read("port = 1e400").expect("settings");
-        let error = read.number::<f64>(PORT).expect_err("an infinity");
-        let source = error.source().expect("the value's error").to_string();
-        assert_eq!(source, "number out of range for f64 at byte 0");
-        let words = "port: expected an integer: number out of range for f64 at byte 7";
-        assert_eq!(error.to_string(), words);
-    }
-
-    #[test]
-    fn the_first_unknown_name_is_reported() {
-        let read =
-            Settings::read("a = 1, port = 2, Port = 3, por = 4, ports = 5").expect("settings");
-        for (known, unknown, range) in [
-            (&["port"][..], "a", 0..1),
-            (&["port", "a"], "Port", 17..21),
-            (&["ports", "Port", "port", "a"], "por", 27..30),
-        ] {
-            let known: Vec<Key> = known.iter().map(|name| Key::new(name, "")).collect();
-            let error = read.check(&known).expect_err("an unknown name");
-            let kind = SettingErrorKind::Unknown(unknown.to_string());
-            assert_eq!((error.kind(), error.range()), (&kind, range));
-        }
-        let unknown = read.unknown(&[PORT]).map(|error| error.range());
-        assert_eq!(unknown.collect::<Vec<_>>(), [0..1, 17..21, 27..30, 36..41]);
-        let known = ["por", "ports", "Port", "port", "a"].map(|name| Key::new(name, ""));
-        assert_eq!(read.check(&known), Ok(()));
-    }
-
-    #[test]
-    fn values_of_any_length() {
-        for len in [0, 1, 7, 8, 63, 64, 1000] {
-            let text = "a".repeat(len);
-            let source = std::format!("port = \"{text}\", size = {}1", "0".repeat(len));
-            let read = Settings::read(&source).expect("settings");
-            let string = read.string(PORT).expect("a string");
-            assert_eq!(string.as_deref(), Some(text.as_str()));
-            let size = read.number::<u8>(Key::new("size", "a number"));
-            assert_eq!(size, Ok(Some(1)), "{len}");
-        }
-    }
-
-    #[test]
-    fn a_shifted_error_has_its_name() {
-        let error = parse_settings("a = 1, b = 2, a = 3").expect_err("a name twice");
-        let error = error.shifted(100);
-        assert_eq!(error.to_string(), "repeated name `a` at byte 114");
-        let error = SettingError::from(error);
-        let kind = SettingErrorKind::Repeated("a".to_string());
-        assert_eq!((error.kind(), error.range()), (&kind, 114..115));
-    }
-
-    #[test]
-    fn a_value_that_is_no_literal_says_why() {
-        let read = Settings::read(r#"port = "a\u{D800}""#).expect("settings");
-        let error = read.string(PORT).expect_err("a surrogate");
-        let words = "port: expected an integer: a surrogate isn't a character at byte 16";
-        assert_eq!((error.to_string().as_str(), error.range()), (words, 16..17));
     }
 }

@@ -1,19 +1,18 @@
 //! Settings: names that are set to literals, with commas between them.
 
-use crate::common::shifted;
-use crate::error::{range_at, SyntaxErrorKind};
+use crate::error::range_at;
 use crate::help::{help_of, Separators};
 use crate::lit::Lit;
 use crate::next_literal::placed;
 use crate::rl_cursors::NextLiteral;
-use crate::rl_lexer::{LexError, Tokens};
-use crate::rl_settings::{
+use crate::rl_cursors::{
     first_error, lexer_error, next_setting, NextSetting, SettingRejection, SettingStep, SyntaxError,
 };
+use crate::rl_lexer::{LexError, Tokens};
+use crate::setting::{SettingError, SettingErrorKind};
 use alloc::collections::BTreeSet;
 use alloc::string::String;
 use alloc::vec::Vec;
-use core::fmt;
 use core::ops::Range;
 
 /// A setting: a name, and the literal that it is set to. See [`parse_settings`] and [`parse_config`](crate::parse_config).
@@ -24,7 +23,7 @@ use core::ops::Range;
 /// let entries: Vec<Entry> = parse_settings("port = -1")?;
 /// let Entry { name, value, value_range, .. } = &entries[0];
 /// assert_eq!((*name, value.text(), value_range), ("port", "-1", &(7..9)));
-/// # Ok::<(), navyspindle::SettingsSyntaxError>(())
+/// # Ok::<(), navyspindle::SettingError>(())
 /// ```
 #[derive(Clone, Debug, PartialEq, Eq, Hash)]
 #[non_exhaustive]
@@ -40,153 +39,32 @@ pub struct Entry<'t> {
     pub value_range: Range<usize>,
 }
 
-/// The error of a text that can't be parsed as settings, with its byte range.
-///
-/// ```
-/// let error = navyspindle::parse_settings("port = 1, port = 2").unwrap_err();
-/// assert_eq!(error.range(), 10..14);
-/// assert_eq!(error.to_string(), "repeated name `port` at byte 10");
-/// ```
-#[derive(Clone, Debug, PartialEq, Eq, Hash)]
-pub struct SettingsSyntaxError {
-    kind: SyntaxErrorKind,
-    range: Range<usize>,
-    name: Option<String>,
-    help: Option<&'static str>,
-}
-
-impl SettingsSyntaxError {
-    /// Converts an error of the lexer. The range is that of the token at the error.
-    #[cold]
-    #[inline]
-    pub(crate) fn of_lexer(
-        text: &str,
-        error: LexError,
-        separators: Separators,
-    ) -> SettingsSyntaxError {
-        let kind = lexer_error(error.kind);
-        SettingsSyntaxError {
-            kind,
-            range: range_at(text, error.at),
-            name: None,
-            help: help_of(kind, text, error.at, separators),
-        }
-    }
-
-    /// Creates the error that the name `name` at the range `range` is repeated.
-    #[cold]
-    #[inline]
-    pub(crate) fn repeated(name: &str, range: Range<usize>) -> SettingsSyntaxError {
-        SettingsSyntaxError {
-            kind: SyntaxErrorKind::Repeated,
-            range,
-            name: Some(String::from(name)),
-            help: None,
-        }
-    }
-
-    /// Returns the kind of the error.
-    ///
-    /// ```
-    /// use navyspindle::{parse_settings, SyntaxErrorKind, Part};
-    ///
-    /// assert_eq!(parse_settings("a = 1 b").unwrap_err().kind(), SyntaxErrorKind::Expected(Part::Comma));
-    /// assert_eq!(parse_settings("a =").unwrap_err().kind(), SyntaxErrorKind::EndOfInput(Part::Literal));
-    /// ```
-    #[inline]
-    #[must_use]
-    pub fn kind(&self) -> SyntaxErrorKind {
-        self.kind
-    }
-
-    /// Returns the byte range of the rejected token or group. At the text's end it is empty. For a quote or a comment that isn't
-    /// closed, it reaches to the text's end.
-    ///
-    /// ```
-    /// assert_eq!(navyspindle::parse_settings("a = 1 b").unwrap_err().range(), 6..7);
-    /// assert_eq!(navyspindle::parse_settings("a = 'b").unwrap_err().range(), 4..6);
-    /// ```
-    #[doc(alias = "span")]
-    #[inline]
-    #[must_use]
-    pub fn range(&self) -> Range<usize> {
-        self.range.clone()
-    }
-
-    /// Returns the byte offset at which [`range`](SettingsSyntaxError::range) begins. The error's message names this offset.
-    ///
-    /// ```
-    /// assert_eq!(navyspindle::parse_settings("a = 1 b").unwrap_err().offset(), 6);
-    /// ```
-    #[inline]
-    #[must_use]
-    pub fn offset(&self) -> usize {
-        self.range.start
-    }
-
-    /// Returns the error with its range moved forward by `by` bytes. Use it if the settings are part of a longer text and begin at
-    /// the byte offset `by`.
-    ///
-    /// ```
-    /// let error = navyspindle::parse_settings("a = 1 b").unwrap_err();
-    /// assert_eq!(error.shifted(100).range(), 106..107);
-    /// ```
-    #[inline]
-    #[must_use]
-    pub fn shifted(self, by: usize) -> Self {
-        SettingsSyntaxError {
-            range: shifted(self.range, by),
-            ..self
-        }
-    }
-
-    /// Returns a hint for what other formats of configuration files have, such as comments that begin with `#`, or `None`. The printed
-    /// error ends with the hint.
-    ///
-    /// ```
-    /// let error = navyspindle::parse_config("# one\nport = 1").unwrap_err();
-    /// assert_eq!(error.help(), Some("a comment begins with `//`"));
-    /// assert_eq!(error.to_string(), "expected identifier at byte 0: a comment begins with `//`");
-    /// ```
-    #[inline]
-    #[must_use]
-    pub fn help(&self) -> Option<&'static str> {
-        self.help
-    }
-
-    /// Returns the repeated name, or `None` for an error of another kind.
-    #[inline]
-    pub(crate) fn into_name(self) -> Option<String> {
-        self.name
-    }
-}
-
-impl fmt::Display for SettingsSyntaxError {
-    fn fmt(&self, f: &mut fmt::Formatter<'_>) -> fmt::Result {
-        let at = self.range.start;
-        match &self.name {
-            Some(name) => write!(f, "{} `{name}` at byte {at}", self.kind)?,
-            None => write!(f, "{} at byte {at}", self.kind)?,
-        }
-        write_help(f, self.help)
-    }
-}
-
-impl core::error::Error for SettingsSyntaxError {}
-
-/// Writes the hint at the end of an error's message.
+/// Returns the error of the lexer. The range is that of the token at the error.
+#[cold]
 #[inline]
-pub(crate) fn write_help(f: &mut fmt::Formatter<'_>, help: Option<&str>) -> fmt::Result {
-    match help {
-        Some(help) => write!(f, ": {help}"),
-        None => Ok(()),
-    }
+pub(crate) fn of_lexer(text: &str, error: LexError, separators: Separators) -> SettingError {
+    let kind = lexer_error(error.kind);
+    let help = help_of(kind, text, error.at, separators);
+    SettingError::of(
+        SettingErrorKind::Syntax(kind),
+        range_at(text, error.at),
+        help,
+    )
+}
+
+/// Returns the error that the name `name` at the range `range` is repeated.
+#[cold]
+#[inline]
+pub(crate) fn repeated(name: &str, range: Range<usize>) -> SettingError {
+    SettingError::of(SettingErrorKind::Repeated(String::from(name)), range, None)
 }
 
 /// Returns the settings of a text, in order. Each setting is a name, `=` and a literal. Commas separate settings, and a comma may
 /// follow the last one. White space and plain comments may be between any two tokens. No two settings have the same name.
 ///
 /// # Errors
+///
+/// The kind of an error is `Repeated` for a repeated name, and `Syntax` otherwise.
 ///
 /// Returns the first error of the whole text if it can't be divided into tokens, or if a group isn't closed correctly.
 ///
@@ -201,13 +79,12 @@ pub(crate) fn write_help(f: &mut fmt::Formatter<'_>, help: Option<&str>) -> fmt:
 /// let Lit::Int(port) = &entries[1].value else { panic!() };
 /// assert_eq!((entries[1].name, port.value::<u16>()), ("port", Ok(8080)));
 /// assert_eq!(LineIndex::new(text).line_column(entries[1].value_range.start).to_string(), "2:8");
-/// # Ok::<(), navyspindle::SettingsSyntaxError>(())
+/// # Ok::<(), navyspindle::SettingError>(())
 /// ```
 #[inline]
-pub fn parse_settings(text: &str) -> Result<Vec<Entry<'_>>, SettingsSyntaxError> {
+pub fn parse_settings(text: &str) -> Result<Vec<Entry<'_>>, SettingError> {
     if let Some(error) = first_error(text) {
-        let error = SettingsSyntaxError::of_lexer(text, error, Separators::Commas);
-        return Err(error);
+        return Err(of_lexer(text, error, Separators::Commas));
     }
     let mut tokens = Tokens::new(text);
     let (mut entries, mut names) = (Vec::new(), BTreeSet::new());
@@ -217,7 +94,7 @@ pub fn parse_settings(text: &str) -> Result<Vec<Entry<'_>>, SettingsSyntaxError>
             SettingStep::Setting(NextSetting { name, value }) => {
                 let range = name.lo..name.hi;
                 if !names.insert(name.text) {
-                    return Err(SettingsSyntaxError::repeated(name.text, range));
+                    return Err(repeated(name.text, range));
                 }
                 entries.push(entry_of(text, name.text, range, value));
             }
@@ -256,14 +133,13 @@ pub(crate) fn rejected(
     error: SyntaxError,
     text: &str,
     separators: Separators,
-) -> SettingsSyntaxError {
+) -> SettingError {
     match name {
-        Some((name, range)) if names.contains(name) => SettingsSyntaxError::repeated(name, range),
-        _ => SettingsSyntaxError {
-            kind: error.kind,
-            range: error.lo..error.hi,
-            name: None,
-            help: help_of(error.kind, text, error.lo, separators),
-        },
+        Some((name, range)) if names.contains(name) => repeated(name, range),
+        _ => {
+            let help = help_of(error.kind, text, error.lo, separators);
+            let kind = SettingErrorKind::Syntax(error.kind);
+            SettingError::of(kind, error.lo..error.hi, help)
+        }
     }
 }

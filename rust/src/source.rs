@@ -2,10 +2,10 @@
 
 use crate::list_error::ListError;
 use crate::lit::Lit;
+use crate::rl_cursors::{next_recovered_literal, Recovery};
 use crate::rl_cursors::{next_source_literal, SourceStep};
 use crate::rl_lenient::Found;
 use crate::rl_lexer::{SourceToken, Sources};
-use crate::rl_recovery::{next_recovered_literal, Recovery};
 use alloc::borrow::Cow;
 use core::fmt;
 use core::iter::FusedIterator;

@@ -2,14 +2,13 @@
 
 #[cfg(doc)]
 use crate::common::example;
-use crate::common::{literal_type, part};
+use crate::common::literal_type;
 use crate::contents::{bytes_of, text_of};
-use crate::rl_lenient::Body;
+use crate::rl_lenient::{parts, Body};
 use crate::rl_syntax::Kind;
 use crate::segments::quoted_type;
 use alloc::borrow::Cow;
 use alloc::ffi::CString;
-use alloc::string::String;
 use core::ops::Range;
 
 /// Defines the struct of a kind of strings. `$cooked`, `$raw` and `$pieces` are literals for the examples. The first byte of the
@@ -61,7 +60,7 @@ macro_rules! string_type {
             #[inline]
             #[must_use]
             pub fn body(&self) -> &str {
-                &self.text[self.lo..self.hi]
+                parts::body_of(&self.text, &self.parts())
             }
 
             /// Returns the byte range of the text between the quotes.
@@ -80,7 +79,7 @@ macro_rules! string_type {
             #[inline]
             #[must_use]
             pub fn is_raw(&self) -> bool {
-                self.lo > Self::KIND.opener().len()
+                parts::is_raw(Self::KIND, &self.text, &self.parts())
             }
 
             /// Returns the number of `#` before the opening quote of a raw literal, or 0 for any other literal.
@@ -88,9 +87,7 @@ macro_rules! string_type {
             #[inline]
             #[must_use]
             pub fn hashes(&self) -> usize {
-                // Between the body and the suffix are the closing quote and, in a raw literal, as many hashes as before its opening
-                // quote.
-                self.suffix_at - self.hi - 1
+                parts::hashes(Self::KIND, &self.text, &self.parts())
             }
         }
     };
@@ -149,11 +146,7 @@ impl<'t> LitStr<'t> {
     #[inline]
     #[must_use]
     pub fn value(&self) -> Cow<'_, str> {
-        if self.is_plain {
-            Cow::Borrowed(self.body())
-        } else {
-            Cow::Owned(text_of(&self.text, self.parts()))
-        }
+        text_in(&self.text, self.parts())
     }
 
     /// Returns the text that the literal represents. If the literal has no escapes and its own text is borrowed, the result is
@@ -175,19 +168,29 @@ impl<'t> LitStr<'t> {
     #[inline]
     #[must_use]
     pub fn into_value(self) -> Cow<'t, str> {
-        if self.is_plain {
-            part(self.text, self.lo, self.hi)
-        } else {
-            Cow::Owned(text_of(&self.text, self.parts()))
+        let parts = self.parts();
+        match self.text {
+            Cow::Borrowed(text) => text_in(text, parts),
+            Cow::Owned(text) => Cow::Owned(text_in(&text, parts).into_owned()),
         }
     }
 }
 
+/// Returns the value of the string `text`, which is borrowed if the string has no escapes.
 #[inline]
-fn into_bytes(text: Cow<'_, str>) -> Cow<'_, [u8]> {
-    match text {
-        Cow::Borrowed(text) => Cow::Borrowed(text.as_bytes()),
-        Cow::Owned(text) => Cow::Owned(String::into_bytes(text)),
+fn text_in(text: &str, body: Body) -> Cow<'_, str> {
+    match parts::plain_body_of(text, &body) {
+        Some(value) => Cow::Borrowed(value),
+        None => Cow::Owned(text_of(parts::body_of(text, &body))),
+    }
+}
+
+/// Returns the value of the byte string or C string `text`, which is borrowed if the string has no escapes.
+#[inline]
+fn bytes_in(kind: Kind, text: &str, body: Body) -> Cow<'_, [u8]> {
+    match parts::plain_body_of(text, &body) {
+        Some(value) => Cow::Borrowed(value.as_bytes()),
+        None => Cow::Owned(bytes_of(kind, parts::body_of(text, &body))),
     }
 }
 
@@ -201,11 +204,7 @@ macro_rules! byte_values {
             #[inline]
             #[must_use]
             pub fn value(&self) -> Cow<'_, [u8]> {
-                if self.is_plain {
-                    Cow::Borrowed(self.body().as_bytes())
-                } else {
-                    Cow::Owned(bytes_of(Self::KIND, self.body()))
-                }
+                bytes_in(Self::KIND, &self.text, self.parts())
             }
 
             /// Returns the bytes that the literal represents. If the literal has no escapes and its own text is borrowed, the
@@ -214,10 +213,12 @@ macro_rules! byte_values {
             #[inline]
             #[must_use]
             pub fn into_value(self) -> Cow<'t, [u8]> {
-                if self.is_plain {
-                    into_bytes(part(self.text, self.lo, self.hi))
-                } else {
-                    Cow::Owned(bytes_of(Self::KIND, self.body()))
+                let parts = self.parts();
+                match self.text {
+                    Cow::Borrowed(text) => bytes_in(Self::KIND, text, parts),
+                    Cow::Owned(text) => {
+                        Cow::Owned(bytes_in(Self::KIND, &text, parts).into_owned())
+                    }
                 }
             }
         }

@@ -1,6 +1,7 @@
 //! The check whether Rust has a type for a literal.
 
 use crate::lit::Lit;
+use crate::numbers::NumberType;
 use crate::rl_flaws::{self, TypeError};
 use crate::rl_lenient::parse_literal;
 use core::fmt;
@@ -30,30 +31,36 @@ impl Lit<'_> {
     /// [`Lit::Verbatim`], which has no value. A float that rounds to infinity is out of range. Without a suffix the range is that
     /// of `f64`. `usize` and `isize` have 64 bits.
     ///
-    /// A minus in the literal's own text counts: `-128i8` has a type, `128i8` doesn't. Literals of [`source`](fn@crate::source)
-    /// never have a minus in their text. Call [`Lit::type_error_negated`] if a minus is before the literal in the source.
+    /// A minus in the literal's own text counts: `-128i8` has a type, `128i8` doesn't. A number of an unsigned type with a minus, such
+    /// as `-1u8`, is out of range. Literals of [`source`](fn@crate::source) never have a minus in their text. Call
+    /// [`Lit::type_error_negated`] if a minus is before the literal in the source.
     ///
     /// ```
     /// use navyspindle::{Lit, TypeError};
     ///
-    /// let error = |text| Lit::new(text).type_error();
+    /// let error = |text| Lit::of_text(text).type_error();
     /// assert_eq!(error("1u9"), Some(TypeError::UnknownSuffix));
     /// assert_eq!(error("\"a\"q"), Some(TypeError::QuotedSuffix));
     /// assert_eq!(error("128i8"), Some(TypeError::OutOfRange));
-    /// assert_eq!(error("-128i8"), None);
+    /// assert_eq!((error("-128i8"), error("-1u8")), (None, Some(TypeError::OutOfRange)));
     /// assert_eq!(error("256"), None);
     /// assert_eq!(error("1e400"), Some(TypeError::OutOfRange));
     /// ```
     #[inline]
     #[must_use]
     pub fn type_error(&self) -> Option<TypeError> {
-        match self.text().strip_prefix('-') {
-            Some(body) => type_error_of(body, true),
-            None => type_error_of(self.text(), false),
-        }
+        let Some(body) = self.text().strip_prefix('-') else {
+            return type_error_of(self.text(), false);
+        };
+        let is_unsigned = match self {
+            Lit::Int(literal) => literal.type_suffix().is_some_and(NumberType::is_unsigned),
+            _ => false,
+        };
+        type_error_of(body, true).or(is_unsigned.then_some(TypeError::OutOfRange))
     }
 
-    /// Returns the result of [`Lit::type_error`] for a literal with a minus before it in the source.
+    /// Returns the result of [`Lit::type_error`] for a literal with a minus before it in the source. The minus may be a binary one, so
+    /// a number of an unsigned type is in range.
     ///
     /// ```
     /// use navyspindle::{source, TypeError};

@@ -2,21 +2,26 @@
 
 use crate::common::shifted;
 use crate::numbers::{Base, LitFloat, LitInt, NumberType};
-#[cfg(feature = "writers")]
-use crate::rl_syntax::IntegerType;
+use crate::rl_lenient::{self, ValueFlaw};
 use core::fmt;
 use core::ops::Range;
 
 mod sealed {
     use crate::numbers::NumberType;
-    #[cfg(feature = "writers")]
-    use crate::rl_syntax::IntegerType;
+    use crate::rl_lenient::{self, ValueFlaw};
     use core::fmt::Debug;
     use core::str::FromStr;
 
     /// The trait that the method `value` of `LitInt` and `LitFloat` requires of a number type.
     pub trait Typed: FromStr {
         const TYPE: NumberType;
+
+        /// Returns the number that an integer literal represents, from its magnitude, or `None` for a float type.
+        fn integer_value(
+            text: &str,
+            suffix_at: usize,
+            magnitude: u128,
+        ) -> Option<Result<Self, ValueFlaw>>;
 
         /// Whether the value is a number. Infinities and NaN aren't.
         #[inline]
@@ -26,10 +31,7 @@ mod sealed {
     }
 
     /// The trait that functions which write integers require of an integer type.
-    pub trait Whole: Typed {
-        #[cfg(feature = "writers")]
-        const SUFFIX: IntegerType;
-
+    pub trait Whole: Typed + rl_lenient::Integer {
         /// Whether the number is less than 0.
         #[cfg(feature = "writers")]
         fn is_negative(&self) -> bool;
@@ -43,7 +45,7 @@ mod sealed {
     pub trait Real: Typed + Debug {}
 }
 
-/// A primitive number type of Rust. [`LitInt::value`] and [`LitFloat::value`] return values of such a type.
+/// A primitive number type of Rust. [`LitInt::value`] and [`LitFloat::value`] return values of such a type. The trait is sealed.
 ///
 /// ```
 /// use navyspindle::{LitInt, Number, ValueError};
@@ -56,7 +58,7 @@ mod sealed {
 /// ```
 pub trait Number: sealed::Typed {}
 
-/// A primitive integer type of Rust. [`write_integer`](crate::write_integer) and [`LitInt::suffixed`] accept values of such a type.
+/// A primitive integer type of Rust, a sealed trait. [`write_integer`](crate::write_integer) and [`LitInt::suffixed`] accept its values.
 ///
 /// ```
 /// use navyspindle::{Integer, LitInt};
@@ -68,7 +70,7 @@ pub trait Number: sealed::Typed {}
 /// ```
 pub trait Integer: Number + Copy + sealed::Whole {}
 
-/// `f32` or `f64`. [`LitFloat::suffixed`] accepts values of these types.
+/// `f32` or `f64`. [`LitFloat::suffixed`] accepts values of these types. The trait is sealed.
 ///
 /// ```
 /// use navyspindle::{Float, LitFloat};
@@ -85,6 +87,11 @@ macro_rules! floats {
     ($($name:ident $variant:ident),*) => {$(
         impl sealed::Typed for $name {
             const TYPE: NumberType = NumberType::$variant;
+
+            #[inline]
+            fn integer_value(_: &str, _: usize, _: u128) -> Option<Result<Self, ValueFlaw>> {
+                None
+            }
 
             #[inline]
             fn is_number(&self) -> bool {
@@ -104,14 +111,20 @@ macro_rules! integers {
     ($($name:ident $variant:ident),* => $is_negative:expr, $magnitude:ident) => {$(
         impl sealed::Typed for $name {
             const TYPE: NumberType = NumberType::$variant;
+
+            #[inline]
+            fn integer_value(
+                text: &str,
+                suffix_at: usize,
+                magnitude: u128,
+            ) -> Option<Result<Self, ValueFlaw>> {
+                Some(rl_lenient::integer_value(text, suffix_at, magnitude))
+            }
         }
 
         impl Number for $name {}
 
         impl sealed::Whole for $name {
-            #[cfg(feature = "writers")]
-            const SUFFIX: IntegerType = IntegerType::$variant;
-
             #[cfg(feature = "writers")]
             #[inline]
             fn is_negative(&self) -> bool {
@@ -306,15 +319,12 @@ impl fmt::Display for Reason {
     }
 }
 
-/// Parses `digits`, the decimal digits of a literal, as a number of type `N`. The literal's suffix begins at the byte offset
-/// `suffix_at`. An error has the range of the minus, or the range before the suffix.
+/// Parses `digits`, the decimal digits of a literal, as a number of the float type `N`. The literal's suffix begins at the byte
+/// offset `suffix_at`. An error has the range before the suffix.
 fn number_of<N: Number>(
     digits: &str,
     suffix_at: usize,
 ) -> Result<N, (ValueErrorKind, Range<usize>)> {
-    if digits.starts_with('-') && N::TYPE.is_unsigned() {
-        return Err((ValueErrorKind::Minus, 0..1));
-    }
     match digits.parse::<N>() {
         Ok(number) if number.is_number() => Ok(number),
         _ => Err((ValueErrorKind::OutOfRange, 0..suffix_at)),
@@ -353,17 +363,20 @@ impl LitInt<'_> {
     /// # Ok::<(), navyspindle::ParseError>(())
     /// ```
     pub fn value<N: Number>(&self) -> Result<N, ValueError> {
-        let (suffix, is_float) = (self.suffix(), N::TYPE.is_float());
         let suffix_at = self.suffix_range().start;
-        // For an integer type the base isn't needed, and the code that finds it isn't compiled.
-        let is_decimal = if const { N::TYPE.is_float() } {
-            self.base() == Base::Decimal
-        } else {
-            true
-        };
-        let found = if suffix.is_empty() && is_float {
+        if let Some(value) = N::integer_value(self.text(), suffix_at, self.magnitude()) {
+            return value.map_err(|flaw| {
+                error_of::<N>(match flaw {
+                    ValueFlaw::Suffix => (ValueErrorKind::Suffix, self.suffix_range()),
+                    ValueFlaw::Minus => (ValueErrorKind::Minus, 0..1),
+                    ValueFlaw::OutOfRange => (ValueErrorKind::OutOfRange, 0..suffix_at),
+                })
+            });
+        }
+        let suffix = self.suffix();
+        let found = if suffix.is_empty() {
             Err((ValueErrorKind::Form, 0..suffix_at))
-        } else if !suffix.is_empty() && (suffix != N::TYPE.as_str() || is_float && !is_decimal) {
+        } else if suffix != N::TYPE.as_str() || self.base() != Base::Decimal {
             Err((ValueErrorKind::Suffix, self.suffix_range()))
         } else {
             number_of(&self.base10_digits(), suffix_at)

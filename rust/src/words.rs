@@ -56,14 +56,17 @@ impl<'t> LitBool<'t> {
 }
 
 /// A text without a value and without a suffix. It is a literal token of a list or a source such as `'\q'`, an integer above 128
-/// bits, or any text that [`Lit::new`](crate::Lit::new) can't read.
+/// bits, or any text that [`Lit::of_text`](crate::Lit::of_text) can't read.
+///
+/// A decimal integer above 128 bits with the suffix `f32` or `f64` is a float to Rust. So [`Lit::parse`](crate::Lit::parse) returns it as
+/// a `LitVerbatim`, in place of an error. [`LitFloat::of_text`](crate::LitFloat::of_text) returns its value and its suffix.
 ///
 /// With the feature `flaws`, `flaws`, `pieces` and `guess_kind` return more about the text.
 ///
 /// ```
 /// use navyspindle::{FlawKind, Lit};
 ///
-/// let Lit::Verbatim(literal) = Lit::new(r"'\q'") else { panic!() };
+/// let Lit::Verbatim(literal) = Lit::of_text(r"'\q'") else { panic!() };
 /// assert_eq!(literal.explain().unwrap().kind(), FlawKind::UnknownEscape);
 /// ```
 #[derive(Clone)]
@@ -120,7 +123,7 @@ impl LitVerbatim<'_> {
     /// ```
     /// use navyspindle::{Kind, Lit};
     ///
-    /// let Lit::Verbatim(literal) = Lit::new(r"b'\q'") else { panic!() };
+    /// let Lit::Verbatim(literal) = Lit::of_text(r"b'\q'") else { panic!() };
     /// assert_eq!(literal.guess_kind(), Some(Kind::Byte));
     /// ```
     #[inline]
@@ -137,7 +140,7 @@ impl LitVerbatim<'_> {
     /// ```
     /// use navyspindle::{FlawKind, Lit};
     ///
-    /// let Lit::Verbatim(literal) = Lit::new(r#""\q \u{d800}""#) else { panic!() };
+    /// let Lit::Verbatim(literal) = Lit::of_text(r#""\q \u{d800}""#) else { panic!() };
     /// let kinds: Vec<_> = literal.flaws().map(|bad| bad.kind()).collect();
     /// assert_eq!(kinds, [FlawKind::UnknownEscape, FlawKind::Surrogate]);
     /// ```
@@ -152,7 +155,7 @@ impl LitVerbatim<'_> {
     /// ```
     /// use navyspindle::{Lit, Piece};
     ///
-    /// let Lit::Verbatim(literal) = Lit::new(r#""\q\n\y""#) else { panic!() };
+    /// let Lit::Verbatim(literal) = Lit::of_text(r#""\q\n\y""#) else { panic!() };
     /// let bad = literal.pieces().unwrap().filter(|it| matches!(it, Piece::Bad(_)));
     /// assert_eq!(bad.count(), 2);
     /// ```

@@ -2,6 +2,7 @@
 //! number. Parsing the literal returns the value.
 
 use crate::numbers::Base;
+use crate::rl_lenient;
 use crate::rl_syntax::{write_bytes_into, write_char_into, write_str_into, Kind};
 use crate::rl_writing::{
     self, min_raw_hashes, raw_text_and_hashes, write_char_ascii_into, write_integer_into,
@@ -68,17 +69,28 @@ pub fn write_byte_str(value: &[u8]) -> String {
     })
 }
 
-/// Writes the C string as a C string literal, with escapes where they are needed.
+/// Writes the C string as a C string literal, with escapes where they are needed. If the C string isn't UTF-8, each non-ASCII byte is
+/// escaped. Otherwise non-ASCII characters are written unchanged, as [`write_str`] writes them.
 ///
 /// ```
-/// assert_eq!(navyspindle::write_c_str(c"a\n"), r#"c"a\n""#);
+/// use navyspindle::write_c_str;
+///
+/// assert_eq!(write_c_str(c"a\u{e9}\n"), r#"c"aé\n""#);
+/// assert_eq!(write_c_str(c"\xff\xc3\xa9"), r#"c"\xFF\xC3\xA9""#);
 /// ```
 #[doc(alias = "c_string")]
 #[inline]
 #[must_use]
 pub fn write_c_str(value: &CStr) -> String {
     let bytes = value.to_bytes();
-    written(bytes.len(), |out| write_bytes_into(Kind::CStr, bytes, out))
+    match value.to_str() {
+        // The escapes of a string literal mean the same in a C string literal.
+        Ok(text) => written(text.len() + 1, |out| {
+            out[0] = b'c';
+            1 + write_str_into(text, &mut out[1..])
+        }),
+        Err(_) => written(bytes.len(), |out| write_bytes_into(Kind::CStr, bytes, out)),
+    }
 }
 
 /// Writes the byte as a byte literal, with an escape if it is needed.
@@ -348,7 +360,7 @@ const LONGEST_INTEGER: usize = 262;
 #[must_use]
 pub fn write_integer<N: Integer>(value: N, style: IntegerStyle) -> String {
     let mut out = [0; LONGEST_INTEGER];
-    let suffix = style.suffixed.then_some(N::SUFFIX);
+    let suffix = style.suffixed.then_some(<N as rl_lenient::Integer>::TYPE);
     let len = write_integer_into(value.magnitude(), style.proved(), suffix, &mut out);
     let text = core::str::from_utf8(&out[..len]).expect("literals are ASCII");
     let sign = if value.is_negative() { "-" } else { "" };

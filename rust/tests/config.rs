@@ -2,7 +2,8 @@
 //! The expected values of literals that TOML doesn't have come from rustc, which compiles the same literals.
 
 use navyspindle::{
-    parse_config, parse_settings, Key, Lit, Part, SettingErrorKind, Settings, SyntaxErrorKind,
+    parse_config, parse_settings, Key, Lit, Part, SettingError, SettingErrorKind, Settings,
+    SyntaxErrorKind,
 };
 use std::ops::Range;
 
@@ -30,7 +31,7 @@ fn holds(text: &str, wanted: &[(&'static str, Toml)]) {
     for entry in read.entries() {
         assert_eq!(&text[entry.name_range.clone()], entry.name, "{text:?}");
         assert_eq!(
-            Lit::new(&text[entry.value_range.clone()]),
+            Lit::of_text(&text[entry.value_range.clone()]),
             entry.value,
             "{text:?}"
         );
@@ -140,10 +141,19 @@ fn an_integer_is_a_float_where_one_is_expected() {
     assert!(whole.is_err());
 }
 
+/// Returns the kind of an error of syntax.
+fn syntax(error: &SettingError) -> SyntaxErrorKind {
+    match error.kind() {
+        SettingErrorKind::Syntax(kind) => *kind,
+        SettingErrorKind::Repeated(_) => SyntaxErrorKind::Repeated,
+        other => panic!("{other:?}"),
+    }
+}
+
 /// Returns the kind and the byte offset of the error in the text.
 fn error_of(text: &str) -> (SyntaxErrorKind, usize) {
     let error = parse_config(text).expect_err(text);
-    (error.kind(), error.range().start)
+    (syntax(&error), error.range().start)
 }
 
 /// `tomllib` rejects each of these texts at the line and column in its message, or at the text's end.
@@ -272,7 +282,7 @@ fn dots() {
         let dot = text.find('.').expect("a dot");
         let error = parse_config(text).expect_err(text);
         assert_eq!(
-            (error.kind(), error.range()),
+            (syntax(&error), error.range()),
             (name, dot..dot + 1),
             "{text:?}"
         );
@@ -284,7 +294,7 @@ fn dots() {
     assert_eq!(parse_config("a.b .c = 1").expect_err("a dot").range(), 4..5);
     let ended = parse_config("a.b.").expect_err("no name");
     assert_eq!(
-        (ended.kind(), ended.range()),
+        (syntax(&ended), ended.range()),
         (SyntaxErrorKind::EndOfInput(Part::Name), 4..4)
     );
     // The range of the error is the whole token or group in place of the name.
@@ -296,7 +306,7 @@ fn dots() {
     ] {
         let error = parse_config(text).expect_err(text);
         assert_eq!(
-            (error.kind(), &text[error.range()]),
+            (syntax(&error), &text[error.range()]),
             (name, stands),
             "{text:?}"
         );
@@ -539,6 +549,8 @@ fn errors_tell_what_other_formats_write() {
         "# one",
         "a = 1 # one",
         "a = 1\n  # it's one",
+        "a = 1\n\t# it's one",
+        "\t; one\na = 1",
         "\u{feff}# (one",
         "# ‘one’\na = 1",
         "a # one\n= 1",
@@ -651,7 +663,7 @@ fn numbers_after_a_minus_are_literals() {
             texts.extend("019xobefu_.+-".chars().map(|c| format!("{text}{c}")));
             if let Err(error) = parse_config(&text) {
                 assert_ne!(
-                    error.kind(),
+                    syntax(&error),
                     SyntaxErrorKind::Expected(Part::Literal),
                     "{text}"
                 );

@@ -3,7 +3,7 @@
 
 use navyspindle::{
     flaws, parse_config, parse_list, parse_settings, source, Key, Lit, LitInt, Number, ParseError,
-    ParseErrorKind, SettingError, Settings, ValueError,
+    ParseErrorKind, SettingError, SettingErrorKind, Settings, SyntaxErrorKind, ValueError,
 };
 use std::collections::BTreeSet;
 use std::ops::Range;
@@ -146,10 +146,13 @@ fn error_of(kind: &str, text: &str) -> Option<Shown> {
         }
         "LexKind" | "SyntaxErrorKind" if text.contains('=') => {
             let error = parse_settings(text).err()?;
-            let kind = format!("{:?}", error.kind());
+            let kind = match error.kind() {
+                SettingErrorKind::Syntax(kind) => *kind,
+                _ => SyntaxErrorKind::Repeated,
+            };
             plain(
-                format!("SyntaxErrorKind::{}", variant(&kind)),
-                error.kind().to_string(),
+                format!("SyntaxErrorKind::{}", variant(&format!("{kind:?}"))),
+                kind.to_string(),
                 error.range(),
             )
         }

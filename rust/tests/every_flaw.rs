@@ -156,7 +156,7 @@ fn pieces_fill_the_literal() {
         let all: Vec<_> = pieces(&text).unwrap().collect();
         let bad = all.iter().filter_map(|piece| match piece {
             Piece::Bad(bad) => Some(*bad),
-            Piece::Good(_) => None,
+            _ => None,
         });
         assert!(bad.eq(flaws(&text)), "{text:?}");
         if matches!(guess_kind(&text), Some(Kind::Char | Kind::Byte)) {
@@ -165,6 +165,7 @@ fn pieces_fill_the_literal() {
         let range = |piece: &Piece| match piece {
             Piece::Good(segment) => segment.range.clone(),
             Piece::Bad(bad) => bad.range(),
+            _ => unreachable!("a piece is good or bad"),
         };
         assert!(
             all.windows(2)
@@ -204,7 +205,7 @@ fn tokens_have_no_flaws() {
         assert!(is_token(text));
         assert_eq!(flaws(text).next(), None, "{text}");
         assert_eq!(guess_kind(text), Some(kind), "{text}");
-        let literal = Lit::new(text);
+        let literal = Lit::of_text(text);
         let Some(segments) = literal.segments() else {
             assert!(pieces(text).is_none());
             continue;
@@ -313,7 +314,7 @@ fn texts_without_a_reading() {
         (r#""\q\y"#, 3),
     ];
     for (text, count) in texts {
-        let Lit::Verbatim(literal) = Lit::new(text) else {
+        let Lit::Verbatim(literal) = Lit::of_text(text) else {
             panic!("{text}")
         };
         let all: Vec<_> = literal.flaws().take(count + 1).collect();

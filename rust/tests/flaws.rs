@@ -20,7 +20,7 @@ const ROWS: &[Row] = &[
     ("r#", FlawKind::UnexpectedEnd, 2, 2, 2),
     ("r#x", FlawKind::NoQuote, 2, 2, 3),
     ("--1", FlawKind::NoNumber, 0, 1, 2),
-    (r#""a"#, FlawKind::Unclosed, 2, 2, 2),
+    (r#""a"#, FlawKind::Unclosed, 0, 2, 2),
     (r#""\q""#, FlawKind::UnknownEscape, 1, 2, 3),
     (r#"b"\u{1}""#, FlawKind::NoUnicode, 2, 3, 4),
     (r#""\xg""#, FlawKind::NoHexDigit, 1, 3, 4),
@@ -102,7 +102,7 @@ fn kinds(rows: &[Row], explain: impl Fn(&str) -> ParseError) -> HashSet<FlawKind
 
 /// Returns the reason why a text that isn't a literal to `syn` has no value.
 fn of_syn(text: &str) -> ParseError {
-    let Lit::Verbatim(literal) = Lit::new(text) else {
+    let Lit::Verbatim(literal) = Lit::of_text(text) else {
         panic!("{text} reads")
     };
     literal.explain().unwrap()
@@ -131,7 +131,7 @@ fn other_places() {
         ("b", FlawKind::UnexpectedEnd, 0, 1, 1),
         ("1e+", FlawKind::NoExponentDigit, 0, 3, 3),
         (r#""a\x4"#, FlawKind::Unclosed, 2, 5, 5),
-        (r##"r#"a""##, FlawKind::Unclosed, 5, 5, 5),
+        (r##"r#"a""##, FlawKind::Unclosed, 0, 5, 5),
         (r#""\u{00D800}""#, FlawKind::Surrogate, 1, 9, 10),
         (r#"c"\x00""#, FlawKind::Nul, 2, 5, 6),
         ("b''", FlawKind::NoCharacter, 2, 2, 3),
@@ -208,7 +208,7 @@ fn floats_by_suffix() {
     for text in &taken {
         for text in [text.clone(), format!("-{text}")] {
             let literal = Lit::parse(&text).unwrap();
-            assert_eq!(literal, Lit::new(text.as_str()));
+            assert_eq!(literal, Lit::of_text(text.as_str()));
             assert_eq!(
                 (literal.kind(), literal.text()),
                 (Kind::Verbatim, text.as_str())
@@ -238,7 +238,7 @@ fn floats_by_suffix() {
         let text = format!("{PAST}{end}");
         let error = Lit::parse(&text).unwrap_err();
         assert_eq!(error.kind(), FlawKind::TooLarge, "{text}");
-        assert_eq!(Lit::new(text.as_str()).check(), Err(error), "{text}");
+        assert_eq!(Lit::of_text(text.as_str()).check(), Err(error), "{text}");
     }
     let hexadecimal = format!("0x{PAST}f64");
     let error = Lit::parse(&hexadecimal).unwrap_err();
@@ -262,7 +262,7 @@ fn a_cr_lf_is_no_flaw_of_a_file() {
         ("'\r\n'", FlawKind::MustEscape, 1, 1, 3),
     ];
     for &(text, kind, from, lo, hi) in ROWS {
-        let error = Lit::new(text).check().unwrap_err();
+        let error = Lit::of_text(text).check().unwrap_err();
         assert_eq!(error.kind(), kind, "{text:?}");
         assert_eq!(
             (error.piece(), error.range()),
@@ -270,5 +270,5 @@ fn a_cr_lf_is_no_flaw_of_a_file() {
             "{text:?}"
         );
     }
-    assert_eq!(Lit::new("\"a\r\nb\\\r\n c\"").check(), Ok(()));
+    assert_eq!(Lit::of_text("\"a\r\nb\\\r\n c\"").check(), Ok(()));
 }

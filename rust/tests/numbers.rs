@@ -1,7 +1,9 @@
 //! Tests of the parts of numbers. The expected parts come from a simple model, which splits a text after its first bytes, at its
 //! first dot and at its first `e`.
 
-use navyspindle::{parse_list, Base, FlawKind, Kind, Lit, LitFloat, LitInt, ParseErrorKind};
+use navyspindle::{
+    parse_list, Base, FlawKind, Kind, Lit, LitFloat, LitInt, LitStr, ParseErrorKind,
+};
 use std::ops::Range;
 
 /// Returns the text before the suffix, without a minus.
@@ -66,8 +68,8 @@ impl Tally {
     /// Checks each text of `front` and up to `most` further characters: alone, as an owned text, and after a minus with white space
     /// after it.
     fn check_each(&mut self, front: &str, most: usize) {
-        self.check(&Lit::new(front));
-        self.check(&Lit::new(front.to_owned()));
+        self.check(&Lit::of_text(front));
+        self.check(&Lit::of_text(front.to_owned()));
         let list = format!("- {front}");
         let items = parse_list(&list).map_while(Result::ok);
         items.for_each(|(_, literal)| self.check(&literal));
@@ -102,7 +104,7 @@ fn parts_as_in_a_plain_model() {
     assert!(tally.floats > 20_000, "{}", tally.floats);
 }
 
-/// `LitInt::new` and `LitFloat::new` parse like `syn`. The rows come from the tests of `syn` 3 and from its grammar.
+/// `LitInt::of_text` and `LitFloat::of_text` parse like `syn`. The rows come from the tests of `syn` 3 and from its grammar.
 #[test]
 fn a_text_is_made_an_integer_or_a_float() {
     for (text, digits, suffix) in [
@@ -121,7 +123,7 @@ fn a_text_is_made_an_integer_or_a_float() {
         ("0x1F", "31", ""),
         ("1e", "1", "e"),
     ] {
-        let literal = LitInt::new(text).expect(text);
+        let literal = LitInt::of_text(text).expect(text);
         assert_eq!(
             (&*literal.base10_digits(), literal.suffix()),
             (digits, suffix),
@@ -148,7 +150,7 @@ fn a_text_is_made_an_integer_or_a_float() {
             "f64",
         ),
     ] {
-        let literal = LitFloat::new(text).expect(text);
+        let literal = LitFloat::of_text(text).expect(text);
         assert_eq!(
             (&*literal.base10_digits(), literal.suffix()),
             (digits, suffix),
@@ -156,7 +158,7 @@ fn a_text_is_made_an_integer_or_a_float() {
         );
     }
     let past = "340282366920938463463374607431768211456";
-    let large = LitFloat::new(format!("{past}f64")).expect("a float");
+    let large = LitFloat::of_text(format!("{past}f64")).expect("a float");
     assert_eq!(
         large.value::<f64>(),
         Ok(340_282_366_920_938_463_463_374_607_431_768_211_456_f64)
@@ -167,31 +169,34 @@ fn a_text_is_made_an_integer_or_a_float() {
 fn a_text_that_is_no_number_has_its_reason() {
     let mismatch = |expected, found| ParseErrorKind::Kind { expected, found };
     let int = |text| {
-        LitInt::new(text)
+        LitInt::of_text(text)
             .map_err(|error| (error.kind(), error.range()))
             .unwrap_err()
     };
     let float = |text| {
-        LitFloat::new(text)
+        LitFloat::of_text(text)
             .map_err(|error| (error.kind(), error.range()))
             .unwrap_err()
     };
     assert_eq!(int("1.0"), (mismatch(Kind::Int, Kind::Float), 0..3));
     assert_eq!(int("'a'"), (mismatch(Kind::Int, Kind::Char), 0..3));
     assert_eq!(int(""), (ParseErrorKind::Flaw(FlawKind::Empty), 0..0));
+    assert_eq!(float("abc"), (mismatch(Kind::Float, Kind::Verbatim), 0..1));
+    let message = |text| LitStr::parse(text).unwrap_err().to_string();
+    assert_eq!(message("x"), "expected string literal at byte 0");
     assert_eq!(
-        float("abc"),
-        (ParseErrorKind::Flaw(FlawKind::NotALiteral), 0..1)
+        message("1"),
+        "expected string literal, found integer literal at byte 0"
     );
     assert_eq!(float("true"), (mismatch(Kind::Float, Kind::Bool), 0..4));
     // White space is no part of a number, and `syn` rejects it too.
     for text in [" 1.5", "1.5 ", "1.5\n", "1f32 ", "1.5 f32", "1.5_\u{a0}"] {
-        assert!(LitFloat::new(text).is_err(), "{text:?}");
+        assert!(LitFloat::of_text(text).is_err(), "{text:?}");
     }
     let past = "340282366920938463463374607431768211456";
     for suffix in ["", "u8", "f64"] {
         let text = format!("{past}{suffix}");
-        let error = LitInt::new(&*text).unwrap_err();
+        let error = LitInt::of_text(&*text).unwrap_err();
         assert_eq!(error.kind(), FlawKind::TooLarge, "{text}");
         assert_eq!(
             (error.offset(), error.piece().start),
@@ -199,6 +204,6 @@ fn a_text_that_is_no_number_has_its_reason() {
             "{text}"
         );
     }
-    assert!(LitInt::new(format!("0x{}", "F".repeat(32))).is_ok());
-    assert!(LitInt::new(format!("0x1{}", "0".repeat(32))).is_err());
+    assert!(LitInt::of_text(format!("0x{}", "F".repeat(32))).is_ok());
+    assert!(LitInt::of_text(format!("0x1{}", "0".repeat(32))).is_err());
 }

@@ -2,7 +2,7 @@
 
 use navyspindle::{
     parse_list, parse_settings, source, write_integer, write_raw_str, Base, IntegerStyle, Key,
-    Kind, LineColumn, LineIndex, Lit, LitFloat, LitInt, LitStr, Settings, SyntaxErrorKind,
+    Kind, LineColumn, LineIndex, Lit, LitFloat, LitInt, Settings, SyntaxErrorKind,
 };
 
 #[test]
@@ -14,6 +14,7 @@ fn a_list_ends_after_its_first_error() {
     assert_eq!(error.kind(), SyntaxErrorKind::NotALiteral);
     assert_eq!(error.range(), 2..6);
     assert_eq!(error.shifted(100).range(), 102..106);
+    assert!(list.clone().next().is_none());
     assert!(list.next().is_none());
     assert!(list.next().is_none());
 }
@@ -48,15 +49,6 @@ fn a_minus_belongs_to_a_signed_prefix_alone() {
     assert_eq!((literal.text(), rest), ("-1.5", ", 2"));
     let (literal, rest) = Lit::parse_prefix_signed("1.5, 2").unwrap();
     assert_eq!((literal.text(), rest), ("1.5", ", 2"));
-}
-
-#[test]
-fn literals_of_one_kind_are_ordered_by_text() {
-    let of = |text| LitStr::parse(text).unwrap();
-    assert!(of(r#""aa""#) < of(r#""b""#));
-    assert!(of(r#""aaa""#) < of(r#""aab""#));
-    let of = |text| LitInt::parse(text).unwrap();
-    assert!(of("10") < of("9"));
 }
 
 #[test]

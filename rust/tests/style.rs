@@ -41,7 +41,7 @@ fn the_model_writes_the_same() {
 
 /// Whether the package's parser returns the same kind, value and suffix for both texts.
 fn read_alike(old: &str, new: &str) -> bool {
-    let (old, new) = (Lit::new(old.to_owned()), Lit::new(new.to_owned()));
+    let (old, new) = (Lit::of_text(old.to_owned()), Lit::of_text(new.to_owned()));
     let value = |literal: &Lit<'_>| match literal {
         Lit::Str(it) => it.value().as_bytes().to_vec(),
         Lit::ByteStr(it) => it.value().to_vec(),

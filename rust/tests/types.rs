@@ -2,7 +2,7 @@
 //! range are set to be errors.
 #![cfg(feature = "flaws")]
 
-use navyspindle::{Kind, Lit};
+use navyspindle::{Kind, Lit, TypeError};
 
 /// Literals that rustc accepts, each with the minus before it.
 const TAKEN: &[(&str, &str)] = &[
@@ -19,7 +19,7 @@ const TAKEN: &[(&str, &str)] = &[
     ("", "18446744073709551615u64"),
     ("", "18446744073709551615usize"),
     ("", "340282366920938463463374607431768211455u128"),
-    ("", r##""a""##),
+    ("", r#""a""#),
     ("", "'a'"),
     ("", "true"),
     ("", "1_u8"),
@@ -54,12 +54,12 @@ const REJECTED: &[(&str, &str)] = &[
     ("", "18446744073709551616u64"),
     ("", "18446744073709551616usize"),
     ("", "170141183460469231731687303715884105728i128"),
-    ("", r##""a"q"##),
+    ("", r#""a"q"#),
     ("", "'a'x"),
-    ("", r##"b"a"b"##),
+    ("", r#"b"a"b"#),
     ("", "b'a'u8"),
-    ("", r##"c"a"c"##),
-    ("", r##"r"a"r"##),
+    ("", r#"c"a"c"#),
+    ("", r#"r"a"r"#),
     ("", r##"r#"a"#u8"##),
     ("", "1_u_8"),
     ("", "0XFF"),
@@ -75,24 +75,27 @@ const REJECTED: &[(&str, &str)] = &[
     ("", "0.000_1e999999999999999999999999999999999999999999"),
 ];
 
+/// Returns the error of a minus before a number of an unsigned type. rustc 1.95 reports E0600 for it.
+fn minus_error(literal: &Lit) -> Option<TypeError> {
+    let is_unsigned = matches!(literal, Lit::Int(_)) && literal.suffix().starts_with('u');
+    is_unsigned.then_some(TypeError::OutOfRange)
+}
+
 /// Whether Rust has a type for the literal after the minus. The function also checks that the literal without its minus and the
 /// literal with its minus have the same result.
 fn has_type((minus, text): (&str, &str)) -> bool {
-    let literal = Lit::new(text);
+    let literal = Lit::of_text(text);
     let error = if minus.is_empty() {
         literal.type_error()
     } else {
         literal.type_error_negated()
     };
-    let whole = Lit::new(format!("{minus}{text}"));
+    let whole = Lit::of_text(format!("{minus}{text}"));
     if whole.kind() != Kind::Verbatim {
         assert_eq!(whole.type_error(), error, "{minus}{text}");
-        let negated = Lit::new(format!("-{text}"));
-        assert_eq!(
-            negated.type_error_negated(),
-            negated.type_error(),
-            "-{text}"
-        );
+        let negated = Lit::of_text(format!("-{text}"));
+        let error = negated.type_error_negated().or(minus_error(&negated));
+        assert_eq!(negated.type_error(), error, "-{text}");
     }
     error.is_none()
 }
@@ -102,6 +105,15 @@ fn what_rustc_takes_has_a_type() {
     for row in TAKEN {
         assert!(has_type(*row), "{row:?}");
     }
+}
+
+#[test]
+fn a_minus_before_an_unsigned_type_has_none() {
+    for text in ["-1u8", "-0usize", "-0xFF_u128"] {
+        let literal = Lit::parse(text).unwrap();
+        assert_eq!(literal.type_error(), Some(TypeError::OutOfRange), "{text}");
+    }
+    assert_eq!(Lit::parse("-1").unwrap().type_error(), None);
 }
 
 #[test]
@@ -118,7 +130,7 @@ fn a_float_of_another_base_is_in_no_range() {
     let sevens = format!("0o{}f64", "7".repeat(42));
     for text in [ones.as_str(), &sevens, "0b1f32"] {
         assert_eq!(
-            Lit::new(text).type_error().unwrap().id(),
+            Lit::of_text(text).type_error().unwrap().id(),
             "based-float",
             "{text}"
         );
@@ -127,7 +139,7 @@ fn a_float_of_another_base_is_in_no_range() {
 
 #[test]
 fn an_error_has_words_and_a_name() {
-    let error = Lit::new("1u9").type_error().unwrap();
+    let error = Lit::of_text("1u9").type_error().unwrap();
     assert_eq!(error.to_string(), error.message());
     assert_eq!(error.id(), "unknown-suffix");
 }
@@ -164,9 +176,9 @@ fn floats_are_out_of_range_where_std_reads_infinity() {
                         let in_f32 = plain.parse::<f32>().expect("a float").is_infinite();
                         let in_f64 = plain.parse::<f64>().expect("a float").is_infinite();
                         infinite += usize::from(in_f32) + usize::from(in_f64);
-                        assert_eq!(Lit::new(&text).type_error().is_some(), in_f64, "{text}");
+                        assert_eq!(Lit::of_text(&text).type_error().is_some(), in_f64, "{text}");
                         let text = format!("{text}f32");
-                        assert_eq!(Lit::new(&text).type_error().is_some(), in_f32, "{text}");
+                        assert_eq!(Lit::of_text(&text).type_error().is_some(), in_f32, "{text}");
                     }
                 }
             }

@@ -225,31 +225,31 @@ def check_limits(tell):
 
 
 # A row of the table of options of rl_scan with its lines of the help, and a line that begins an option.
-OPTION_ROW = re.compile(r"""OptionRow \{ name: "(--[\w-]*)", letter: (?:None|Some\('(.)'\)), effect: (\w+).*, modes: Modes::(\w+),\s+"""
-                        r"""value: "(.*)", help: "([^"]*)" \}""")
+OPTION_ROW = re.compile(r"""OptionRow \{ name: "(--[\w-]*)", letter: '(\\0|.)', modes: (\w+), value: Value::(\w+).*, help: "([^"]*)" \}""")
 OPTION_LINE = re.compile(r'(?m)^ {2,6}(?:-(\w), )?(--[\w-]*)( [A-Z][A-Z,.]*)?(?: |$)')
 
 
 def check_options(tell):
     """Checks that each row of the table of rl_scan has its option, letter and value in its lines of the help, and that the manual
     has the modes of the table."""
-    code = read('crates/rl_options/src/table.rt')
-    rows = OPTION_ROW.findall(code)
-    if len(rows) != code.count('    OptionRow {'):
-        tell('crates/rl_options/src/table.rt: a row has another form')
-    for name, letter, effect, _, value, lines in rows:
+    path = 'crates/rl_scan/src/options.rt'
+    code = read(path)
+    rows = [(name, letter.strip('\\0'), *others) for name, letter, *others in OPTION_ROW.findall(code)]
+    if not rows or len(rows) != code.count('    OptionRow {'):
+        tell(f'{path}: a row has another form')
+    for name, letter, _, value, lines in rows:
         shown = [(said, short, bool(takes)) for short, said, takes in OPTION_LINE.findall(lines)]
-        if shown != [(name, letter, effect == 'Takes')] or bool(value) != (effect == 'Takes'):
-            tell(f'crates/rl_options/src/table.rt: the lines of the help or the values of {name} differ from its row')
+        if shown != [(name, letter, value != 'None')]:
+            tell(f'{path}: the lines of the help of {name} differ from its row')
     names = {f'-{letter}': name for name, letter, *_ in rows}
     part = read('docs/PROGRAMS.md').split('| Modes in which they have an effect |\n|---|---|\n')[1].split('\n\n')[0]
     groups = [{names.get(it, it) for it in re.findall('`(-.*?)`', line.split('|')[1])} for line in part.split('\n')]
     modes = {}
-    for name, _, _, of_row, *_ in rows:
+    for name, _, of_row, *_ in rows:
         modes.setdefault(of_row, set()).add(name)
-    wanted = [modes[it] for it in modes if it not in ('All', 'Printing')]
+    wanted = [modes[it] for it in modes if it not in ('ALL', 'READING')]
     if sorted(map(sorted, filter(None, groups))) != sorted(map(sorted, wanted)):
-        tell('docs/PROGRAMS.md: the options and their modes differ from table.rt')
+        tell(f'docs/PROGRAMS.md: the options and their modes differ from {path}')
 
 
 # The values that a rule may have, as the output of --rules shows them.
@@ -262,11 +262,11 @@ def check_rules(tell):
     kinds = {rule: kind for rules, kind in re.findall(r'((?:\|?\s*Rule::\w+\s*)+)=> Expected::(\w+)', code)
              for rule in re.findall(r'Rule::(\w+)', rules)}
     table = [(name, RULE_VALUES[kinds.get(rule, 'Truth')]) for name, rule in re.findall(r'"(\w+)" => Some\(Rule::(\w+)\)', code)]
-    shown = re.findall(r'(?m)^(\w+) = (.*)$', read('crates/rl_options/src/help.rt'))
+    shown = re.findall(r'(?m)^(\w+) = (.*)$', read('crates/rl_scan/src/pages.rt'))
     for name, values in sorted(set(table) ^ set(shown)):
-        tell(f'crates/rl_options/src/help.rt: {name} = {values} differs from rule.rt')
+        tell(f'crates/rl_scan/src/pages.rt: {name} = {values} differs from rule.rt')
     if not table or [name for name, _ in table] != [name for name, _ in shown]:
-        tell('crates/rl_options/src/help.rt: the rules have another order than rule.rt')
+        tell('crates/rl_scan/src/pages.rt: the rules have another order than rule.rt')
     listed = set(re.findall(r'(?m)^\| `(\w+) = ', read('docs/PROGRAMS.md')))
     for name in sorted(listed ^ {name for name, _ in table}):
         tell(f'docs/PROGRAMS.md: {name} is a rule in only one of the manual and rule.rt')

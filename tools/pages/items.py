@@ -10,8 +10,8 @@ from .snippets import EXAMPLE, bare, blanked, closing
 TOP = os.path.dirname(os.path.dirname(os.path.dirname(os.path.abspath(__file__))))
 # The crates whose items are for callers.
 LIBRARIES = """
-    rl_tokens rl_grammar rl_quoted rust_literals rl_attributes rl_program rl_commands
-    rl_files rl_restyle rl_output rl_scan rl_sources rl_uses""".split()
+    rl_tokens rl_grammar rl_quoted rust_literals rl_attributes rl_program
+    rl_files rl_restyle rl_scan rl_uses""".split()
 
 
 @functools.cache

@@ -6,12 +6,12 @@ from .items import read
 PAGE = 'docs/ERRORS.md'
 # The files with the messages of each type of error, and with the identifiers that `rl_scan` prints.
 BOTH = {'FlawKind': 'crates/rl_strict/src/flaws.rt', 'TypeError': 'crates/rl_flaws/src/type_errors.rt'}
-MESSAGES = BOTH | {'LexKind': 'crates/rl_lexer/src/lex_error.rt', 'SyntaxErrorKind': 'crates/rl_settings/src/syntax_error.rt'}
-IDENTIFIERS = BOTH | {'LexKind': 'crates/rl_output/src/error_id.rt'}
-# The errors of a whole source that `rl_scan` prints.
-PRINTED = ('UnclosedQuote', 'UnclosedComment', 'StrayCharacter')
-# The errors at which reading ends, so that `--allow` can't leave them out.
-UNCLOSED = ('unclosed-quote', 'unclosed-comment')
+MESSAGES = BOTH | {'LexKind': 'crates/rl_lexer/src/lex_error.rt', 'SyntaxErrorKind': 'crates/rl_cursors/src/syntax_error.rt'}
+# The errors of a whole source that `rl_scan` prints, with their identifiers. Reading ends at the first two, so `--allow` can't leave
+# them out.
+PRINTED = {'LexKind::UnclosedQuote': 'unclosed-quote', 'LexKind::UnclosedComment': 'unclosed-comment',
+           'LexKind::StrayCharacter': 'stray-character'}
+UNCLOSED = {'unclosed-quote', 'unclosed-comment'}
 # The error that no type of errors has, and an example of each class of characters that `--invisible` prints.
 RESERVED = {'reserved-prefix': 'reserved prefix'}
 CHARACTERS = {'bidirectional-character': 'U+202E RIGHT-TO-LEFT OVERRIDE', 'control-character': 'U+0008',
@@ -40,8 +40,7 @@ def messages():
 
 def identifiers():
     """Returns the identifier of each variant that `rl_scan` prints."""
-    found = strings_of(IDENTIFIERS, ['id', 'id_of'])
-    return {name: its for name, its in found.items() if not name.startswith('LexKind::') or name.split('::')[1] in PRINTED}
+    return strings_of(BOTH, ['id']) | PRINTED
 
 
 def identifier_rows():
@@ -77,17 +76,14 @@ def with_words():
 
 
 def check_allowed(tell):
-    """Checks that `--allow` accepts exactly the identifiers of the table, except those of errors at which reading ends."""
-    path = 'crates/rl_options/src/allowed.rt'
-    lists = {name: re.findall('"([^"]*)"', its)
-             for name, its in re.findall(r'const (\w+_IDS): \[&str; \d+\] = \[(.*?)\];', read(path), re.S)}
-    errors = {*identifiers().values(), *RESERVED}
-    characters = re.findall(r'=>\s*"([^"]*)"', read('crates/rl_sources/src/hidden.rt').split('fn id_of_hidden(')[1].split('\n}\n')[0])
-    for name, wanted in (('UNCLOSED_IDS', UNCLOSED), ('BAD_IDS', errors - {*UNCLOSED}), ('CHARACTER_IDS', characters)):
-        if sorted(lists.get(name, [])) != sorted(wanted):
-            tell(f'{path}: {name} are not the identifiers of the sources')
-    if sorted(characters) != sorted(CHARACTERS):
-        tell('tools/pages/words.py: CHARACTERS are not the identifiers of the sources')
+    """Checks that `rl_scan` prints the identifiers of the table, and that `--allow` accepts exactly those at which reading goes on."""
+    errors = {*identifiers().values(), *RESERVED} - UNCLOSED
+    for path, form, ids in (('ids', r'const BAD_IDS: .*?\];', errors), ('ids', r'const CHARACTER_IDS: .*?\];', CHARACTERS),
+                            ('errors', r'LexKind::UnclosedQuote => .*?\};', PRINTED.values()),
+                            ('hidden', r'fn character_id\(.*?\n\}\n', CHARACTERS)):
+        code = re.search(form, read(f'crates/rl_scan/src/{path}.rt'), re.S)
+        if not code or sorted(re.findall('"([^"]*)"', code[0])) != sorted(ids):
+            tell(f'crates/rl_scan/src/{path}.rt: other identifiers than on {PAGE}')
 
 
 def check_words(tell):
@@ -98,6 +94,6 @@ def check_words(tell):
     names, shown = {*messages(), *identifiers()}, {it for entry in ENTRY.finditer(read(PAGE)) for it in kinds_of(entry[2])}
     for name in sorted(names - shown - {'LexKind::Memory'}):
         tell(f'{PAGE}: has no entry of {name}')
-    for files, found in (MESSAGES, messages()), (IDENTIFIERS, identifiers()):
+    for files, found in (MESSAGES, messages()), (BOTH, identifiers()):
         for kind in files.keys() - {name.split('::')[0] for name in found}:
             tell(f'{files[kind]}: a function with strings for {kind} is not found')

@@ -5,9 +5,9 @@ use crate::package;
 
 /// Checks that the works return the known sums.
 pub fn check() -> Result<(), String> {
-    // The weights are 5 + 1, 5 + 2 + 1, 4 + 1 and 5 + 4.
+    // The weights are 5 + 97, 5 + 233 + 1, 4 + 10 and 5 + 128512.
     let characters = ["'a'", "'\\u{e9}'x", "b'\\n'", "'\u{1F600}'"];
-    wanted("package", package::value(&known(&characters)), 28)?;
+    wanted("package", package::value(&known(&characters)), 128872)?;
     // The whole sources have no literal, no literal, and one literal before the open quote.
     let sources = ["#!x\n'a r#b/// c\n\u{2261}/* d */", "#![e]", "\"#!f\"g'"];
     wanted("package", package::source(&known(&sources)), 1)?;

@@ -78,7 +78,7 @@ fn named(name: &str) -> Result<(&'static str, Form), String> {
 fn print_text(name: &str, size: usize) -> Result<(), String> {
     let (name, form) = named(name)?;
     let corpus = corpus::make(name, form, size);
-    let written = std::io::stdout().write_all(&corpus.bytes);
+    let written = std::io::stdout().write_all(corpus.text.as_bytes());
     written.map_err(|error| error.to_string())
 }
 
@@ -109,7 +109,7 @@ fn run_once(work: &Work, corpus: &Corpus, is_timed: bool) {
     let sum = measured(work, corpus);
     let time = processor_time() - before;
     let spent = is_timed.then(|| format!(" {time}")).unwrap_or_default();
-    println!("{} {sum}{spent}", corpus.bytes.len());
+    println!("{} {sum}{spent}", corpus.text.len());
 }
 
 /// Runs a work for sources on each file of the folders, and prints the number of bytes and the sum.
@@ -122,9 +122,9 @@ fn run_tree(name: &str, folders: &[&str]) -> Result<(), String> {
         let corpus = Corpus {
             name: "a file",
             ends: vec![text.len()],
-            bytes: text.into_bytes(),
+            text,
         };
-        bytes += corpus.bytes.len();
+        bytes += corpus.text.len();
         sum = sum.wrapping_add(measured(work, &corpus));
     });
     read.map_err(|error| error.to_string())?;

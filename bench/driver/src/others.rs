@@ -1,59 +1,46 @@
 //! The works of other libraries.
 
 use crate::corpus::Corpus;
-use crate::weight::{digit_count, weight, Kind};
+use crate::weight::{weight, Kind};
 use proc_macro2::TokenStream;
+use std::borrow::Cow;
+use std::hint::black_box;
 
-/// Returns the number of bytes of a float's text without its underscores and pluses.
-fn float_digit_count(numeral: &str) -> usize {
-    let bytes = numeral.bytes();
-    bytes.filter(|byte| !matches!(byte, b'_' | b'+')).count()
-}
-
-/// The part of the weight that comes from the value of an integer or a float.
-#[derive(Clone, Copy)]
-enum Numbers {
-    /// The number of digits in base ten.
-    Digits,
-    /// For an integer its value, and for a float the length of its text.
-    AsTheyStand,
+/// Returns the bits of the float that a text represents, which may have underscores.
+fn bits(number: &str, is_f32: bool) -> u64 {
+    let plain: Cow<str> = match number.contains('_') {
+        true => number.replace('_', "").into(),
+        false => number.into(),
+    };
+    match is_f32 {
+        true => plain.parse::<f32>().map_or(0, |it| it.to_bits().into()),
+        false => plain.parse::<f64>().map_or(0, f64::to_bits),
+    }
 }
 
 /// Returns the weight of a text by litrs, or 0 if litrs rejects it.
-fn litrs_weight(text: &str, numbers: Numbers) -> u64 {
-    use litrs::Literal;
+fn litrs_weight(text: &str) -> u64 {
+    use litrs::{FloatType, Literal};
     let Ok(literal) = Literal::parse(text) else {
         return 0;
     };
     match literal {
-        Literal::String(literal) => weight(Kind::Str, literal.value().len(), 0),
-        Literal::ByteString(literal) => weight(Kind::ByteStr, literal.value().len(), 0),
-        Literal::Byte(_) => weight(Kind::Byte, 1, 0),
-        Literal::Char(literal) => weight(Kind::Char, literal.value().len_utf8(), 0),
+        Literal::String(literal) => weight(Kind::Str, literal.value().len() as u64, 0),
+        Literal::ByteString(literal) => weight(Kind::ByteStr, literal.value().len() as u64, 0),
+        Literal::Byte(literal) => weight(Kind::Byte, literal.value().into(), 0),
+        Literal::Char(literal) => weight(Kind::Char, literal.value().into(), 0),
         Literal::Integer(literal) => {
-            let value = literal.value::<u128>().map_or(0, |value| match numbers {
-                Numbers::Digits => digit_count(value) as u64,
-                Numbers::AsTheyStand => value as u64,
-            });
+            let value = literal.value::<u128>().map_or(0, |value| value as u64);
             let suffix = literal.type_suffix().map_or(0, integer_suffix);
-            weight(Kind::Int, 0, suffix).wrapping_add(value)
+            weight(Kind::Int, value, suffix)
         }
         Literal::Float(literal) => {
-            let size = match numbers {
-                Numbers::Digits => float_digit_count(literal.number_part()),
-                Numbers::AsTheyStand => literal.number_part().len(),
-            };
-            weight(Kind::Float, size, literal.type_suffix().map_or(0, |_| 3))
+            let ty = literal.type_suffix();
+            let bits = bits(literal.number_part(), ty == Some(FloatType::F32));
+            weight(Kind::Float, bits, ty.map_or(0, |_| 3))
         }
         Literal::Bool(_) => weight(Kind::Bool, 0, 0),
     }
-}
-
-/// Returns the sum of the weights by litrs. Both sums use this one loop, so that the compiler can inline litrs' code into it, as it
-/// does in the loop of a caller with only one call of the parser.
-#[inline(never)]
-fn litrs_sum(corpus: &Corpus, numbers: Numbers) -> u64 {
-    corpus.sum(|text| litrs_weight(text, numbers))
 }
 
 /// Returns the length of a type's name.
@@ -67,14 +54,9 @@ fn integer_suffix(suffix: litrs::IntegerType) -> usize {
     }
 }
 
-/// Returns the sum by litrs of the values' weights, with the number of digits in base ten for numbers.
+/// Returns the sum of the weights of the literals' values by litrs.
 pub fn litrs_value(corpus: &Corpus) -> u64 {
-    litrs_sum(corpus, Numbers::Digits)
-}
-
-/// Returns the sum by litrs of the borrowed parts' weights: an integer's value, and the length of a float's text.
-pub fn litrs_borrowed(corpus: &Corpus) -> u64 {
-    litrs_sum(corpus, Numbers::AsTheyStand)
+    corpus.sum(litrs_weight)
 }
 
 /// Returns the number of token trees of proc-macro2's own lexer, or 0 for a text that it rejects.
@@ -92,9 +74,10 @@ pub fn rustc_lex(corpus: &Corpus) -> u64 {
     })
 }
 
-/// Returns the number of bytes of the texts. The texts are checked to be UTF-8, as in every other work.
+/// Returns the number of bytes of the texts, after a test that they are UTF-8.
 pub fn utf8(corpus: &Corpus) -> u64 {
-    corpus.sum(|text| text.len() as u64)
+    let is_utf8 = |text: &str| std::str::from_utf8(black_box(text.as_bytes())).is_ok();
+    corpus.sum(|text| u64::from(is_utf8(text)) * text.len() as u64)
 }
 
 #[cfg(feature = "oracle")]
@@ -107,13 +90,26 @@ pub mod syn {
 
     fn literal_weight(literal: &Lit) -> u64 {
         match literal {
-            Lit::Str(l) => weight(Kind::Str, l.value().len(), l.suffix().len()),
-            Lit::ByteStr(l) => weight(Kind::ByteStr, l.value().len(), l.suffix().len()),
-            Lit::CStr(l) => weight(Kind::CStr, l.value().as_bytes().len(), l.suffix().len()),
-            Lit::Byte(l) => weight(Kind::Byte, 1, l.suffix().len()),
-            Lit::Char(l) => weight(Kind::Char, l.value().len_utf8(), l.suffix().len()),
-            Lit::Int(l) => weight(Kind::Int, l.base10_digits().len(), l.suffix().len()),
-            Lit::Float(l) => weight(Kind::Float, l.base10_digits().len(), l.suffix().len()),
+            Lit::Str(l) => weight(Kind::Str, l.value().len() as u64, l.suffix().len()),
+            Lit::ByteStr(l) => weight(Kind::ByteStr, l.value().len() as u64, l.suffix().len()),
+            Lit::CStr(l) => weight(
+                Kind::CStr,
+                l.value().as_bytes().len() as u64,
+                l.suffix().len(),
+            ),
+            Lit::Byte(l) => weight(Kind::Byte, l.value().into(), l.suffix().len()),
+            Lit::Char(l) => weight(Kind::Char, l.value().into(), l.suffix().len()),
+            Lit::Int(l) => {
+                let value = l
+                    .base10_digits()
+                    .parse::<u128>()
+                    .map_or(0, |value| value as u64);
+                weight(Kind::Int, value, l.suffix().len())
+            }
+            Lit::Float(l) => {
+                let bits = bits(l.base10_digits(), l.suffix() == "f32");
+                weight(Kind::Float, bits, l.suffix().len())
+            }
             Lit::Bool(_) => weight(Kind::Bool, 0, 0),
             Lit::Verbatim(_) => 0,
         }

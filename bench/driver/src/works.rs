@@ -8,7 +8,6 @@ use crate::{others, package};
 #[allow(dead_code)]
 #[derive(Clone, Copy, PartialEq, Eq)]
 pub enum Sum {
-    Borrows,
     Values,
     Trees,
     Literals,
@@ -38,7 +37,6 @@ const fn work(name: &'static str, sum: Sum, run: fn(&Corpus) -> u64) -> Work {
 
 /// The works for texts that are one literal each.
 const OF_LITERALS: &[Work] = &[
-    work("litrs, borrowed", Sum::Borrows, others::litrs_borrowed),
     work("package", Sum::Values, package::value),
     work("litrs", Sum::Values, others::litrs_value),
     #[cfg(feature = "oracle")]

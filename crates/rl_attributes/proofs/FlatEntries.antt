@@ -11,8 +11,8 @@ use Rattle.rl_syntax.specs.Texts.{SpannedText}
 use Rattle.rl_lexer.specs.Skipping.{Skipped}
 use Rattle.rl_lexer.specs.Cuts.{LexesUpTo}
 use Rattle.rl_lexer.specs.Cursors.{CursorState}
-use Rattle.rl_settings.specs.declared.settings.NextSetting.{NextSetting}
-use Rattle.rl_settings.specs.SettingSteps.{TakesSetting}
+use Rattle.rl_cursors.specs.declared.settings.NextSetting.{NextSetting}
+use Rattle.rl_cursors.specs.SettingSteps.{TakesSetting}
 use Rattle.rl_tokens.specs.Trees.{Tree}
 use Rattle.rust_literals.specs.Flat.{LexesTreesUpTo}
 use Rattle.rl_syntax.specs.Reading.{IsReadAs}

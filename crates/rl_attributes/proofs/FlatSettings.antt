@@ -15,8 +15,8 @@ use Rattle.rl_lenient.specs.declared.found.Found.{Found}
 use Rattle.rl_cursors.specs.declared.next_literals.NextLiteral.{NextLiteral}
 use Rattle.rl_lenient.specs.Founds.{IsFound, suffix_in}
 use Rattle.rl_cursors.specs.NextLiterals.{IsLiteralToken, TakesNegative, TakesNextLiteral}
-use Rattle.rl_settings.specs.declared.settings.NextSetting.{NextSetting}
-use Rattle.rl_settings.specs.SettingSteps.{TakesName, TakesMark, TakesSetting}
+use Rattle.rl_cursors.specs.declared.settings.NextSetting.{NextSetting}
+use Rattle.rl_cursors.specs.SettingSteps.{TakesName, TakesMark, TakesSetting}
 use Rattle.rl_tokens.specs.Puncts.{Mark}
 use Rattle.rl_tokens.specs.Trees.{Tree, IdentTree, PunctTree, LiteralTree}
 use Rattle.rl_tokens.specs.Buffers.{IsAfterMark}

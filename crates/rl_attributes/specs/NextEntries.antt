@@ -4,7 +4,7 @@ use Prim.Native.Char.{code}
 use Rattle.rl_syntax.specs.Texts.{SpannedText}
 use Rattle.rl_lexer.specs.declared.cursor.Lexeme.{Lexeme}
 use Rattle.rl_cursors.specs.declared.next_literals.NextLiteral.{NextLiteral}
-use Rattle.rl_settings.specs.declared.settings.NextSetting.{NextSetting}
+use Rattle.rl_cursors.specs.declared.settings.NextSetting.{NextSetting}
 use Rattle.rust_literals.specs.Literals.{IsReadFrom}
 use Rattle.rl_attributes.specs.declared.attributes.Entry.{Entry}
 use Rattle.rl_attributes.specs.Attributes.{Attribute}

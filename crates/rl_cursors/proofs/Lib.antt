@@ -5,4 +5,14 @@ pub mod SegmentValues
 pub mod SegmentLemmas
 pub mod SegmentStarts
 pub mod SegmentLawLemmas
+pub mod LeftLemmas
+pub mod TakenLemmas
 pub mod Theorems
+pub mod LeadingLemmas
+pub mod OpenerLemmas
+pub mod ClosingLemmas
+pub mod LineEnds
+pub mod RecoverySteps
+pub mod GroupLemmas
+pub mod SettingLemmas
+pub mod EntryLemmas

@@ -2,6 +2,14 @@ pub mod Segments
 pub mod SegmentLaws
 pub mod Ranges
 pub mod NextLiterals
+pub mod Lists
 pub mod SourceLiterals
 pub mod Mirrors
 pub mod Laws
+pub mod Leading
+pub mod Recoveries
+pub mod SyntaxErrors
+pub mod WholeCuts
+pub mod Groups
+pub mod SettingSteps
+pub mod EntrySteps

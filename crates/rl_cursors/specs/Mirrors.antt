@@ -2,3 +2,4 @@
 -- postcondition of a public function cites them.
 
 pub mod SegmentAt
+pub mod Closing

@@ -11,7 +11,7 @@ use Rattle.rl_files.specs.Trees.{World, names_bytes}
 use Rattle.rl_files.specs.declared.walk.Selection.{Selection}
 use Rattle.rl_files.specs.declared.walk.WalkError.TheVariants.{TooManyDirectories}
 use Rattle.rl_files.specs.declared.tree.PathError.{PathError}
-use Rattle.rl_files.specs.declared.tree.PathError.TheVariants.{NotADirectory, OutOfMemory, PathNotUtf8}
+use Rattle.rl_files.specs.declared.tree.PathError.TheVariants.{NotADirectory, OutOfMemory}
 use Rattle.rl_files.specs.Walks.{Waypoint, AtDirectory, AtFile, AtBadPath, Visited, FileAt, ErrorAt, Visits, VisitsNothing, VisitsFile, VisitsBadPath, EntersDirectory, MissesDirectory, IsGivenFile, WalksOn, VisitsFirst, VisitsNone, EntersInOrder, EntersInTurn, EntersNone, EntersNext, EndsEarly, given_length, waypoints_in}
 
 -- If names are in order, the lists of their bytes are in order.
@@ -61,11 +61,11 @@ go_file selection (Some w) old mid rest path on is = λ visited m. on (FileAt pa
     (subst (λ (z : List Waypoint). Visits selection w z (FileAt path ∷ visited)) (sym is) (VisitsFile m))
 
 -- If the next entry of a walk is a path that isn't UTF-8, the walk reports the path.
-pub go_bad_path : (selection : Selection) (holds : Option World) (old mid rest : List Waypoint) (path : List ℕ) → WalksOn selection holds old mid → mid
-    ≡ AtBadPath path ∷ rest → VisitsFirst selection holds old (ErrorAt path PathNotUtf8) rest
-go_bad_path selection None old mid rest path on is = tt
-go_bad_path selection (Some w) old mid rest path on is = λ visited m. on (ErrorAt path PathNotUtf8 ∷ visited)
-    (subst (λ (z : List Waypoint). Visits selection w z (ErrorAt path PathNotUtf8 ∷ visited)) (sym is) (VisitsBadPath m))
+pub go_bad_path : (selection : Selection) (holds : Option World) (old mid rest : List Waypoint) (path : List ℕ) (why : PathError)
+    → WalksOn selection holds old mid → mid ≡ AtBadPath path why ∷ rest → VisitsFirst selection holds old (ErrorAt path why) rest
+go_bad_path selection None old mid rest path why on is = tt
+go_bad_path selection (Some w) old mid rest path why on is = λ visited m. on (ErrorAt path why ∷ visited)
+    (subst (λ (z : List Waypoint). Visits selection w z (ErrorAt path why ∷ visited)) (sym is) (VisitsBadPath m))
 
 -- If the next entry of a walk is a directory that can't be read, the walk reports the directory.
 pub go_missing : (selection : Selection) (holds : Option World) (old mid rest : List Waypoint) (given : Option ℕ) (path : List ℕ) (why : PathError)
@@ -99,8 +99,8 @@ go_enter selection (Some w) old mid rest new given path names on is found (sorte
 pub some_visits : (selection : Selection) (w : World) (waypoints : List Waypoint) → (visits : List Visited) × Visits selection w waypoints visits
 some_visits selection w [] = ([], VisitsNothing)
 some_visits selection w (AtFile path ∷ rest) = let more = some_visits selection w rest in (FileAt path ∷ more.0, VisitsFile more.1)
-some_visits selection w (AtBadPath path ∷ rest) = let more = some_visits selection w rest in
-    (ErrorAt path PathNotUtf8 ∷ more.0, VisitsBadPath more.1)
+some_visits selection w (AtBadPath path why ∷ rest) = let more = some_visits selection w rest in
+    (ErrorAt path why ∷ more.0, VisitsBadPath more.1)
 some_visits selection w (AtDirectory given path ∷ rest) = let more = some_visits selection w rest in
     (ErrorAt path OutOfMemory ∷ more.0, MissesDirectory OutOfMemory (inl refl) more.1)
 

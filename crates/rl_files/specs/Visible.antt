@@ -21,6 +21,10 @@ visible_in_line c = cond (c == code "\n") (c ∷ []) (visible_char c)
 abbrev pub visible_lines : List ℕ → List ℕ
 visible_lines lines = flat_map visible_in_line lines
 
+-- Whether a byte is printable ASCII.
+abbrev pub is_printable_byte : ℕ → Bool
+is_printable_byte b = nat_le (code " ") b && nat_lt b 127
+
 -- A byte that needs no escape in a line: printable ASCII or LF.
 abbrev pub is_plain_byte : ℕ → Bool
-is_plain_byte b = (b == code "\n") || (nat_le (code " ") b && nat_lt b 127)
+is_plain_byte b = (b == code "\n") || is_printable_byte b

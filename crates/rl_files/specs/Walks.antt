@@ -10,7 +10,7 @@ use Rattle.std.specs.Cmp.Lexicographic.{slice_cmp}
 use Rattle.std.specs.Ordering.{nat_cmp}
 use Rattle.std.specs.declared.result.Result.TheVariants.{Ok, Err}
 use Rattle.rl_files.specs.declared.tree.PathError.{PathError}
-use Rattle.rl_files.specs.declared.tree.PathError.TheVariants.{NotFound, PermissionDenied, IsADirectory, NotADirectory, PathTooLong, PathNotUtf8, NotUtf8, TooLong, OutOfMemory, NotAFile, Changed, NoRoom, ReadOnly, DirectoryDenied, OwnerChanges, ReadFailed, WriteFailed}
+use Rattle.rl_files.specs.declared.tree.PathError.TheVariants.{NotFound, PermissionDenied, IsADirectory, NotADirectory, PathTooLong, PathNotUtf8, GivenNotUtf8, NotUtf8, TooLong, OutOfMemory, NotAFile, Changed, NoRoom, ReadOnly, DirectoryDenied, OwnerChanges, HardLinks, RightsChange, NamesTaken, ReadFailed, WriteFailed}
 use Rattle.rl_files.specs.declared.walk.WalkError.{WalkError}
 use Rattle.rl_files.specs.declared.walk.WalkError.TheVariants as walk
 use Rattle.rl_files.specs.declared.walk.WalkEntry.{WalkEntry}
@@ -30,6 +30,7 @@ path_error_message IsADirectory = codes "is a directory"
 path_error_message NotADirectory = codes "not a directory"
 path_error_message PathTooLong = codes "path too long"
 path_error_message PathNotUtf8 = codes "skipped a path that is not UTF-8"
+path_error_message GivenNotUtf8 = codes "the path is not UTF-8"
 path_error_message (NotUtf8 at) = codes "not UTF-8 at byte " ++ decimal at
 path_error_message TooLong = codes "longer than 1 GiB"
 path_error_message OutOfMemory = codes "out of memory"
@@ -39,6 +40,9 @@ path_error_message NoRoom = codes "no space left"
 path_error_message ReadOnly = codes "read-only file system"
 path_error_message DirectoryDenied = codes "no permission to write in its directory"
 path_error_message OwnerChanges = codes "its owner or group would change"
+path_error_message HardLinks = codes "has other hard links"
+path_error_message RightsChange = codes "its permissions or access control list could change"
+path_error_message NamesTaken = codes "its temporary names `.rl_scan-0` to `.rl_scan-99` are in use"
 path_error_message ReadFailed = codes "read failed"
 path_error_message WriteFailed = codes "write failed"
 
@@ -97,12 +101,12 @@ path_in directory name = cond (is_directory directory) directory (directory ++ c
 
 -- An entry that a walk still has to visit. `AtDirectory` is the path of a directory below one that the user passed,
 -- with the length of the passed directory in the path. Without that length, the user passed the path itself, which may
--- also be a file. `AtFile` is a file. `AtBadPath` is a path that isn't UTF-8, which the user passed or which is in a
--- directory. Its bytes are escaped.
+-- also be a file. `AtFile` is a file. `AtBadPath` is a path that isn't UTF-8, with its bytes escaped, and the error to
+-- report: `GivenNotUtf8` if the user passed the path or a file lists it, `PathNotUtf8` if it is in a directory.
 pub data Waypoint : Type 0 where
   AtDirectory : (from : Option ℕ) → (path : List ℕ) → Waypoint
   AtFile : (path : List ℕ) → Waypoint
-  AtBadPath : (path : List ℕ) → Waypoint
+  AtBadPath : (path : List ℕ) → (why : PathError) → Waypoint
 
 -- A result of a walk: a file to read, or a path that can't be read.
 pub data Visited : Type 0 where
@@ -112,7 +116,7 @@ pub data Visited : Type 0 where
 abbrev pub waypoint : {A : Type 0} → WalkEntry A → Waypoint
 waypoint (Directory from path) = AtDirectory from (string_bytes path)
 waypoint (File path) = AtFile (string_bytes path)
-waypoint (BadPath path) = AtBadPath (string_bytes path)
+waypoint (BadPath path why) = AtBadPath (string_bytes path) why
 
 abbrev pub visited : {A : Type 0} → Visit A → Visited
 visited (visit.File path) = FileAt (string_bytes path)
@@ -120,7 +124,7 @@ visited (visit.Failed path why) = ErrorAt (string_bytes path) why
 
 -- The entry to visit for a path that the user passed.
 abbrev pub given_waypoint : List ℕ → Waypoint
-given_waypoint path = cond (is_marked path) (AtBadPath (unmarked path)) (AtDirectory None path)
+given_waypoint path = cond (is_marked path) (AtBadPath (unmarked path) GivenNotUtf8) (AtDirectory None path)
 
 -- The entries to visit for the paths that the user passed.
 abbrev pub given_waypoints : List (List ℕ) → List Waypoint
@@ -136,7 +140,7 @@ given_length (Some from) path = from
 abbrev pub waypoint_at : ℕ → List ℕ → Waypoint
 waypoint_at from path = cond (is_utf8 path)
     (cond (is_directory path) (AtDirectory (Some from) path) (AtFile path))
-    (AtBadPath (bytes_shown path))
+    (AtBadPath (bytes_shown path) PathNotUtf8)
 
 -- Whether an excluding pattern matches the path of a name in a directory. The first `from` bytes of the path aren't
 -- compared.
@@ -165,8 +169,8 @@ pub data Visits (selection : Selection) (w : World) : List Waypoint → List Vis
   VisitsNothing : Visits selection w [] []
   VisitsFile : {path : List ℕ} {rest : List Waypoint} {visits : List Visited} → Visits selection w rest visits
       → Visits selection w (AtFile path ∷ rest) (FileAt path ∷ visits)
-  VisitsBadPath : {path : List ℕ} {rest : List Waypoint} {visits : List Visited} → Visits selection w rest visits
-      → Visits selection w (AtBadPath path ∷ rest) (ErrorAt path PathNotUtf8 ∷ visits)
+  VisitsBadPath : {path : List ℕ} {why : PathError} {rest : List Waypoint} {visits : List Visited}
+      → Visits selection w rest visits → Visits selection w (AtBadPath path why ∷ rest) (ErrorAt path why ∷ visits)
   EntersDirectory : {from : Option ℕ} {path : List ℕ} {rest : List Waypoint} {visits : List Visited}
       (names sorted : List (List ℕ))
       → w.names path ≡ Ok names → IsOrderOf names sorted

@@ -1,7 +1,8 @@
 //! Files of the operating system.
 
-ghost use Rattle.std.specs.Prelude.{◌≡◌, ◌≢◌, ◌<◌, ◌≤◌, length, string_bytes, IfOk, IfErr, IfSome};
-ghost use Rattle.rl_files.specs.SystemErrors.{read_error};
+ghost use Rattle.std.specs.Prelude.{◌≡◌, ◌+◌, ◌++◌, ◌≤◌, ℕ, Bool, List, length, string_bytes, IfOk, IfErr, IfSome, MatchOption};
+ghost use Rattle.std.specs.Str.{IsValidUpTo};
+ghost use Rattle.rl_files.specs.SystemErrors.{read_error, IsTrueOf};
 ghost use Rattle.rl_files.specs.Entries.{is_dots as dots, with_slash as slash_after};
 
 use crate::replace::Replace;
@@ -9,13 +10,22 @@ use crate::tree::{PathError, Tree};
 use crate::walk::path_in;
 use crate::whole_file::replace_file;
 use std::alloc::{AllocError, Allocator};
-use std::fs::File;
+use std::fs::{File, OpenFile};
 use std::io::{BufRead, BufReader, ErrorKind, Read};
 use std::rt::Files;
 use std::{fs, io};
 
 /// The maximum length of a file or of standard input: 1 GiB.
 pub const LONGEST: u64 = 1 << 30;
+
+/// The number of bytes that one call of a reader requests.
+const PIECE: usize = 8192;
+
+/// The maximum number of calls of a reader.
+const TURNS: u32 = u32::MAX;
+
+/// The number of bytes of a text that are tested for UTF-8 first.
+const FIRST_TEST: usize = 64 * 1024;
 
 /// The files of the operating system, and standard input at the path `-`. Nothing is proved about their contents.
 #[derive(Clone, Copy)]
@@ -27,7 +37,7 @@ pub struct Host<'r, R> {
 /// Returns the reason why a file or a directory can't be read, for the kind of the standard library's error.
 pub(crate) fn error_of(kind: ErrorKind) -> PathError
     ensures table { result ≡ read_error kind }
-    ensures read { result ≢ PathError.TooLong }
+    ensures read { (is_text : Bool) (all : List ℕ) → IsTrueOf is_text result all }
 {
     match kind {
         ErrorKind::NotFound => PathError::NotFound,
@@ -40,32 +50,111 @@ pub(crate) fn error_of(kind: ErrorKind) -> PathError
     }
 }
 
-/// Returns all bytes of a reader, or the error `TooLong` if it has more than `LONGEST` bytes. At most one byte above `LONGEST` is
-/// read.
-pub(crate) fn read_all<A: Allocator, R: Read + Drop>(
-    alloc: A,
-    reader: R,
-) -> Result<Vec<u8, A>, PathError>
-    ensures bytes { IfOk result (λ bytes. IfSome (R.remaining reader) (λ all. bytes.items ≡ all)) }
-    ensures limit { IfOk result (λ bytes. length bytes.items ≤ LONGEST) }
-    ensures too_long { IfErr result (λ error. error ≡ PathError.TooLong
-        → IfSome (R.remaining reader) (λ all. LONGEST < length all)) }
+/// Returns the offset of the first byte that isn't UTF-8, if at least four bytes begin there. A character has at most four bytes,
+/// so that more bytes don't make them UTF-8.
+fn invalid_at(bytes: &[u8]) -> Option<usize>
+    ensures { IfSome result (λ at. IsValidUpTo bytes.now at × (at + 4 ≤ length bytes.now)) }
 {
-    let mut bytes = Vec::new(alloc);
-    let mut front = reader.take(LONGEST + 1);
-    match front.read_to_end(&mut bytes) {
-        Ok(count) if count as u64 > LONGEST => Err(PathError::TooLong),
-        Ok(_) => Ok(bytes),
-        Err(e) => Err(error_of(e.kind())),
+    match std::str::from_utf8(bytes) {
+        Err(error) if bytes.len() - error.valid_up_to() >= 4 => Some(error.valid_up_to()),
+        _ => None,
     }
 }
 
-/// Whether the file at `path` has more than `LONGEST` bytes by its metadata. Such a file isn't read.
-fn is_too_long<R: Files>(rt: &R, path: &str) -> bool {
-    match fs::metadata(rt, path) {
-        Ok(about) => about.len() > LONGEST,
-        Err(_) => false,
+/// Returns the reason not to read on after the bytes `bytes`, if there is one. If they must be a text, and there are `due` bytes, they
+/// are tested for UTF-8.
+fn why_stopped(bytes: &[u8], is_text: bool, due: usize) -> Option<PathError>
+    ensures { MatchOption result (length bytes.now ≤ LONGEST)
+        (λ why. (more : List ℕ) → IsTrueOf is_text why (bytes.now ++ more)) }
+{
+    if bytes.len() as u64 > LONGEST {
+        return Some(PathError::TooLong);
     }
+    if !is_text || bytes.len() < due {
+        return None;
+    }
+    match invalid_at(bytes) {
+        Some(at) => Some(PathError::NotUtf8(at)),
+        None => None,
+    }
+}
+
+/// Returns the number of bytes at which a text is tested next. It has `len` bytes, and was tested at `due` bytes if it has that many.
+fn next_test(due: usize, len: usize) -> usize {
+    if len < due {
+        return due;
+    }
+    len.saturating_add(len)
+}
+
+/// Returns all bytes of a reader.
+///
+/// If they must be a text, they are tested for UTF-8 each time that their number has doubled. So little more is read of a binary file
+/// than the text at its start.
+///
+/// # Errors
+///
+/// Returns `TooLong` if there are more than `LONGEST` bytes, `NotUtf8` if they must be a text and are found not to be one, and else
+/// the reason why reading failed.
+pub(crate) fn read_all<A: Allocator, R: Read + Drop>(
+    alloc: A,
+    mut reader: R,
+    is_text: bool,
+) -> Result<Vec<u8, A>, PathError>
+    ensures bytes { IfOk result (λ bytes. IfSome (R.remaining reader) (λ all. bytes.items ≡ all)) }
+    ensures limit { IfOk result (λ bytes. length bytes.items ≤ LONGEST) }
+    ensures error { IfErr result (λ error. IfSome (R.remaining reader) (IsTrueOf is_text error)) }
+{
+    let mut bytes = Vec::new(alloc);
+    let mut piece = [0_u8; PIECE];
+    let mut due = FIRST_TEST;
+    for _ in 0..TURNS {
+        match reader.read(&mut piece) {
+            Ok(0) => return Ok(bytes),
+            Ok(count) => {
+                if bytes.extend_from_slice(&piece[..count]).is_err() {
+                    return Err(PathError::OutOfMemory);
+                }
+                if let Some(why) = why_stopped(bytes.as_slice(), is_text, due) {
+                    return Err(why);
+                }
+                due = next_test(due, bytes.len());
+            }
+            Err(e) if e.kind() == ErrorKind::Interrupted => {}
+            Err(e) => return Err(error_of(e.kind())),
+        }
+    }
+    Err(PathError::ReadFailed)
+}
+
+/// Returns all bytes of the file at `path`, as `read_all` does. A file that is too long by its metadata isn't read.
+pub(crate) fn read_file<A: Allocator, R: Files>(
+    rt: &R,
+    alloc: A,
+    path: &str,
+    is_text: bool,
+) -> Result<Vec<u8, A>, PathError> {
+    let file = match File::open(rt, path) {
+        Ok(file) => file,
+        Err(e) => return Err(error_of(e.kind())),
+    };
+    match file.metadata() {
+        Ok(about) if about.len() > LONGEST => Err(PathError::TooLong),
+        _ => read_all(alloc, file, is_text),
+    }
+}
+
+/// Returns all bytes of standard input, if the path is `-`, or of the file at the path.
+fn read_path<A: Allocator, R: Files + Input>(
+    rt: &R,
+    alloc: A,
+    path: &str,
+    is_text: bool,
+) -> Result<Vec<u8, A>, PathError> {
+    if path == "-" {
+        return read_all(alloc, rt.reader(), is_text);
+    }
+    read_file(rt, alloc, path, is_text)
 }
 
 /// Returns the path of a directory with a slash at its end, so that the system follows a link to a directory. An empty path stays
@@ -148,16 +237,11 @@ impl<R: Files + Input> Tree for Host<'_, R> {
     ghost holds = { λ _. None };
 
     fn bytes<A: Allocator>(&self, alloc: A, path: &str) -> Result<Vec<u8, A>, PathError> {
-        if path == "-" {
-            return read_all(alloc, self.rt.reader());
-        }
-        if is_too_long(self.rt, path) {
-            return Err(PathError::TooLong);
-        }
-        match File::open(self.rt, path) {
-            Ok(file) => read_all(alloc, file),
-            Err(e) => Err(error_of(e.kind())),
-        }
+        read_path(self.rt, alloc, path, true)
+    }
+
+    fn any_bytes<A: Allocator>(&self, alloc: A, path: &str) -> Result<Vec<u8, A>, PathError> {
+        read_path(self.rt, alloc, path, false)
     }
 
     fn names<A: Allocator + Copy>(

@@ -116,7 +116,7 @@ fn push_listed<A: Allocator + Copy, T: Tree>(
         AreWithListed w file.now (string_texts paths.old.items) (string_texts paths.new.items))) }
     ensures error { IfErr result (λ why. IfSome (T.holds tree.now) (λ w. IsUnreadList w file.now why)) }
 {
-    let bytes = match tree.bytes(alloc, file) {
+    let bytes = match tree.any_bytes(alloc, file) {
         Ok(bytes) => bytes,
         Err(why) => return Err(why),
     };

@@ -4,7 +4,7 @@ ghost use Rattle.std.specs.Prelude.{◌≡◌, ◌++◌, ◌∷◌, ◌==◌, []
 ghost use Rattle.std.specs.List.{flat_map, list_all};
 ghost use Rattle.std.specs.Str.{chars, IsCharBoundary};
 ghost use Rattle.std.specs.Char.Escape.{escape_default};
-ghost use Rattle.rl_files.specs.Visible.{visible_char, visible, visible_in_line, visible_lines, is_plain_byte};
+ghost use Rattle.rl_files.specs.Visible.{visible_char, visible, visible_in_line, visible_lines, is_printable_byte, is_plain_byte};
 
 use rl_writing::is_control_invisible_or_bidi;
 use std::alloc::{AllocError, Allocator};
@@ -32,6 +32,20 @@ fn push_visible_char<A: Allocator>(out: &mut String<A>, c: char) -> Result<(), A
     Ok(())
 }
 
+/// Whether a byte is printable ASCII.
+fn is_printable(byte: u8) -> bool
+    ensures { result ≡ is_printable_byte byte }
+{
+    byte >= b' ' && byte < 127
+}
+
+/// Whether all bytes are printable ASCII.
+fn are_printable(bytes: &[u8]) -> bool
+    ensures { result ≡ list_all is_printable_byte bytes.now }
+{
+    bytes.iter().all(|byte| is_printable(*byte))
+}
+
 /// Appends a text with escapes, as `\n` and `\u{202e}`, for control, invisible and bidirectional characters. Other characters are
 /// unchanged.
 ///
@@ -42,6 +56,10 @@ pub fn push_visible<A: Allocator>(out: &mut String<A>, text: &str) -> Result<(),
     ensures { OnOk result (chars (string_bytes out.new)
         ≡ chars (string_bytes out.old) ++ visible (chars text.now)) }
 {
+    if are_printable(text.as_bytes()) {
+        out.push_str(text)?;
+        return Ok(());
+    }
     for c in text.chars() {
         push_visible_char(out, c)?;
     }
@@ -75,7 +93,7 @@ fn push_visible_lines<A: Allocator>(out: &mut String<A>, lines: &str) -> Result<
 fn is_plain(byte: u8) -> bool
     ensures { result ≡ is_plain_byte byte }
 {
-    byte == b'\n' || byte >= b' ' && byte < 127
+    byte == b'\n' || is_printable(byte)
 }
 
 /// Whether no byte needs an escape in a line: all are printable ASCII or LF.

@@ -37,8 +37,9 @@ pub enum WalkEntry<A: Allocator = Global> {
     Directory(Option<usize>, String<A>),
     /// A file in a directory.
     File(String<A>),
-    /// A path that isn't UTF-8, which the user passed or which is in a directory. Its bytes are escaped.
-    BadPath(String<A>),
+    /// A path that isn't UTF-8, with its bytes escaped, and the error to report: `GivenNotUtf8` if the user passed the path or a
+    /// file lists it, `PathNotUtf8` if it is in a directory.
+    BadPath(String<A>, PathError),
 }
 
 /// The next result of a walk.
@@ -244,7 +245,9 @@ fn pending_of<A: Allocator>(alloc: A, from: usize, path: &[u8]) -> Result<WalkEn
 {
     let text = match std::str::from_utf8(path) {
         Ok(text) => String::from_str(alloc, text)?,
-        Err(_) => return Ok(WalkEntry::BadPath(escaped(alloc, path)?)),
+        Err(_) => {
+            return Ok(WalkEntry::BadPath(escaped(alloc, path)?, PathError::PathNotUtf8));
+        }
     };
     if is_directory(path) {
         return Ok(WalkEntry::Directory(Some(from), text));
@@ -257,7 +260,8 @@ fn entry_given<A: Allocator>(alloc: A, path: String<A>) -> Result<WalkEntry<A>, 
     ensures { IfOk result (λ entry. waypoint entry ≡ given_waypoint (string_bytes path)) }
 {
     if let Some(shown) = escaped_non_utf8_path(path.as_str()) {
-        return Ok(WalkEntry::BadPath(String::from_str(alloc, shown)?));
+        let path = String::from_str(alloc, shown)?;
+        return Ok(WalkEntry::BadPath(path, PathError::GivenNotUtf8));
     }
     Ok(WalkEntry::Directory(None, path))
 }
@@ -414,9 +418,7 @@ impl<A: Allocator> Walk<A> {
             };
             match pending {
                 WalkEntry::File(path) => return Ok(Some(Visit::File(path))),
-                WalkEntry::BadPath(path) => {
-                    return Ok(Some(Visit::Failed(path, PathError::PathNotUtf8)));
-                }
+                WalkEntry::BadPath(path, why) => return Ok(Some(Visit::Failed(path, why))),
                 WalkEntry::Directory(from, path) => match tree.names(alloc, path.as_str()) {
                     Ok(mut names) => {
                         let base = argument_len(from, path.as_str());

@@ -1,15 +1,15 @@
 //! Replaces a file of the operating system as a whole. After any error, and however the program ends, it has its
 //! old or its new bytes.
 
-ghost use Rattle.std.specs.Prelude.{◌≡◌, ◌≢◌, IfOk, MatchResult, bit_and, string_bytes};
-ghost use Rattle.std.specs.Fs.{permissions_mode, IsReadonly};
-ghost use Rattle.rl_files.specs.Replacements.{path_beside as beside};
+ghost use Rattle.std.specs.Prelude.{◌≡◌, ◌≢◌, None, Some, IfOk, MatchResult, bit_and, string_bytes};
+ghost use Rattle.std.specs.Fs.{permissions_mode};
+ghost use Rattle.rl_files.specs.Replacements.{path_beside as beside, is_group_right as group_right, may_have_list as list_possible, why_not_replaced};
 ghost use Rattle.rl_files.specs.SystemErrors.{write_error, create_error};
 
-use crate::host::{error_of, read_all};
+use crate::host::{error_of, read_file};
 use crate::tree::PathError;
 use std::alloc::{AllocError, Allocator};
-use std::fs::{File, Metadata, OpenFile, OpenOptions, Permissions};
+use std::fs::{Metadata, OpenFile, OpenOptions, Permissions};
 use std::io::{ErrorKind, Write};
 use std::os::unix::fs::{MetadataExt, OpenOptionsExt, PermissionsExt, chown};
 use std::rt::Files;
@@ -20,6 +20,9 @@ const TRIES: u32 = 100;
 
 /// The permission bits of a file that its replacement keeps: who may read, write and execute it.
 const KEPT: u32 = 0o777;
+
+/// The other permission bits of a file: set-user-ID, set-group-ID and sticky.
+const SPECIAL: u32 = 0o7000;
 
 /// The permission bits of a new file before it is filled: only its owner may read and write it.
 const OWNERS: u32 = 0o600;
@@ -94,7 +97,7 @@ fn open_beside<A: Allocator + Copy, R: Files>(
             Err(e) => return Err(create_error_of(e.kind())),
         }
     }
-    Err(PathError::WriteFailed)
+    Err(PathError::NamesTaken)
 }
 
 /// Writes all bytes of a new file, sets its permissions, and waits until it is stored.
@@ -183,11 +186,7 @@ fn check_unchanged<A: Allocator, R: Files>(
     path: &str,
     old: &[u8],
 ) -> Result<(), PathError> {
-    let bytes = match File::open(rt, path) {
-        Ok(file) => read_all(alloc, file)?,
-        Err(e) => return Err(error_of(e.kind())),
-    };
-    if bytes.as_slice() == old {
+    if read_file(rt, alloc, path, false)?.as_slice() == old {
         Ok(())
     } else {
         Err(PathError::Changed)
@@ -219,16 +218,72 @@ fn fill_and_rename<A: Allocator, R: Files>(
     }
 }
 
-/// Returns the permissions that the replacement of a file keeps, or an error if nobody may write the file.
-fn kept_permissions(permissions: Permissions) -> Result<Permissions, PathError>
-    ensures { MatchResult result
-        (λ kept. permissions_mode kept ≡ bit_and (permissions_mode permissions) 0o777)
-        (λ error. (error ≡ PathError.PermissionDenied) × IsReadonly permissions) }
+/// Whether a file's group has a right that others don't have. `group` and `others` are the bits of this right.
+fn is_group_right(mode: u32, group: u32, others: u32) -> bool
+    ensures { result ≡ group_right mode group others }
 {
-    if permissions.readonly() {
+    mode & group != 0 && mode & others == 0
+}
+
+/// Whether an access control list may have set the bits of a file's group: they give the group a right that others don't have, and
+/// `usual`, the bits of a new file, don't do so.
+///
+/// The standard library doesn't tell whether a file has an access control list. If it has one, the bits of the group are the list's
+/// mask: the largest rights that the list gives to anybody except the owner and others. Without the list, the group would get them.
+fn may_have_list(mode: u32, usual: u32) -> bool
+    ensures { result ≡ list_possible mode usual }
+{
+    is_group_right(mode, 0o040, 0o004) && !is_group_right(usual, 0o040, 0o004)
+        || is_group_right(mode, 0o020, 0o002) && !is_group_right(usual, 0o020, 0o002)
+        || is_group_right(mode, 0o010, 0o001) && !is_group_right(usual, 0o010, 0o001)
+}
+
+/// Returns the permissions that the replacement of a file gets, from the permissions and the number of hard links of the file, and
+/// the bits `usual` of a new file. Returns an error if nobody may write the file, or if its replacement could differ from it in more
+/// than its bytes.
+fn kept_permissions(
+    permissions: Permissions,
+    links: u64,
+    usual: u32,
+) -> Result<Permissions, PathError>
+    ensures { MatchResult result
+        (λ kept. (permissions_mode kept ≡ bit_and (permissions_mode permissions) 0o777)
+        × (why_not_replaced (permissions_mode permissions) links usual ≡ None))
+        (λ error. why_not_replaced (permissions_mode permissions) links usual ≡ Some error) }
+{
+    let mode = permissions.mode();
+    if mode & 0o222 == 0 {
         return Err(PathError::PermissionDenied);
     }
-    Ok(Permissions::from_mode(permissions.mode() & KEPT))
+    if links > 1 {
+        return Err(PathError::HardLinks);
+    }
+    if mode & SPECIAL != 0 || may_have_list(mode, usual) {
+        return Err(PathError::RightsChange);
+    }
+    Ok(Permissions::from_mode(mode & KEPT))
+}
+
+/// Returns the permission bits that the umask allows for a new file, from the text of `/proc/self/status`. The umask is on a line of
+/// the text: `Umask:`, a tab and digits to the base 8.
+fn usual_bits_in(status: &str) -> Option<u32> {
+    let (_, line) = status.split_once("\nUmask:\t")?;
+    let (digits, _) = line.split_once('\n')?;
+    match u32::from_str_radix(digits, 8) {
+        Ok(umask) => Some(!umask),
+        Err(_) => None,
+    }
+}
+
+/// Returns the permission bits that the umask allows for a new file, or no bits if the system doesn't tell the umask.
+fn usual_bits<A: Allocator, R: Files>(rt: &R, alloc: A) -> u32 {
+    let Ok(bytes) = read_file(rt, alloc, "/proc/self/status", true) else {
+        return 0;
+    };
+    match std::str::from_utf8(bytes.as_slice()) {
+        Ok(status) => usual_bits_in(status).unwrap_or(0),
+        Err(_) => 0,
+    }
 }
 
 /// Returns the metadata of a file that may be replaced, or an error for a directory, a device or a pipe.
@@ -262,14 +317,14 @@ fn keep_owner<R: Files>(rt: &R, path: &str, old: Owner) -> Result<(), PathError>
 /// Replaces the file at `path` with the bytes `new`. `old` are the bytes of the file when it was read.
 ///
 /// The bytes are written to a new file in the same directory, which is then renamed to `path`. If `path` is a symbolic link, its
-/// target is replaced, and the link stays. The permission bits in `KEPT`, the owner and the group stay. Other hard links of the file
-/// don't get the new bytes, and other metadata isn't kept.
+/// target is replaced, and the link stays. The permissions, the owner and the group stay. Other metadata isn't kept.
 ///
 /// # Errors
 ///
-/// Returns the reason why the file can't be replaced. It is `PermissionDenied` if the program may not write to the file, and
-/// `OwnerChanges` if the system doesn't allow that the new file gets the owner and the group of the old one. The file is unchanged
-/// then. The new file is removed, unless that fails too.
+/// Returns the reason why the file can't be replaced. It is `PermissionDenied` if the program may not write to the file. It is
+/// `OwnerChanges` if the system doesn't allow that the new file gets the owner and the group of the old one, `HardLinks` if the file
+/// has other hard links, and `RightsChange` if it has a permission bit of `SPECIAL` or may have an access control list. The file is
+/// unchanged then. The new file is removed, unless that fails too.
 pub(crate) fn replace_file<A: Allocator + Copy, R: Files + Alloc>(
     rt: &R,
     alloc: A,
@@ -279,11 +334,12 @@ pub(crate) fn replace_file<A: Allocator + Copy, R: Files + Alloc>(
 ) -> Result<(), PathError> {
     let real = match real_path(rt, alloc, path) {
         Ok(real) => real,
-        Err(e) if is_not_utf8(&e) => return Err(PathError::PathNotUtf8),
+        Err(e) if is_not_utf8(&e) => return Err(PathError::GivenNotUtf8),
         Err(e) => return Err(error_of(e.kind())),
     };
     let about = metadata_of(rt, real.as_str())?;
-    let permissions = kept_permissions(about.permissions())?;
+    let usual = usual_bits(rt, alloc);
+    let permissions = kept_permissions(about.permissions(), about.nlink(), usual)?;
     check_writable(rt, real.as_str())?;
     let (mut file, beside) = open_beside(rt, alloc, real.as_str())?;
     let done = match keep_owner(rt, beside.as_str(), owner_of(&about)) {

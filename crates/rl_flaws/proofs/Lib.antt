@@ -10,6 +10,7 @@ pub mod ClosedLemmas
 pub mod FlawLemmas
 pub mod FileCuts
 pub mod WholeLemmas
+pub mod FirstFlaws
 pub mod FlawLaws
 pub mod PieceLemmas
 pub mod TypeLemmas

@@ -2,14 +2,14 @@
 unfoldable pub use Rattle.rl_flaws.specs.BadPieces.{after_code_digits}
 pub use Rattle.rl_flaws.specs.BadPieces.{after_bad_piece, after_brace, after_escape, after_hex, after_one, after_unicode, is_flaw_after_quote, is_flaw_of_unit}
 pub use Rattle.rl_flaws.specs.Closings.{ClosesBy, IsClosedBy, ReachesQuote, begins_two_quotes}
-pub use Rattle.rl_flaws.specs.Flawed.{AreFlawsOf, EndsWhere, FirstFlawExplains, FlawsState, FollowsCharacterOf, FollowsPieceOf, HasNoFlaw, HasOneNextFlaw, IsLeftBy, IsNeverClosed, IsOpener, LeftReadsFrom, ReadsFrom, TakesFlaw, TokensHaveNone, is_open, judged, left_count, quote_of}
+pub use Rattle.rl_flaws.specs.Flawed.{AreFlawsOf, EndsWhere, FirstFlawExplains, FlawsState, FollowsCharacterOf, FollowsPieceOf, HasNoFlaw, HasOneNextFlaw, IsBadPiece, IsLeftBy, IsNeverClosed, IsOpener, LeftReadsFrom, ReadsFrom, TakesFlaw, TokensHaveNone, is_open, judged, left_count, quote_of}
 pub use Rattle.rl_flaws.specs.Inside.{EndsRaw, IsInsideUpTo, IsRawUpTo, IsUnitUpTo, MayBeRaw}
 pub use Rattle.rl_flaws.specs.Left.{FollowsCharacter, FollowsPiece, IsLeft, IsLeftAfter, IsSameLiteral, StaysOpen, state_of}
 pub use Rattle.rl_flaws.specs.Looks.{LooksLike, LooksLikeOne, OpensNumber, OpensSingle, OpensString, SpellsTruth, TokenLooks, number_kind}
 pub use Rattle.rl_flaws.specs.Opened.{HasForm, IsOpened, front_of, opened_front}
 pub use Rattle.rl_flaws.specs.PiecesLeft.{ArePiecesLeft, IsGoodLeft, IsOpenAs, segments_at}
 pub use Rattle.rl_flaws.specs.declared.flaws.Left.{Left}
-pub use Rattle.rl_flaws.specs.declared.flaws.Left.TheVariants.{Closed, Inside, Nothing, Whole}
+pub use Rattle.rl_flaws.specs.declared.flaws.Left.TheVariants.{Closed, Inside, Nothing}
 pub use Rattle.rl_flaws.specs.declared.invalid_piece.InvalidPiece.{InvalidPiece}
 pub use Rattle.rl_flaws.specs.declared.walks.Opened.{Opened}
 pub use Rattle.rl_lenient.proofs.Names.{AsciiEscape, BoolKind, Byte, ByteEscape, ByteStr, CStr, Char, Contents, Float, IfOk-weaker, Int, Itself, Kind, LineBreak, Plain, PlainEscape, QuoteEscape, QuotedUnit, Str, StrictUnit, UnicodeEscape, is_dropped_blank, is_single, is_strict_unit, is_string, opener, raw_opener, strict_text, truth_text, ◌↔◌}

@@ -1,5 +1,5 @@
 -- The valid content of a quoted literal, and its segments.
-use Rattle.rl_flaws.proofs.Names.{◌≡◌, ◌≤◌, ◌+◌, ◌-◌, ℕ, Bool, Bor, true, false, List, [], ◌∷◌, ◌++◌, map, length, length-append, refl, sym, ap, subst, ◌∙◌, inl, inr, arith, and_from, append_cancel_right, append-nil, encodes-chars, flat_map, IsUtf8, IsUtf8-nil, chars-nil, chars, byte_len, is_dropped_blank, Kind, Plain, QuotedUnit, StrictUnit, Itself, QuoteEscape, PlainEscape, AsciiEscape, ByteEscape, UnicodeEscape, LineBreak, strict_text, is_strict_unit, BlanksEnd, BreaksEnd, QuotedForm, CookedForm, RawForm, SingleForm, is_raw_form, IsInsideUpTo, IsLeft, IsSameLiteral, StaysOpen, IsOpened, opened_front, ArePiecesLeft, IsGoodLeft, IsOpenAs, Left, Whole, Inside, Closed, Nothing, Opened, passes_front}
+use Rattle.rl_flaws.proofs.Names.{◌≡◌, ◌≤◌, ◌+◌, ◌-◌, ℕ, Bool, Bor, true, false, List, [], ◌∷◌, ◌++◌, map, length, length-append, refl, sym, ap, subst, ◌∙◌, inl, inr, arith, and_from, append_cancel_right, append-nil, encodes-chars, flat_map, IsUtf8, IsUtf8-nil, chars-nil, chars, byte_len, is_dropped_blank, Kind, Plain, QuotedUnit, StrictUnit, Itself, QuoteEscape, PlainEscape, AsciiEscape, ByteEscape, UnicodeEscape, LineBreak, strict_text, is_strict_unit, BlanksEnd, BreaksEnd, QuotedForm, CookedForm, RawForm, SingleForm, is_raw_form, IsInsideUpTo, IsLeft, IsSameLiteral, StaysOpen, IsOpened, opened_front, ArePiecesLeft, IsGoodLeft, IsOpenAs, Left, Inside, Closed, Nothing, Opened, passes_front}
 use Rattle.rl_syntax.proofs.StrictQuoted.{stand_row}
 use Rattle.rl_cursors.specs.Segments.{AreUnitsIn, IsSegmentsState}
 
@@ -85,7 +85,6 @@ of_kind kind plain o (Inside p q) k f same =
     (ap (λ (z : Opened). z.kind) same ∙ k, ap (λ (z : Opened). is_raw_form z.form) same ∙ f)
 of_kind kind plain o (Closed q t) k f same = tt
 of_kind kind plain o Nothing k f same = tt
-of_kind kind plain o (Whole t) k f same = absurd same
 
 pub pieces_left : (kind : Kind) (plain : Bool) (len end : ℕ) (good : List ℕ) (left new : Left)
     → IsOpenAs kind plain left
@@ -95,11 +94,6 @@ pieces_left kind plain len end good (Inside o r) new same literal fine l = recor
       (subst (λ b. IsSegmentsState o.kind b end good) same.1 fine.1);
   is_left = l;
   same = of_kind kind plain o new same.0 same.1 literal;
-}
-pieces_left kind plain len end good (Whole t) new same literal fine l = record {
-  segments = nothing_good kind plain end good fine;
-  is_left = l;
-  same = subst (IsOpenAs kind plain) (sym literal) tt;
 }
 pieces_left kind plain len end good (Closed k t) new same literal fine l = record {
   segments = nothing_good kind plain end good fine;

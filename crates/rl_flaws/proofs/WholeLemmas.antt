@@ -1,98 +1,94 @@
--- The flaw of a text that doesn't begin as a quoted literal.
-use Rattle.rl_flaws.proofs.Names.{◌≡◌, ◌⊎◌, ℕ, Bor, false, true, List, [], ◌∷◌, ◌++◌, drop, length, refl, sym, ap, subst, inl, inr, ◌∙◌, arith, append_assoc, encodes-chars, IsUtf8, codes, list_all-append, and_from, chars, byte_len, byte_len-append, Kind, Str, opener, raw_opener, QuotedForm, CookedForm, RawForm, SingleForm, Flaw, StopsBefore, ExplainsInFile, lf_text, read_of, ExplainsOf, ExplainsStrictly, IsStrictFlawOf, IsToken, LineEnds, Text, File, free_in, free_of, self_in, lacks_cr, hashes_free, AreFlawsOf, IsOpener, ReadsFrom, TakesFlaw, state_of, OpensSingle, OpensString, HasForm, IsOpened, front_of, opened_front, Whole, Inside, Nothing, Opened}
+-- The first flaw of a text, and the cursor before it.
+use Rattle.rl_flaws.proofs.Names.{◌≡◌, ◌⊎◌, ℕ, Bor, None, false, true, List, [], ◌∷◌, ◌++◌, drop, length, refl, sym, ap, subst, inl, inr, ◌∙◌, arith, append_assoc, encodes-chars, IsUtf8, codes, list_all-append, and_from, chars, byte_len, byte_len-append, Kind, Str, opener, raw_opener, QuotedForm, CookedForm, RawForm, SingleForm, Flaw, read_of, ExplainsOf, ExplainsStrictly, IsFlawAt, IsStrictFlawOf, LineEnds, Text, File, free_in, free_of, self_in, lacks_cr, hashes_free, AreFlawsOf, FlawsState, IsOpener, ReadsFrom, TakesFlaw, state_of, OpensSingle, OpensString, HasForm, IsOpened, front_of, opened_front, Inside, Nothing, Opened}
 use Rattle.rl_flaws.proofs.FileCuts.{after_first_bytes, first_parts, rest_in_text, rest_of_place}
 
 -- ---- the flaw of a whole text
 
-text_takes : (t : List ℕ) (text : Bor (List ℕ)) (len : ℕ) (flaw : Flaw) → chars text.now ≡ t → byte_len t ≡ len
-    → ExplainsStrictly t flaw
-    → TakesFlaw (state_of Text len (Whole text)) (record { flaw = flaw; end = flaw.hi }) (state_of Text len Nothing)
-text_takes t text len flaw same long e =
+-- The flaw of a text with its byte offsets, as `read` returns it. The flaw's piece begins at `piece`, and the flaw at `stop`.
+pub record IsFlawIn (how : LineEnds) (len : ℕ) (text : List ℕ) (flaw : Flaw) : Type 0 where
+  pub piece : List ℕ
+  pub stop : List ℕ
+  pub found : IsFlawAt (read_of how text) flaw.kind piece stop
+  pub from : ReadsFrom how len text piece flaw.from
+  pub lo : ReadsFrom how len text stop flaw.lo
+  pub hi : ReadsFrom how len text (drop 1 stop) flaw.hi
+
+-- The byte offset `at` in the text corresponds to the byte offset `read` in the text as it is read.
+abbrev Moves : LineEnds → List ℕ → ℕ → ℕ → Type 0
+Moves how text read at =
+    (before rest : List ℕ) → read_of how text ≡ before ++ rest → read ≡ byte_len before
+    → ReadsFrom how (byte_len text) text rest at
+
+moved : (how : LineEnds) (t : List ℕ) (read flaw : Flaw) → ExplainsStrictly (read_of how t) read
+    → flaw.kind ≡ read.kind → Moves how t read.from flaw.from → Moves how t read.lo flaw.lo → Moves how t read.hi flaw.hi
+    → IsFlawIn how (byte_len t) t flaw
+moved how t read flaw e kind from lo hi =
     let stop = e.place.rest in
     let front = e.place.stops.front in
     let parts = first_parts stop in
-    let past : t ≡ (front ++ parts.0) ++ drop 1 stop = e.place.stops.text_is ∙ ap (λ z. front ++ z) parts.1
-    ∙ sym (append_assoc front parts.0 (drop 1 stop)) in
-    let In : List ℕ → ℕ → ℕ → Type 0 = λ read n at. ReadsFrom Text n (chars text.now) read at in
-    let there : (before read : List ℕ) (at : ℕ) → t ≡ before ++ read → at ≡ byte_len before → In read len at =
-    λ before read at cut is. subst (λ z. ReadsFrom Text len z read at) (sym same)
-    (subst (λ n. ReadsFrom Text n t read at) long (rest_in_text t before read at cut is)) in
+    record {
+      piece = e.piece;
+      stop = stop;
+      found = record {
+        none = e.no_token;
+        stops = e.place.stops;
+        says = subst (λ k. IsStrictFlawOf k (read_of how t) e.piece stop) (sym kind) e.kind;
+      };
+      from = from e.before e.piece e.text_is e.from_is;
+      lo = lo front stop e.place.stops.text_is e.place.lo_is;
+      hi = hi (front ++ parts.0) (drop 1 stop) (e.place.stops.text_is ∙ ap (λ z. front ++ z) parts.1
+          ∙ sym (append_assoc front parts.0 (drop 1 stop))) (omega (
+            arith,
+            e.place.hi_is,
+            e.place.lo_is,
+            byte_len-append front parts.0,
+            after_first_bytes stop,
+            ap byte_len parts.1,
+            byte_len-append parts.0 (drop 1 stop),
+          ));
+    }
+
+flaw_of : (how : LineEnds) (t : List ℕ) (flaw : Flaw) → ExplainsOf how false t flaw → IsFlawIn how (byte_len t) t flaw
+flaw_of Text t flaw e = moved Text t flaw flaw e refl (λ before rest. rest_in_text t before rest flaw.from)
+    (λ before rest. rest_in_text t before rest flaw.lo) (λ before rest. rest_in_text t before rest flaw.hi)
+flaw_of File t flaw x = moved File t x.read flaw x.explains x.kind
+    (λ before rest. rest_of_place t before rest x.read.from flaw.from x.from)
+    (λ before rest. rest_of_place t before rest x.read.lo flaw.lo x.lo)
+    (λ before rest. rest_of_place t before rest x.read.hi flaw.hi x.hi)
+
+pub flaw_in : (how : LineEnds) (text : List ℕ) (flaw : Flaw) → IsUtf8 text → ExplainsOf how false (chars text) flaw
+    → IsFlawIn how (length text) (chars text) flaw
+flaw_in how text flaw u e = subst (λ n. IsFlawIn how n (chars text) flaw) (ap length (encodes-chars text u))
+    (flaw_of how (chars text) flaw e)
+
+-- ---- a text that doesn't begin as a quoted literal
+
+-- The cursor before the first flaw of such a text.
+abbrev pub whole_of : LineEnds → List ℕ → FlawsState
+whole_of how text = record { ends = how; kind = None; front = []; rest = text; len = length text; over = false }
+
+pub whole_takes : (how : LineEnds) (text : List ℕ) (flaw : Flaw) → IsUtf8 text → ExplainsOf how false (chars text) flaw
+    → TakesFlaw (whole_of how text) (record { flaw = flaw; end = flaw.hi }) (state_of how (length text) Nothing)
+whole_takes how text flaw u e =
+    let x = flaw_in how text flaw u e in
     record {
       some_left = refl;
-      piece = e.piece;
-      is_bad = record {
-        stop = stop;
-        flaw = record {
-          none = λ y. e.no_token (subst IsToken same y);
-          stops = subst (λ z. StopsBefore IsToken z stop) (sym same) e.place.stops;
-          says = subst (λ z. IsStrictFlawOf flaw.kind z e.piece stop) (sym same) e.kind;
-        };
-        from = there e.before e.piece flaw.from e.text_is e.from_is;
-        lo = there front stop flaw.lo e.place.stops.text_is e.place.lo_is;
-        hi = there (front ++ parts.0) (drop 1 stop) flaw.hi past
-            (omega (
-              arith,
-              e.place.hi_is,
-              e.place.lo_is,
-              byte_len-append front parts.0,
-              after_first_bytes stop,
-              ap byte_len parts.1,
-              byte_len-append parts.0 (drop 1 stop),
-            ));
-        end = refl;
-      };
+      piece = x.piece;
+      is_bad = record { stop = x.stop; flaw = x.found; from = x.from; lo = x.lo; hi = x.hi; end = refl };
       left = refl;
       same = record { same_ends = refl; same_len = refl };
     }
 
-file_takes : (text : Bor (List ℕ)) (flaw : Flaw) → ExplainsInFile (chars text.now) flaw
-    → TakesFlaw (state_of File (byte_len (chars text.now)) (Whole text)) (record { flaw = flaw; end = flaw.hi })
-    (state_of File (byte_len (chars text.now)) Nothing)
-file_takes text flaw x =
-    let t : List ℕ = chars text.now in
-    let e = x.explains in
-    let stop = e.place.rest in
-    let front = e.place.stops.front in
-    let parts = first_parts stop in
-    let past : lf_text t ≡ (front ++ parts.0) ++ drop 1 stop = e.place.stops.text_is ∙ ap (λ z. front ++ z) parts.1
-    ∙ sym (append_assoc front parts.0 (drop 1 stop)) in
-    record {
-      some_left = refl;
-      piece = e.piece;
-      is_bad = record {
-        stop = stop;
-        flaw = record {
-          none = e.no_token;
-          stops = e.place.stops;
-          says = subst (λ k. IsStrictFlawOf k (lf_text t) e.piece stop) (sym x.kind) e.kind;
-        };
-        from = rest_of_place t e.before e.piece x.read.from flaw.from x.from e.text_is e.from_is;
-        lo = rest_of_place t front stop x.read.lo flaw.lo x.lo e.place.stops.text_is e.place.lo_is;
-        hi = rest_of_place t (front ++ parts.0) (drop 1 stop) x.read.hi flaw.hi x.hi past
-            (omega (
-              arith,
-              e.place.hi_is,
-              e.place.lo_is,
-              byte_len-append front parts.0,
-              after_first_bytes stop,
-              ap byte_len parts.1,
-              byte_len-append parts.0 (drop 1 stop),
-            ));
-        end = refl;
-      };
-      left = refl;
-      same = record { same_ends = refl; same_len = refl };
-    }
-
-pub whole_takes : (how : LineEnds) (text : Bor (List ℕ)) (flaw : Flaw) → IsUtf8 text.now
-    → ExplainsOf how false (chars text.now) flaw
-    → TakesFlaw (state_of how (length text.now) (Whole text)) (record { flaw = flaw; end = flaw.hi })
-    (state_of how (length text.now) Nothing)
-whole_takes Text text flaw u e = text_takes (chars text.now) text (length text.now) flaw refl
-    (ap length (encodes-chars text.now u)) e
-whole_takes File text flaw u e = subst (λ n. TakesFlaw (state_of File n (Whole text))
-    (record { flaw = flaw; end = flaw.hi }) (state_of File n Nothing)) (ap length (encodes-chars text.now u))
-    (file_takes text flaw e)
+pub whole_flaws : (how : LineEnds) (text : List ℕ) → ((k : Kind) → OpensString k (chars text) ⊎ OpensSingle k
+    (chars text) → ⊥) → AreFlawsOf how text (whole_of how text)
+whole_flaws how text none = record {
+  ends_is = refl;
+  opened = (refl, none);
+  rest_in = self_in how (chars text);
+  judged_is = refl;
+  len_is = refl;
+  all_left = refl;
+}
 
 -- ---- opening delimiters contain no CR
 
@@ -107,7 +103,7 @@ raw_free k = refl
 both_free : (a b : List ℕ) → lacks_cr a ≡ true → lacks_cr b ≡ true → lacks_cr (a ++ b) ≡ true
 both_free a b p q = list_all-append _ a b ∙ and_from (lacks_cr a) (lacks_cr b) p q
 
-front_free : (form : QuotedForm) (k : Kind) (h : List ℕ) → HasForm form k h → lacks_cr (front_of form k h) ≡ true
+pub front_free : (form : QuotedForm) (k : Kind) (h : List ℕ) → HasForm form k h → lacks_cr (front_of form k h) ≡ true
 front_free CookedForm k h has = opener_free k
 front_free SingleForm k h has = opener_free k
 front_free RawForm k h (s, (n, few, e)) = both_free (raw_opener k) (h ++ (34 ∷ [])) (raw_free k)
@@ -141,14 +137,3 @@ opened_flaws o text rest opens e how = record {
       s,
       inr (n, omega (arith, few), ap (λ z. raw_opener k ++ (z ++ codes "\"")) e),
     )
-
-pub whole_flaws : (text : Bor (List ℕ)) → ((k : Kind) → OpensString k (chars text.now) ⊎ OpensSingle k (chars text.now)
-    → ⊥) → (how : LineEnds) → AreFlawsOf how text.now (state_of how (length text.now) (Whole text))
-whole_flaws text none how = record {
-  ends_is = refl;
-  opened = (refl, none);
-  rest_in = self_in how (chars text.now);
-  judged_is = refl;
-  len_is = refl;
-  all_left = refl;
-}

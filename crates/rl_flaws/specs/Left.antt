@@ -14,11 +14,9 @@ use Rattle.rl_syntax.specs.Texts.{IsTail, byte_len, first_passes}
 use Rattle.rl_lexer.specs.Sources.{is_apostrophe}
 use Rattle.rl_flaws.specs.Closings.{IsClosedBy}
 use Rattle.rl_flaws.specs.declared.flaws.Left.{Left}
-use Rattle.rl_flaws.specs.declared.flaws.Left.TheVariants.{Whole, Inside, Closed, Nothing}
+use Rattle.rl_flaws.specs.declared.flaws.Left.TheVariants.{Inside, Closed, Nothing}
 
 abbrev pub state_of : LineEnds → ℕ → Left → FlawsState
-state_of ends len (Whole text) =
-    record { ends = ends; kind = None; front = []; rest = text.now; len = len; over = false }
 state_of ends len (Inside o rest) =
     record { ends = ends; kind = Some o.kind; front = opened_front o; rest = rest.now; len = len; over = false }
 state_of ends len (Closed kind rest) =
@@ -26,7 +24,6 @@ state_of ends len (Closed kind rest) =
 state_of ends len Nothing = record { ends = ends; kind = None; front = []; rest = []; len = len; over = true }
 
 abbrev pub IsLeft : ℕ → Left → Type 0
-IsLeft len (Whole text) = (length text.now ≡ len) × IsUtf8 text.now
 IsLeft len (Inside o rest) = IsOpened o × (byte_len (opened_front o) + length rest.now ≤ len) × IsUtf8 rest.now
 IsLeft len (Closed kind rest) =
     IsTrue (is_single kind) × IsTrue (first_passes is_apostrophe (chars rest.now)) × (length rest.now ≤ len) × IsUtf8 rest.now
@@ -62,7 +59,6 @@ abbrev pub StaysOpen : Opened → Left → Type 0
 StaysOpen o (Inside p rest) = p ≡ o
 StaysOpen o (Closed kind rest) = ⊤
 StaysOpen o Nothing = ⊤
-StaysOpen o (Whole text) = ⊥
 
 -- The cursor still reads the literal that it read before, or no text is left to check.
 abbrev pub IsSameLiteral : Left → Left → Type 0

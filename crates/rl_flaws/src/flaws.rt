@@ -1,23 +1,23 @@
 //! Iterates over all flaws in the text of a literal.
 
-ghost use Rattle.std.specs.Prelude.{◌≡◌, ◌&&◌, ◌<◌, [], not, length, IfSome};
+ghost use Rattle.std.specs.Prelude.{◌≡◌, ◌&&◌, ◌<◌, [], false, not, IfSome};
 ghost use Rattle.std.specs.Str.{chars};
 ghost use Rattle.rl_syntax.specs.Quoted.{is_single, is_string};
-ghost use Rattle.rl_strict.specs.declared.line_ends.LineEnds.{LineEnds as AnyEnds};
+ghost use Rattle.rl_strict.specs.Readings.{ExplainsOf};
 ghost use Rattle.rl_strict.specs.declared.line_ends.LineEnds.TheVariants.{Text};
 ghost use Rattle.rl_flaws.specs.BadPieces.{is_flaw_after_quote, is_flaw_of_unit};
-ghost use Rattle.rl_flaws.specs.declared.flaws.Left.TheVariants.{Whole, Inside, Closed, Nothing};
-ghost use Rattle.rl_flaws.specs.Flawed.{AreFlawsOf, GivesFlaw, left_count};
+ghost use Rattle.rl_flaws.specs.declared.flaws.Left.TheVariants.{Inside, Closed, Nothing};
+ghost use Rattle.rl_flaws.specs.Flawed.{AreFlawsOf, FlawsState, GivesFlaw, TakesFlaw, left_count};
 ghost use Rattle.rl_flaws.specs.Left.{IsLeft, IsLeftAfter, IsSameLiteral, StaysOpen, state_of};
 ghost use Rattle.rl_flaws.specs.PiecesLeft.{IsGoodLeft};
 
 use crate::closings::closing_quote;
-use crate::invalid_piece::{InvalidPiece, invalid_piece_with_offsets};
+use crate::invalid_piece::{InvalidPiece, end_of, invalid_piece_with_offsets};
 use crate::piece_ends::{after_bad_piece, is_flaw_after_quote, is_flaw_of_unit};
 use crate::walks::{Opened, parse_quoted_content, split_opening_delimiter};
 use rl_lenient::quoted_forms::QuotedForm;
 use rl_strict::read_quoted::suffix_flaw;
-use rl_strict::{FlawKind, LineEnds, read};
+use rl_strict::{Flaw, FlawKind, LineEnds};
 use rl_syntax::Kind;
 use rl_syntax::text::{before, without_first_char};
 use std::marker::Model;
@@ -25,25 +25,12 @@ use std::marker::Model;
 /// The part of a text that is still to be checked for flaws.
 #[derive(Clone, Copy)]
 pub enum Left<'t> {
-    /// All of a text that doesn't begin as a quoted literal.
-    Whole(&'t str),
     /// The text after a quoted literal's opening delimiter, or after an invalid character or escape inside the literal.
     Inside(Opened<'t>, &'t str),
     /// The text that begins at the closing quote of a character or byte literal, after a flaw before that quote.
     Closed(Kind, &'t str),
     /// Nothing: all of the text is checked.
     Nothing,
-}
-
-/// Returns the part of `text` to check first: the text after an opening delimiter, or all of the text.
-fn whole(text: &str) -> Left<'_>
-    ensures left { IsLeft (length text.now) result }
-    ensures flaws { (ends : AnyEnds) → AreFlawsOf ends text.now (state_of ends (length text.now) result) }
-{
-    match split_opening_delimiter(text) {
-        Some((opened, inside)) => Left::Inside(opened, inside),
-        None => Left::Whole(text),
-    }
 }
 
 /// Returns the part of the text to check after a flaw of the kind `flaw`. The flaw was found in the text `inside`, and
@@ -80,29 +67,6 @@ pub struct NextFlaw<'t> {
     pub end: usize,
     pub bad: Option<InvalidPiece>,
     pub left: Left<'t>,
-}
-
-/// Returns the flaw of a text that doesn't begin as a quoted literal.
-fn flaw_of_whole(ends: LineEnds, text: &str) -> NextFlaw<'_>
-    ensures gives { GivesFlaw (state_of ends (length text.now) (Whole text.entry)) result.bad
-        (state_of ends (length text.now) result.left) }
-    ensures left { result.left ≡ Nothing }
-    ensures good { result.good.now ≡ [] }
-{
-    match read(text, ends, false) {
-        Ok(_) => NextFlaw {
-            good: "",
-            end: 0,
-            bad: None,
-            left: Left::Nothing,
-        },
-        Err(flaw) => NextFlaw {
-            good: "",
-            end: 0,
-            bad: Some(InvalidPiece { flaw, end: flaw.hi }),
-            left: Left::Nothing,
-        },
-    }
 }
 
 /// Returns the next flaw inside a quoted literal, or after its closing quote.
@@ -174,7 +138,6 @@ pub fn next_flaw<'t>(ends: LineEnds, len: usize, left: Left<'t>) -> NextFlaw<'t>
     ensures good { ends ≡ Text → IsGoodLeft len left.entry result.good.now result.end }
 {
     match left {
-        Left::Whole(text) => flaw_of_whole(ends, text),
         Left::Inside(opened, rest) => next_flaw_inside(ends, len, opened, rest),
         Left::Closed(kind, closing) => judge_closed(ends, len, kind, closing),
         Left::Nothing => NextFlaw {
@@ -186,13 +149,14 @@ pub fn next_flaw<'t>(ends: LineEnds, len: usize, left: Left<'t>) -> NextFlaw<'t>
     }
 }
 
-/// A cursor over all flaws in the text of a literal. A valid literal token has none. Nothing is allocated.
+/// A cursor over the flaws in the text of a literal, after the first one. A valid literal token has no flaw. Nothing is
+/// allocated.
 ///
 /// The first flaw is the error that [`read`](rl_strict::read) returns with `signed = false`. After an invalid character or
 /// escape in a string, the search continues inside the string. After a flaw before the closing quote of a character or byte
 /// literal, only the suffix is checked. Any other flaw is the last one. Offsets are in bytes of the text as written. In a
 /// file, where CR LF is read as LF, no offset is between the CR and the LF.
-#[derive(Drop)]
+#[derive(Clone, Drop)]
 pub struct Flaws<'t> {
     ends: LineEnds,
     len: usize,
@@ -211,14 +175,28 @@ impl<'t> Model for Flaws<'t> {
 }
 
 impl<'t> Flaws<'t> {
-    /// Creates a cursor over the flaws of `text`. `ends` says whether CR LF is read as LF, as in a file.
-    pub fn of(text: &'t str, ends: LineEnds) -> Flaws<'t>
-        ensures { AreFlawsOf ends text.now result }
+    /// Returns the first flaw of `text` with its piece, and the cursor after this flaw. `flaw` is the error that
+    /// [`read`](rl_strict::read) returned for `text` and `ends` with `signed = false`.
+    pub fn after(text: &'t str, ends: LineEnds, flaw: Flaw) -> (InvalidPiece, Flaws<'t>)
+        requires { ExplainsOf ends false (chars text.now) flaw }
+        ensures flaw { result.0.flaw ≡ flaw }
+        ensures first { (start : FlawsState) × AreFlawsOf ends text.now start × TakesFlaw start result.0 result.1 }
     {
-        Flaws {
-            ends,
-            len: text.len(),
-            left: whole(text),
+        let len = text.len();
+        match split_opening_delimiter(text) {
+            Some((opened, inside)) => {
+                let piece = &text[flaw.from..];
+                let end = end_of(ends, len, opened.kind.quote(), flaw, piece);
+                let left = left_after(ends, opened, inside, flaw.kind, piece);
+                (InvalidPiece { flaw, end }, Flaws { ends, len, left })
+            }
+            None => {
+                let left = Left::Nothing;
+                (
+                    InvalidPiece { flaw, end: flaw.hi },
+                    Flaws { ends, len, left },
+                )
+            }
         }
     }
 

@@ -9,7 +9,7 @@ ghost use Rattle.rl_flaws.specs.Flawed.{EndsWhere, ReadsFrom};
 use crate::piece_ends::{after_bad_piece, is_flaw_of_unit};
 use rl_strict::flaws::FlawAt;
 use rl_strict::strict_reading::skip_first_char;
-use rl_strict::{Flaw, FlawKind, LineEnds};
+use rl_strict::{Flaw, LineEnds};
 
 /// A flaw, and the end of its piece: the range of text to show for the flaw.
 #[derive(Clone, Copy, PartialEq, Eq, Debug)]
@@ -21,17 +21,16 @@ pub struct InvalidPiece {
     pub end: usize,
 }
 
-/// Returns the byte offset after a flaw's piece. The text `piece` begins with this piece. `hi` is the byte offset after the
-/// flaw.
-fn end_of(ends: LineEnds, len: usize, quote: char, kind: FlawKind, piece: &str, hi: usize) -> usize
+/// Returns the byte offset after the flaw's piece. The text `piece` begins with this piece.
+pub fn end_of(ends: LineEnds, len: usize, quote: char, flaw: Flaw, piece: &str) -> usize
     requires { length piece.now ≤ len }
-    ensures { EndsWhere (is_flaw_of_unit kind) (ReadsFrom ends len (chars piece.now)
-        (after_bad_piece quote (read_of ends (chars piece.now)))) hi result }
+    ensures { EndsWhere (is_flaw_of_unit flaw.kind) (ReadsFrom ends len (chars piece.now)
+        (after_bad_piece quote (read_of ends (chars piece.now)))) flaw.hi result }
 {
-    if is_flaw_of_unit(kind) {
+    if is_flaw_of_unit(flaw.kind) {
         len - after_bad_piece(ends, quote, piece).len()
     } else {
-        hi
+        flaw.hi
     }
 }
 
@@ -53,14 +52,14 @@ pub fn invalid_piece_with_offsets(
     ensures end { EndsWhere (is_flaw_of_unit result.flaw.kind) (ReadsFrom ends len (chars found.entry.piece.now)
         (after_bad_piece quote (read_of ends (chars found.entry.piece.now)))) result.flaw.hi result.end }
 {
-    let hi = len - skip_first_char(ends, found.rest).len();
+    let flaw = Flaw {
+        kind: found.kind,
+        from: len - found.piece.len(),
+        lo: len - found.rest.len(),
+        hi: len - skip_first_char(ends, found.rest).len(),
+    };
     InvalidPiece {
-        flaw: Flaw {
-            kind: found.kind,
-            from: len - found.piece.len(),
-            lo: len - found.rest.len(),
-            hi,
-        },
-        end: end_of(ends, len, quote, found.kind, found.piece, hi),
+        flaw,
+        end: end_of(ends, len, quote, flaw, found.piece),
     }
 }

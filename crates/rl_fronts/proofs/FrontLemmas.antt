@@ -1,6 +1,6 @@
 -- Lemmas about the literal at the start of token trees: there is at most one.
 use Rattle.rl_syntax.proofs.Common.{◌≡◌, ◌≢◌, ℕ, ◌<◌, Bool, false, List, [], ◌∷◌, length, refl, sym, ap, ap₂, ◌∙◌, subst, arith, IsTrue}
-use Rattle.rl_lenient.proofs.Names.{◌↔◌, Kind, BoolKind, SpannedText, Truth, ReadsAs, HasNoReading, Reads, truth_text}
+use Rattle.rl_lenient.proofs.Names.{◌↔◌, Kind, BoolKind, SpannedText, ReadsAs, HasNoReading, Reads, truth_text}
 use Rattle.std.specs.Prelude.{Option, Some, None, IfSome, IfNone}
 use Rattle.std.specs.Option.{is_some}
 use Rattle.std.specs.Str.{chars}
@@ -89,10 +89,6 @@ same_front k trees token rest h (other, left, of) =
 pub other_of : (kind : Kind) (trees : List Tree) (token : SpannedText) (rest : List Tree) → IsFront trees token rest
     → (ReadsAs kind (chars token.text) → ⊥) → HasFrontOf kind trees → ⊥
 other_of kind trees token rest h other has = other (same_front kind trees token rest h has)
-
--- The text `true` or `false` is parsed as a `bool`.
-pub truth_reads : (t : List ℕ) (b : Bool) → t ≡ truth_text b → ReadsAs BoolKind t
-truth_reads t b e = (Truth b, [], record { truth = b; text_is = e; suffix_is = refl; contents_is = refl })
 
 -- A text that begins with a minus isn't a `bool`.
 pub no_negative_truth : (t : List ℕ) → ReadsAs BoolKind (45 ∷ t) → ⊥

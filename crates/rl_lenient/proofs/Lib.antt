@@ -39,6 +39,8 @@ pub mod FoundContents
 pub mod RoomLemmas
 pub mod OpenerLemmas
 pub mod ValueLemmas
+pub mod HashLemmas
+pub mod StrictItems
 pub mod Theorems
 pub mod PartLemmas
 pub mod PartTheorems

@@ -12,6 +12,8 @@ pub mod Founds
 pub mod Mirrors
 pub mod Laws
 pub mod Values
+pub mod Ranges
+pub mod Raws
 pub mod PartMirrors
 pub mod NumberParts
 pub mod PartLaws

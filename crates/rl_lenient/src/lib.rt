@@ -29,9 +29,11 @@ pub mod contents;
 pub mod digit_runs;
 mod digits;
 pub mod found;
+mod integers;
 pub mod laws;
 pub mod number_forms;
 mod numbers;
+pub mod parts;
 pub mod quoted_forms;
 pub mod units;
 pub mod values;
@@ -44,5 +46,6 @@ pub use crate::found::{
     Body, Found, Parts, bool_of, parse_float_literal, parse_int_literal, parse_literal,
     parse_with_added_minus, shape,
 };
+pub use crate::integers::{Integer, ValueFlaw, integer_value};
 pub use crate::number_forms::{float_shape, int_shape, shape_negative};
 pub use crate::numbers::{FloatParts, IntegerParts, float_parts, integer_parts};

@@ -9,7 +9,7 @@ use Rattle.rl_syntax.specs.Texts.{begins, byte_len}
 use Rattle.rl_lexer.specs.Cursors.{CursorState, IsCursorState, IsFirstError}
 use Rattle.rl_lexer.specs.Cuts.{LexedToken, LexesUpTo, open_groups, OpenGroup, error_place, begins_doc_comment, begins_lifetime, BeginsNoLexeme, ErrorAt, HasFirstError, Rejects}
 use Rattle.rl_lexer.specs.Mirrors.ErrorAt.{error_kind}
-use Rattle.rl_lexer.proofs.LexemeOpeners.{quote_begins, no_quote_begins}
+use Rattle.rl_lexer.proofs.LexemeOpeners.{quote_begins, no_quote_begins, quote_here}
 use Rattle.rl_syntax.proofs.Rests.{tail_length}
 use Rattle.rl_lexer.specs.Mirrors.LexemeAt.{begins_quote}
 use Rattle.rl_lexer.specs.Lexemes.{begins_raw_identifier}
@@ -24,7 +24,7 @@ pub rest_place : (text rest : List ℕ) (at : ℕ) → IsUtf8 text → IsUtf8 re
 rest_place text rest at is is_rest place = omega (arith, char_len text is, char_len rest is_rest, place)
 
 -- If a text isn't empty and begins with no lexeme, `error_kind` returns the kind of the error at the start of the text.
-kind_here : (groups : List OpenGroup) (r : List ℕ) → r ≢ [] → BeginsNoLexeme r → ErrorAt (error_kind r) groups r
+pub kind_here : (groups : List OpenGroup) (r : List ℕ) → r ≢ [] → BeginsNoLexeme r → ErrorAt (error_kind r) groups r
 kind_here groups r some none =
     go (begins_doc_comment r) (begins (codes "/*") r) (begins_quote r) (begins_lifetime r) (begins_raw_identifier r)
     refl refl refl refl refl
@@ -114,3 +114,16 @@ stops_here text rest e kind is empty empty_is some none kind_is e_is =
 pub none_some : {A : Type 0} (r : Option A) (P : Type 0) (b : Bool) → b ≡ is_some r → b ≡ false → IfNone r P → P
 none_some None P b e h p = p
 none_some (Some x) P b e h p = absurd (cc)
+
+-- If no group is open, an empty text has no lexing error.
+pub no_error : (k : LexKind) → ErrorAt k [] [] → ⊥
+no_error DocComment h = absurd (cc)
+no_error UnclosedComment (h, _) = absurd (cc)
+no_error UnclosedQuote (_, h) = let q : false ≡ true = quote_here [] h in absurd (cc)
+no_error Lifetime (_, h) = absurd (cc)
+no_error RawIdentifier (_, h) = absurd (cc)
+no_error StrayCharacter (some, _, _, _) = some refl
+no_error UnmatchedClose h = absurd (cc)
+no_error UnclosedGroup (_, some) = some refl
+no_error TooDeep (h, _) = absurd (cc)
+no_error Memory h = h

@@ -27,4 +27,12 @@ pub mod TruthWords
 pub mod QuotedLexemes
 pub mod Continues
 pub mod MinusLaw
+pub mod LexemeGaps
+pub mod SameTokens
+pub mod PrintedCuts
+pub mod LiteralEnds
+pub mod StrictQuotedLexemes
+pub mod StrictNumberLexemes
+pub mod PrintedLaws
+pub mod CutOrError
 pub mod Theorems

@@ -2,6 +2,7 @@ pub mod Lexemes
 pub mod LexErrors
 pub mod Cuts
 pub mod Cursors
+pub mod PrintedTokens
 pub mod Skipping
 pub mod BadQuotes
 pub mod Sources

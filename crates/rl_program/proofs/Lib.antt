@@ -5,3 +5,9 @@ pub mod JoinLemmas
 pub mod PrintLemmas
 pub mod FoundLineLemmas
 pub mod BareLemmas
+pub mod RunLemmas
+pub mod ListLemmas
+pub mod EntryLineLemmas
+pub mod LitLineLemmas
+pub mod TokenLines
+pub mod CommandLineLemmas

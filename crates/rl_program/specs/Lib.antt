@@ -6,3 +6,9 @@ pub mod Lines
 pub mod Digits
 pub mod FoundLines
 pub mod Bare
+pub mod Runs
+pub mod LitLines
+pub mod Lists
+pub mod EntryLines
+pub mod Commands
+pub mod CommandLine

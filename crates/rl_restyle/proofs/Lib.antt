@@ -3,10 +3,10 @@ pub mod TextSlices
 pub mod Pieces
 pub mod NewTexts
 pub mod KindLemmas
+pub mod CleanLemmas
 pub mod Drafts
 pub mod KeptCuts
 pub mod EditPlaces
 pub mod OneText
 pub mod Theorems
 pub mod ChangingLemmas
-pub mod SettingLemmas

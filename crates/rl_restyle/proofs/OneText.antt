@@ -34,7 +34,7 @@ token_some (BadQuoteToken (OtherQuote parts suffix)) t = tt
 token_some (BadQuoteToken (ByteQuote parts suffix)) t = tt
 token_some (StrayToken c) t = tt
 
-none_at_end : BeginsNoSource []
+pub none_at_end : BeginsNoSource []
 none_at_end = λ kind rest b. subst IsFull (sym b.text_is) (token_some b.token rest)
 
 -- ---- lemmas about the edit of one token

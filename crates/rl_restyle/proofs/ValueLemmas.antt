@@ -8,12 +8,12 @@ use Rattle.rl_lenient.specs.declared.found.Found.{Found}
 use Rattle.rl_cursors.specs.declared.next_literals.NextLiteral.{NextLiteral}
 use Rattle.rl_lenient.specs.Founds.{IsFound}
 use Rattle.rl_cursors.specs.NextLiterals.{TakesNextLiteral, IsLiteralToken}
-use Rattle.rl_settings.specs.declared.entries.DottedName.{DottedName}
-use Rattle.rl_settings.specs.declared.entries.NextEntry.{NextEntry}
-use Rattle.rl_settings.specs.declared.entries.EntryRejection.{EntryRejection}
-use Rattle.rl_settings.specs.SettingSteps.{TakesMark}
-use Rattle.rl_settings.specs.EntrySteps.{TakesEntry, TakesSeparator, RejectsNextEntry}
-use Rattle.rl_settings.proofs.EntryLemmas.{name_same}
+use Rattle.rl_cursors.specs.declared.entries.DottedName.{DottedName}
+use Rattle.rl_cursors.specs.declared.entries.NextEntry.{NextEntry}
+use Rattle.rl_cursors.specs.declared.entries.EntryRejection.{EntryRejection}
+use Rattle.rl_cursors.specs.SettingSteps.{TakesMark}
+use Rattle.rl_cursors.specs.EntrySteps.{TakesEntry, TakesSeparator, RejectsNextEntry}
+use Rattle.rl_cursors.proofs.EntryLemmas.{name_same}
 use Rattle.rl_style.specs.declared.style.Style.{Style}
 use Rattle.rl_restyle.specs.declared.rule.Rule.{Rule}
 use Rattle.rl_restyle.specs.declared.rule.Rule.TheVariants.{HexDigits, DropUnderscores, DropLeadingZeros, SuffixSeparator, BinaryGroups, OctalGroups, DecimalGroups, HexadecimalGroups, MinDigits, FloatZero, ExponentLetter, DropExponentPlus, EscapeDigits, FewestEscapeDigits, DropAsciiEscapes, NamedEscapes, DropQuoteEscapes, FewestHashes, DropRaw, EscapeInvisible}

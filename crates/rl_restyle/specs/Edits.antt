@@ -1,14 +1,14 @@
 -- A source that is rewritten in a style: the choice of the literals that are rewritten, their new texts, and the new
 -- source. Texts are lists of characters.
 use Rattle.std.specs.Prelude.{◌≡◌, ◌≢◌, ◌⊎◌, ℕ, Bool, not, ◌&&◌, List, [], ◌∷◌, ◌++◌, Option, Some, None, option_map, encode_utf8_all, String, string_bytes, IsFalse, IsTrue, ⊤}
-use Rattle.std.specs.List.{AllByRecursion}
+use Rattle.std.specs.List.{AllByRecursion, Contains}
 use Rattle.std.specs.Str.{chars}
 use denote.Ref.{Bor}
+use Rattle.rl_syntax.specs.Reading.{IsReadAs}
 use Rattle.rl_syntax.specs.Texts.{byte_len}
+use Rattle.rl_syntax.specs.declared.kind.Kind.{Kind}
 use Rattle.rl_lexer.specs.Skipping.{Skipped}
 use Rattle.rl_lexer.specs.Sources.{CutSource, IsCutUpTo, IsLiteralText, SourceError, source_end, source_kind, source_text}
-use Rattle.rl_output.specs.Choices.{Names}
-use Rattle.rl_program.specs.Lines.{IsLabelOf}
 use Rattle.rl_style.specs.Calls.{CallState, Outside, advance_calls, is_in_call}
 use Rattle.rl_style.specs.Recut.{IsSound, begins_with_code}
 use Rattle.rl_style.specs.Restylable.{is_field, last_after}
@@ -54,11 +54,11 @@ abbrev pub is_rewritable : Macros → Bool → Bool → Bool
 is_rewritable Skip field inside = not field && not inside
 is_rewritable All field inside = not field
 
--- The label of the literal `text` is one of the words in a list, or there is no list. The label is the name of the literal's
--- kind by `syn`'s grammar, or `Verbatim`.
-abbrev pub IsOfKinds : Option (Bor (List ℕ)) → List ℕ → Type 0
+-- The kind of the literal `text` by `syn`'s grammar is in a list, or there is no list. In the list, the kind `None` represents
+-- the literals that `syn`'s grammar doesn't accept.
+abbrev pub IsOfKinds : Option (Bor (List (Option Kind))) → List ℕ → Type 0
 IsOfKinds None text = ⊤
-IsOfKinds (Some list) text = (label : List ℕ) × IsLabelOf text label × Names list.now label
+IsOfKinds (Some kinds) text = (kind : Option Kind) × IsReadAs kind text × Contains kinds.now kind
 
 -- A condition on a token: it is a literal that is rewritten. `rest` is the text after the token, without white space
 -- and comments at its beginning.

@@ -4,7 +4,6 @@ pub mod Styles
 pub mod Held
 pub mod Places
 pub mod Edits
+pub mod Clean
 pub mod Mirrors
 pub mod Changing
-pub mod Meant
-pub mod Settings

@@ -5,7 +5,7 @@ use Rattle.rl_restyle.specs.declared.rule.Rule.TheVariants.{HexDigits, DropUnder
 use Rattle.rl_restyle.specs.declared.style_error.Expected.{Expected}
 use Rattle.rl_restyle.specs.declared.style_error.Expected.TheVariants.{Truth, Size, Case, Separator}
 
--- All rules that a configuration can set, in the order of `rl_scan --rules`.
+-- All rules that a configuration can set, in the order of their variants.
 abbrev pub settable_rules : List Rule
 settable_rules =
     HexDigits ∷ DropUnderscores ∷ DropLeadingZeros ∷ SuffixSeparator ∷ BinaryGroups ∷ OctalGroups ∷ DecimalGroups

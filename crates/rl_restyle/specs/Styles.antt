@@ -1,15 +1,14 @@
 -- The style that a configuration describes, and the errors of an invalid configuration.
-use Rattle.std.specs.Prelude.{◌≡◌, ◌≢◌, ◌⊎◌, ℕ, ⊤, ◌==◌, Bool, true, false, ◌&&◌, List, [], ◌∷◌, codes, Option, Some, None, if◌then◌else◌}
+use Rattle.std.specs.Prelude.{◌≡◌, ◌≢◌, ◌⊎◌, ℕ, ⊤, ◌==◌, Bool, true, false, ◌&&◌, List, [], ◌∷◌, Option, Some, None, if◌then◌else◌}
 use denote.Ref.{Bor}
 use Rattle.std.specs.Str.{chars}
 use Rattle.rl_lexer.specs.Cursors.{CursorState}
 use Rattle.rl_lexer.specs.Skipping.{Skipped}
 use Rattle.rl_cursors.specs.declared.next_literals.NextLiteral.{NextLiteral}
-use Rattle.rl_settings.specs.declared.entries.DottedName.{DottedName}
-use Rattle.rl_settings.specs.declared.entries.NextEntry.{NextEntry}
-use Rattle.rl_settings.specs.declared.entries.EntryRejection.{EntryRejection}
-use Rattle.rl_settings.specs.EntrySteps.{TakesEntry, RejectsNextEntry}
-use Rattle.rl_settings.specs.SyntaxErrors.{syntax_message}
+use Rattle.rl_cursors.specs.declared.entries.DottedName.{DottedName}
+use Rattle.rl_cursors.specs.declared.entries.NextEntry.{NextEntry}
+use Rattle.rl_cursors.specs.declared.entries.EntryRejection.{EntryRejection}
+use Rattle.rl_cursors.specs.EntrySteps.{TakesEntry, RejectsNextEntry}
 use Rattle.rl_style.specs.declared.style.Case.{Case}
 use Rattle.rl_style.specs.declared.style.Case.TheVariants.{Lower}
 use Rattle.rl_style.specs.declared.style.Separator.{Separator}
@@ -17,8 +16,6 @@ use Rattle.rl_style.specs.declared.style.DigitGroups.{DigitGroups}
 use Rattle.rl_style.specs.declared.style.Style.{Style}
 use Rattle.rl_restyle.specs.declared.rule.Rule.{Rule}
 use Rattle.rl_restyle.specs.declared.rule.Rule.TheVariants.{HexDigits, DropUnderscores, DropLeadingZeros, SuffixSeparator, BinaryGroups, OctalGroups, DecimalGroups, HexadecimalGroups, MinDigits, FloatZero, ExponentLetter, DropExponentPlus, EscapeDigits, FewestEscapeDigits, DropAsciiEscapes, NamedEscapes, DropQuoteEscapes, FewestHashes, DropRaw, EscapeInvisible}
-use Rattle.rl_restyle.specs.declared.style_error.Expected.{Expected as AnyExpected}
-use Rattle.rl_restyle.specs.declared.style_error.Expected.TheVariants as expected
 use Rattle.rl_restyle.specs.declared.style_error.StyleErrorKind.{StyleErrorKind}
 use Rattle.rl_restyle.specs.declared.style_error.StyleErrorKind.TheVariants.{Syntax, Unknown, Repeated, Expected}
 use Rattle.rl_restyle.specs.declared.style_error.StyleError.{StyleError}
@@ -26,21 +23,6 @@ use Rattle.rl_restyle.specs.declared.value.Value.{Value}
 use Rattle.rl_restyle.specs.declared.value.Value.TheVariants.{Truth, Size, CaseOf, SeparatorOf}
 use Rattle.rl_restyle.specs.Rules.{rule_name, rule_number, expected_of}
 use Rattle.rl_restyle.specs.Values.{value_of}
-
--- ---- messages of errors
-
-abbrev pub expected_words : AnyExpected → List ℕ
-expected_words expected.Truth = codes "expected `true` or `false`"
-expected_words expected.Size = codes "expected a number of digits"
-expected_words expected.Case = codes "expected `\"lower\"` or `\"upper\"`"
-expected_words expected.Separator = codes "expected `\"\"` or `\"_\"`"
-
--- The message of a kind of error.
-abbrev pub style_error_words : StyleErrorKind → List ℕ
-style_error_words (Syntax kind) = syntax_message kind
-style_error_words Unknown = codes "no rule has this name"
-style_error_words Repeated = codes "repeated name"
-style_error_words (Expected what) = expected_words what
 
 -- ---- the entries of a configuration
 

@@ -1,6 +1,7 @@
 //! The edits that rewrite a source, and the reasons why a source isn't rewritten.
 
 use rl_lexer::LexError;
+use rl_syntax::Kind;
 use std::alloc::{Allocator, Global};
 
 /// Selects whether literals inside macro calls, `macro_rules!` definitions and attributes are rewritten. A macro may depend on
@@ -18,10 +19,9 @@ pub enum Macros {
 pub struct Choice<'a> {
     /// Whether literals inside macro calls, `macro_rules!` definitions and attributes are rewritten.
     pub macros: Macros,
-    /// The kinds of the literals that are rewritten, or `None` for all kinds. The list has names of kinds, separated by commas, in
-    /// upper or lower case. `syn`'s grammar determines a literal's kind. If `syn`'s grammar doesn't accept the literal, the kind is
-    /// `Verbatim`.
-    pub kinds: Option<&'a str>,
+    /// The kinds of the literals that are rewritten, or `None` for all literals. `syn`'s grammar determines a literal's kind. In the
+    /// list, `None` represents the literals that `syn`'s grammar doesn't accept.
+    pub kinds: Option<&'a [Option<Kind>]>,
 }
 
 /// The change of one literal in a source.
@@ -42,6 +42,10 @@ pub struct Restyled<A: Allocator = Global> {
     pub text: String<A>,
     /// The changes of literals, with byte offsets in the old text, in ascending order.
     pub edits: Vec<Edit<A>, A>,
+    /// `true` if the old text has none of these: a stray character, which begins no token (for example `€`), a literal that Rust's
+    /// grammar doesn't accept, and a literal directly after an ASCII letter, an ASCII digit, `_` or `#`, such as `f"x"`. Some of
+    /// these are errors from Rust 2021 on.
+    pub is_clean: bool,
 }
 
 /// The reason why a source isn't rewritten.

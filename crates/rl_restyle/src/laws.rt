@@ -1,11 +1,18 @@
 //! Theorems about the definitions. Each function here does nothing: its contract states the theorem.
 
+ghost use Rattle.rl_restyle.specs.Clean.{KeepsTheCleanSource};
 ghost use Rattle.rl_restyle.specs.Edits.{HasOneText, KeepsTheWholeSource};
 
 /// A rewritten source is lexed into the old number of tokens, of the old kinds. Each token is the old one, or its new text.
 /// The source must contain no bad quotes (for example `'ab'`) and no stray characters (for example `€`).
 pub fn only_rewritten_tokens_change()
     ensures { KeepsTheWholeSource }
+{}
+
+/// If [`is_clean`](crate::Restyled::is_clean) is `true`, the rewritten source is lexed into the old number of tokens, of the old
+/// kinds. Each token is the old one, or its new text.
+pub fn only_rewritten_tokens_of_a_clean_source_change()
+    ensures { KeepsTheCleanSource }
 {}
 
 /// A source has exactly one new text and one list of edits in a style. [`rewrite_source`](crate::rewrite_source) returns them.

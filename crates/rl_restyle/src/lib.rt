@@ -2,15 +2,14 @@
 #![tactic(auto)]
 
 mod changing;
+mod clean;
 mod draft;
 mod edit;
 pub mod laws;
 mod rule;
-mod settings;
 mod slices;
 mod style_error;
 mod styles;
-mod suggestion;
 mod texts;
 mod value;
 mod values;
@@ -19,9 +18,7 @@ mod whole;
 pub use crate::changing::changing_rules;
 pub use crate::edit::{Choice, Edit, Macros, RestyleError, Restyled};
 pub use crate::rule::{RULES, Rule, number_of, settable_rules};
-pub use crate::settings::settings_text;
 pub use crate::slices::between;
 pub use crate::style_error::{Expected, StyleError, StyleErrorKind};
 pub use crate::styles::{default_style, parse_style};
-pub use crate::suggestion::{is_near, near_rule, option_part};
 pub use crate::whole::rewrite_source;

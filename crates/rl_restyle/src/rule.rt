@@ -54,7 +54,7 @@ pub enum Rule {
     EscapeInvisible,
 }
 
-/// Returns all rules that a configuration can set, in the order of `rl_scan --rules`.
+/// Returns all rules that a configuration can set, in the order of the variants of [`Rule`].
 pub fn settable_rules() -> &'static [Rule]
     ensures { result.now ≡ all_settable }
 {

@@ -9,9 +9,10 @@ use crate::rule::{expected_of, rule_of};
 use crate::style_error::{StyleError, StyleErrorKind};
 use crate::value::value_of;
 use crate::values::Values;
-use rl_cursors::NextLiteral;
+use rl_cursors::{
+    DottedName, EntryRejection, EntryStep, NextEntry, NextLiteral, next_config_entry,
+};
 use rl_lexer::Tokens;
-use rl_settings::{DottedName, EntryRejection, EntryStep, NextEntry, next_config_entry};
 use rl_style::{Case, Style};
 
 /// Creates an error of the kind `kind` whose range is the entry's name.
@@ -106,7 +107,7 @@ fn rejection_error<'t>(values: &Values, rejection: EntryRejection<'t>) -> StyleE
 /// Parses the configuration of a style.
 ///
 /// A configuration is a list of entries `name = literal`, each on its own line or with a comma after it, as
-/// [`rl_settings::next_config_entry`] parses them. Each name is that of a rule, and occurs at most once. A rule without an entry
+/// [`rl_cursors::next_config_entry`] parses them. Each name is that of a rule, and occurs at most once. A rule without an entry
 /// changes nothing.
 ///
 /// These are the names and values. A string's body must be exactly the given text, without escapes.

@@ -2,16 +2,15 @@
 
 ghost use Rattle.std.specs.Prelude.{◌≡◌, ◌≢◌, ◌+◌, ◌*◌, ℕ, List, length, string_bytes, IfNone, IfOk, IfSome, MatchBool};
 ghost use Rattle.std.specs.Str.{chars};
+ghost use Rattle.rl_syntax.specs.Reading.{IsReadAs};
 ghost use Rattle.rl_restyle.specs.Places.{IsTextBetween};
-ghost use Rattle.rl_program.specs.Lines.{IsLabelOf};
 ghost use Rattle.rl_restyle.specs.Edits.{IsChosenLiteral, IsOfKinds, IsRewritten, IsTextOf, is_rewritable as rewritable, text_in};
 
 use crate::edit::{Choice, Macros};
 use crate::slices::between;
 use rl_lenient::parse_literal;
-use rl_output::list_contains;
-use rl_program::label_of;
 use rl_style::{Restylable, Style, rewrite_into};
+use rl_syntax::Kind;
 use std::alloc::{AllocError, Allocator};
 
 /// Returns the size in bytes of the buffer that [`rewrite_into`] needs for a literal with the text `text`.
@@ -73,22 +72,22 @@ fn is_rewritable(macros: Macros, literal: Restylable<'_>) -> bool
     }
 }
 
-/// Returns the name of the kind of the literal `text`, or `Verbatim` if `text` isn't a literal by `syn`'s grammar.
-fn label_in(text: &str) -> &'static str
-    ensures { IsLabelOf (chars text.now) result.now }
+/// Returns the kind of the literal `text` by `syn`'s grammar, or `None` if this grammar doesn't accept `text`.
+fn kind_of(text: &str) -> Option<Kind>
+    ensures { IsReadAs result (chars text.now) }
 {
     match parse_literal(text) {
-        Some(found) => label_of(Some(found.kind)),
-        None => label_of(None),
+        Some(found) => Some(found.kind),
+        None => None,
     }
 }
 
-/// Whether the literal `text` is of one of the kinds in a list. If `kinds` is `None`, the result is `true`.
-fn is_of_kinds(kinds: Option<&str>, text: &str) -> bool
+/// Whether the literal `text` is of one of the kinds. If `kinds` is `None`, the result is `true`.
+fn is_of_kinds(kinds: Option<&[Option<Kind>]>, text: &str) -> bool
     ensures { MatchBool result (IsOfKinds kinds.entry (chars text.now)) (IsOfKinds kinds.entry (chars text.now) → ⊥) }
 {
     match kinds {
-        Some(list) => list_contains(list, label_in(text)),
+        Some(kinds) => kinds.contains(&kind_of(text)),
         None => true,
     }
 }

@@ -1,7 +1,8 @@
 //! Rewrites all literals of a source by a style.
 
-ghost use Rattle.std.specs.Prelude.{◌≡◌, ◌++◌, List, ℕ, length, map, string_bytes, IfErr, IfOk};
+ghost use Rattle.std.specs.Prelude.{◌≡◌, ◌↔◌, ◌++◌, ◌&&◌, not, List, ℕ, length, map, string_bytes, IfErr, IfOk, IsTrue};
 ghost use Rattle.std.specs.Str.{chars};
+ghost use Rattle.rl_restyle.specs.Clean.{HasCleanTokens};
 ghost use Rattle.rl_restyle.specs.Edits.{IsRestyleError, Restyles, edit_in};
 ghost use Rattle.rl_restyle.specs.Places.{IsTextBetween};
 ghost use Rattle.rl_restyle.specs.declared.edit.RestyleError.TheVariants.{Memory};
@@ -12,13 +13,19 @@ use crate::slices::between;
 use rl_style::{Restylables, Style, is_safe_to_restyle};
 use std::alloc::{AllocError, Allocator};
 
-/// Returns the complete new text: the draft, with the rest of the source appended.
-fn finished<A: Allocator>(source: &str, draft: Draft<A>) -> Result<Restyled<A>, RestyleError>
+/// Returns the complete new text: the draft, with the rest of the source appended. `has_stray` tells whether the source has a stray
+/// character.
+fn finished<A: Allocator>(
+    source: &str,
+    draft: Draft<A>,
+    has_stray: bool,
+) -> Result<Restyled<A>, RestyleError>
     requires { (rest : List ℕ) × IsTextBetween (chars source.now) draft.at (length source.now) rest }
     ensures text { IfOk result (λ r. (rest : List ℕ)
         → IsTextBetween (chars source.now) draft.at (length source.now) rest
         → chars (string_bytes r.text) ≡ chars (string_bytes draft.text) ++ rest) }
     ensures edits { IfOk result (λ r. map edit_in r.edits.items ≡ map edit_in draft.edits.items) }
+    ensures clean { IfOk result (λ r. r.is_clean ≡ (draft.is_clean && not has_stray)) }
     ensures error { IfErr result (λ e. e ≡ Memory) }
 {
     let mut text = draft.text;
@@ -26,6 +33,7 @@ fn finished<A: Allocator>(source: &str, draft: Draft<A>) -> Result<Restyled<A>, 
         Ok(()) => Ok(Restyled {
             text,
             edits: draft.edits,
+            is_clean: draft.is_clean && !has_stray,
         }),
         Err(_) => Err(RestyleError::Memory),
     }
@@ -48,6 +56,7 @@ pub fn rewrite_source<A: Allocator + Copy>(
 ) -> Result<Restyled<A>, RestyleError>
     ensures restyled { IfOk result (λ r. Restyles style choice.entry (chars text.now) (chars (string_bytes r.text))
         (map edit_in r.edits.items)) }
+    ensures clean { IfOk result (λ r. IsTrue r.is_clean ↔ HasCleanTokens (chars text.now)) }
     ensures error { IfErr result (IsRestyleError (chars text.now)) }
 {
     if !is_safe_to_restyle(text) {
@@ -58,6 +67,7 @@ pub fn rewrite_source<A: Allocator + Copy>(
         text: String::new(alloc),
         edits: Vec::new(alloc),
         at: 0,
+        is_clean: true,
     };
     while let Some(literal) = literals.next() {
         match put_literal(alloc, style, choice, text, literal, &mut draft) {
@@ -67,6 +77,6 @@ pub fn rewrite_source<A: Allocator + Copy>(
     }
     match literals.error() {
         Some(error) => Err(RestyleError::Source(error)),
-        None => finished(text, draft),
+        None => finished(text, draft, literals.has_stray()),
     }
 }

@@ -6,8 +6,8 @@ use crate::literals::{call, call_literal};
 use crate::pairs::pairs;
 use crate::turns::turns;
 use crate::values::equal;
-use rl_commands::Command;
 use rl_grammar::strict::is_token;
+use rl_program::Command;
 use rl_tokens::{Error, ErrorKind, Span, whitespace};
 use rust_literals::{Lit, LitFloat, LitInt};
 

@@ -2,9 +2,8 @@
 
 use crate::Page;
 use crate::noted::noted;
-use rl_commands::Command;
-use rl_commands::run::run;
-use rl_program::{Rejection, label_of};
+use rl_program::run::run;
+use rl_program::{Command, Rejection, label_of};
 use rl_tokens::{Error, Literal};
 use rust_literals::{Lit, read_all};
 

@@ -3,7 +3,7 @@
 use crate::Page;
 use crate::borrowed::put_borrowed;
 use crate::noted::{HERE, literal_of, noted, parts_of};
-use rl_commands::output_line;
+use rl_program::output_line;
 use rust_literals::Lit;
 
 /// The maximum length of an output line that is printed by `brief`. A longer line is printed as its length.

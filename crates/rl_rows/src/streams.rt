@@ -3,9 +3,8 @@
 use crate::Page;
 use crate::lists::put_bytes;
 use crate::noted::parts_of;
-use rl_commands::Command;
-use rl_commands::run::run;
-use rl_program::RunError;
+use rl_program::run::run;
+use rl_program::{Command, RunError};
 use std::alloc::Global;
 use std::io::{self, ErrorKind, Read, Write};
 

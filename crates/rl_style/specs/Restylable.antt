@@ -7,20 +7,26 @@ use Prim.Native.Char.{code}
 use Rattle.rl_syntax.specs.Texts.{begins_char, is_among}
 use Rattle.rl_lexer.specs.Cursors.{CursorState}
 use Rattle.rl_lexer.specs.Lexemes.{DelimiterForm, MarkForm}
-use Rattle.rl_lexer.specs.Sources.{BeginsNoSource, DocCommentKind, IsLiteralText, PlainKind, SourceKind, TakesSource, source_view}
+use Rattle.rl_lexer.specs.Sources.{BeginsNoSource, DocCommentKind, IsLiteralText, PlainKind, SourceKind, StrayKind, TakesSource, source_view}
 use Rattle.rl_lexer.specs.declared.sources.SourceToken.{SourceToken}
 use Rattle.rl_style.specs.Calls.{CallState, advance_calls, is_in_call}
 use Rattle.rl_style.specs.declared.restylable.Last.{Last}
 use Rattle.rl_style.specs.declared.restylable.Last.TheVariants.{Other, Dot, Dots, Opening}
 use Rattle.rl_style.specs.declared.restylable.Restylable.{Restylable}
 
--- The state of a cursor over the literals of a source: the unread source, the last token, the byte offset after it, and the
--- position relative to macro calls.
+-- The state of a cursor over the literals of a source: the unread source, the last token, the byte offset after it, the
+-- position relative to macro calls, and whether a token before was a stray character.
 pub record RestylableState : Type 0 where
   pub tokens : CursorState
   pub last : Last
   pub end : ℕ
   pub calls : CallState
+  pub has_stray : Bool
+
+-- Whether a source has a stray character up to its next token. `before` tells whether it has one before that token.
+abbrev pub stray_after : Bool → SourceKind → Bool
+stray_after before StrayKind = true
+stray_after before _ = before
 
 abbrev pub is_dot : SourceKind → Bool
 is_dot (PlainKind (MarkForm c)) = c == code "."
@@ -74,6 +80,7 @@ passed s token tokens = record {
   last = last_after s.last s.end (source_view token.form) token.lo;
   end = token.hi;
   calls = advance_calls s.calls (source_view token.form) token.text.now;
+  has_stray = stray_after s.has_stray (source_view token.form);
 }
 
 -- The token of a source is a literal.

@@ -1,11 +1,11 @@
 //! The literals of a source that a style may rewrite.
 
-ghost use Rattle.std.specs.Prelude.{◌≡◌, ◌⊎◌, ◌<◌, ◌+◌, ℕ, List, [], length, IfSome, IfNone};
+ghost use Rattle.std.specs.Prelude.{◌≡◌, ◌⊎◌, false, ◌<◌, ◌+◌, ℕ, List, [], length, IfSome, IfNone};
 ghost use Rattle.std.specs.Str.{chars};
 ghost use Rattle.rl_lexer.specs.Cursors.{IsCursorState};
 ghost use Rattle.rl_lexer.specs.Sources.{IsCutUpTo, SourceBefore, SourceErrorAt, SourceKind, source_view};
 ghost use Rattle.rl_style.specs.Calls.{Outside};
-ghost use Rattle.rl_style.specs.Restylable.{GivesLiteral, GivesNone, begins_one_colon, is_field, last_after, names_field, one_more};
+ghost use Rattle.rl_style.specs.Restylable.{GivesLiteral, GivesNone, begins_one_colon, is_field, last_after, names_field, one_more, stray_after};
 ghost use Rattle.rl_style.specs.declared.restylable.Last.TheVariants as last;
 
 use crate::calls::{Calls, advance_calls, is_in_call};
@@ -57,6 +57,8 @@ pub struct Restylables<'t> {
     // The byte offset after the last token.
     end: usize,
     calls: Calls<'t>,
+    // Whether a token before was a stray character.
+    has_stray: bool,
 }
 
 impl<'t> Model for Restylables<'t> {
@@ -65,7 +67,7 @@ impl<'t> Model for Restylables<'t> {
 
     ghost Value = { RestylableState };
 
-    ghost view = { λ r. record { tokens = r.tokens; last = r.last; end = r.end; calls = calls_seen r.calls } };
+    ghost view = { λ r. record { tokens = r.tokens; last = r.last; end = r.end; calls = calls_seen r.calls; has_stray = r.has_stray } };
 }
 
 /// Returns the description of a dot. `last` describes the token before the dot. `is_joined` is true if that token directly
@@ -89,6 +91,16 @@ fn last_after(last: Last, end: usize, token: SourceToken<'_>) -> Last
         SourceForm::Token(Form::Mark(',') | Form::Delimiter('{' | ']')) | SourceForm::DocComment =>
             Last::Opening,
         _ => Last::Other,
+    }
+}
+
+/// Whether a source has a stray character up to the token `token`. `before` tells whether it has one before the token.
+fn stray_after(before: bool, token: SourceToken<'_>) -> bool
+    ensures { result ≡ stray_after before (source_view token.entry.form) }
+{
+    match token.form {
+        SourceForm::Stray => true,
+        _ => before,
     }
 }
 
@@ -130,12 +142,14 @@ impl<'t> Restylables<'t> {
         ensures nothing { result.last ≡ last.Other }
         ensures end { result.end ≡ 0 }
         ensures no_call { result.calls ≡ Outside }
+        ensures no_stray { result.has_stray ≡ false }
     {
         Restylables {
             tokens: Sources::new(text),
             last: Last::Other,
             end: 0,
             calls: Calls::Outside,
+            has_stray: false,
         }
     }
 
@@ -147,15 +161,18 @@ impl<'t> Restylables<'t> {
         ensures none { IfNone result (GivesNone self.old self.new) }
     {
         let (mut last, mut end, mut calls) = (self.last, self.end, self.calls);
+        let mut has_stray = self.has_stray;
         while let Some(token) = self.tokens.next() {
             let (before, around) = (last, calls);
             last = last_after(before, end, token);
             end = token.hi;
             calls = advance_calls(around, token);
+            has_stray = stray_after(has_stray, token);
             if token.is_literal() {
                 self.last = last;
                 self.end = end;
                 self.calls = calls;
+                self.has_stray = has_stray;
                 return Some(Restylable {
                     token,
                     is_field: is_field(before, token, self.tokens.rest()),
@@ -166,7 +183,15 @@ impl<'t> Restylables<'t> {
         self.last = last;
         self.end = end;
         self.calls = calls;
+        self.has_stray = has_stray;
         None
+    }
+
+    /// Returns `true` if a token before the cursor's position is a stray character: one that begins no token, for example `€`.
+    pub fn has_stray(&self) -> bool
+        ensures { result ≡ self.now.has_stray }
+    {
+        self.has_stray
     }
 
     /// Returns the error at the cursor's position: a quote or a comment that isn't closed. The result is `None` at the end of

@@ -7,7 +7,7 @@ use Rattle.rl_syntax.specs.declared.kind.Kind.{Kind}
 use Rattle.rl_syntax.specs.declared.kind.Kind.TheVariants.{Bool as BoolKind}
 use Rattle.rl_syntax.specs.Texts.{is_among, first_passes, SpannedText, byte_len}
 use Rattle.rl_syntax.specs.Trivia.{IsTrivia}
-use Rattle.rl_syntax.specs.Reading.{Contents, truth_text, HasReading}
+use Rattle.rl_syntax.specs.Reading.{Contents, Digits, truth_text, HasReading}
 use Rattle.rl_syntax.specs.Strict.{Strict}
 use Rattle.rl_syntax.specs.Quoted.{is_number}
 
@@ -52,6 +52,15 @@ IsStrictItem (LiteralItem text) =
     (kind : Kind) × (kind ≢ BoolKind) × IsStrictAs kind text × HasReading text
 IsStrictItem (MinusItem text) =
     (kind : Kind) × IsTrue (is_number kind) × IsStrictAs kind text × HasReading (code "-" ∷ text)
+
+-- The kind, value and suffix of an item of a printed list of literals by Rust's grammar. The value of a minus and a
+-- number is the number's digits with `-` before them.
+abbrev pub IsItemOf : Kind → Contents → List ℕ → Item → Type 0
+IsItemOf kind contents suffix (WordItem truth) = Strict (truth_text truth) kind contents suffix
+IsItemOf kind contents suffix (LiteralItem text) = Strict text kind contents suffix
+IsItemOf kind contents suffix (MinusItem text) =
+    (digits : List ℕ) × IsTrue (is_number kind) × Strict text kind (Digits digits) suffix
+    × (contents ≡ Digits (code "-" ∷ digits))
 
 -- The separator before the item is empty only if the item begins with `"`, `'` or `-`.
 abbrev pub IsApart : Entry → Type 0

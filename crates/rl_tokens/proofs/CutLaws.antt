@@ -1,14 +1,16 @@
 -- Two lexings of the same text have the same tokens, up to the first error.
-use Rattle.rl_syntax.proofs.Common.{◌≡◌, ℕ, ◌+◌, List, [], ◌∷◌, ◌++◌, map, Option, Some, None, refl, sym, ◌∙◌, ap, subst, arith, option_and_then, encode_utf8_all, none-some}
-use Rattle.rl_lexer.specs.Skipping.{Skipped}
-use Rattle.rl_lexer.specs.Lexemes.{Lexeme, lexeme_text, IsLexeme, LexemeForm, form_of}
-use Rattle.rl_lexer.specs.Mirrors.LexemeAt.{lexeme_at}
+use Rattle.rl_syntax.proofs.Common.{◌≡◌, ℕ, ◌+◌, List, [], ◌∷◌, ◌++◌, map, Option, Some, None, refl, sym, ◌∙◌, ap, subst, option_and_then, encode_utf8_all, none-some}
+use Rattle.rl_lexer.specs.Lexemes.{Lexeme, lexeme_text, IsLexeme}
 use Rattle.rl_lexer.specs.Cuts.{LexedToken, end_of, LexesUpTo, OpenGroup, after_form, after_lexeme, open_groups}
 use Rattle.rl_tokens.specs.Lexing.{flat_form, flat_token}
 use Rattle.rl_syntax.specs.Texts.{byte_len}
+use Rattle.rl_lexer.specs.PrintedTokens.{Token, as_token}
+use Rattle.rl_lexer.proofs.SameTokens.{SameFirst, same_first, same_end, begins_cut}
 use Rattle.rl_lexer.proofs.Comments.{same_Some}
+use Rattle.rl_tokens.specs.Trees.{FlatToken}
+use Rattle.std.proofs.lemmas.List.{map-append}
 use Rattle.rl_lexer.proofs.Pieces.{one_rest}
-use Rattle.rl_lexer.proofs.LexemeFronts.{lexeme_at-past, one_front}
+
 
 -- Lexing can't continue with the text `r` while the groups `groups` are open. The text begins with no token, or with a
 -- delimiter that is an error there.
@@ -22,49 +24,24 @@ pub record SameCut (vs ws : List LexedToken) (r s : List ℕ) (g h : List OpenGr
   pub rest : r ≡ s
   pub groups : g ≡ h
 
--- The first tokens of two results of lexing a text have the same form, text and position, and the same text follows.
-record SameFirst (v w : LexedToken) (x y : List ℕ) : Type 0 where
-  pub form : form_of v.lexeme ≡ form_of w.lexeme
-  pub text : lexeme_text v.lexeme ≡ lexeme_text w.lexeme
-  pub at : v.at ≡ w.at
-  pub rest : x ≡ y
+-- The token of a flat list for a token of a file.
+unfoldable pub flat_view : ℕ → Token → FlatToken
+flat_view file t =
+    flat_form t.form (encode_utf8_all t.text) (record { file = file; lo = t.at; hi = t.at + byte_len t.text })
 
-same_first : (at : ℕ) (t : List ℕ) (v w : LexedToken) (x y : List ℕ) → Skipped t (lexeme_text v.lexeme ++ x)
-    → IsLexeme v.lexeme x → v.at + byte_len (lexeme_text v.lexeme ++ x) ≡ at + byte_len t
-    → Skipped t (lexeme_text w.lexeme ++ y) → IsLexeme w.lexeme y → w.at + byte_len (lexeme_text w.lexeme ++ y)
-    ≡ at + byte_len t → SameFirst v w x y
-same_first at t v w x y a is m b js n =
-    let u = lexeme_text v.lexeme ++ x in
-    let e : u ≡ lexeme_text w.lexeme ++ y = one_rest t u (lexeme_text w.lexeme ++ y) a b in
-    let f = one_front u (lexeme_text v.lexeme) (lexeme_text w.lexeme) x y refl e (v.lexeme, is, refl)
-    (w.lexeme, js, refl) in
-    let p : ◌≡◌ {A = Option (LexemeForm × List ℕ)} (Some (form_of v.lexeme, x)) (Some (form_of w.lexeme, y)) =
-    sym (lexeme_at-past v.lexeme x is) ∙ ap lexeme_at e ∙ lexeme_at-past w.lexeme y js in
-    record {
-      form = ap (λ (q : LexemeForm × List ℕ). q.0) (same_Some (form_of v.lexeme, x) (form_of w.lexeme, y) p);
-      text = f.0;
-      at = omega (arith, m, n, ap byte_len e);
-      rest = f.1;
-    }
-
-same_end : (v w : LexedToken) (x y : List ℕ) → SameFirst v w x y → end_of v ≡ end_of w
-same_end v w x y same = omega (arith, same.at, ap byte_len same.text)
+-- The tokens of a flat list are those of the lexed tokens.
+pub flat_tokens : (file : ℕ) (ws : List LexedToken) → map (flat_token file) ws ≡ map (flat_view file) (map as_token ws)
+unfolding flat_view
+flat_tokens file [] = refl
+flat_tokens file (w ∷ ws) = ap (λ fs. flat_token file w ∷ fs) (flat_tokens file ws)
 
 same_flat : (v w : LexedToken) (x y : List ℕ) → SameFirst v w x y → (file : ℕ) → flat_token file v ≡ flat_token file w
-same_flat v w x y same file =
-    ap (λ f. flat_form f (encode_utf8_all (lexeme_text v.lexeme)) (record { file = file; lo = v.at; hi = end_of v }))
-    same.form
-    ∙ ap (λ t. flat_form (form_of w.lexeme) (encode_utf8_all t) (record { file = file; lo = v.at; hi = end_of v }))
-    same.text
-    ∙ ap (λ n. flat_form (form_of w.lexeme) (encode_utf8_all (lexeme_text w.lexeme))
-    (record { file = file; lo = n; hi = end_of v })) same.at
-    ∙ ap (λ n. flat_form (form_of w.lexeme) (encode_utf8_all (lexeme_text w.lexeme))
-    (record { file = file; lo = w.at; hi = n })) (same_end v w x y same)
+unfolding flat_view
+same_flat v w x y same file = ap (flat_view file) same.token
 
 same_tail : (groups : List OpenGroup) (v w : LexedToken) (x y : List ℕ) → SameFirst v w x y
     → after_lexeme groups v.lexeme v.at ≡ after_lexeme groups w.lexeme w.at
-same_tail groups v w x y same = ap (λ f. after_form groups f v.at) same.form
-    ∙ ap (λ n. after_form groups (form_of w.lexeme) n) same.at
+same_tail groups v w x y same = ap (λ (t : Token). after_form groups t.form t.at) same.token
 
 -- If `open_groups` accepts a list of tokens, it accepts the list's first token, and then the other tokens.
 opened : (o : Option (List OpenGroup)) (ws : List LexedToken) (h : List OpenGroup)
@@ -109,21 +86,16 @@ same_cut at t gs (v ∷ vs) (w ∷ ws) r s g h (x, a, is, m, more) p stuck (y, b
       groups = rec.groups;
     }
 
--- If tokens are lexed from the start of a text, each result of lexing the whole text begins with these tokens.
-pub begins_cut : (at : ℕ) (t : List ℕ) (vs ws : List LexedToken) (r : List ℕ) → LexesUpTo at t vs r
-    → LexesUpTo at t ws [] → (more : List LexedToken) × ((file : ℕ) → map (flat_token file) ws
+-- If tokens are lexed from the start of a text, the flat tokens of the whole text begin with them.
+pub begins_flat : (at file : ℕ) (t : List ℕ) (vs ws : List LexedToken) (r : List ℕ) → LexesUpTo at t vs r
+    → LexesUpTo at t ws [] → (more : List LexedToken) × (map (flat_token file) ws
     ≡ map (flat_token file) vs ++ map (flat_token file) more)
-begins_cut at t [] ws r a b = (ws, λ file. refl)
-begins_cut at t (v ∷ vs) [] r (x, a, is, m, more) b =
-    let e : [] ≡ lexeme_text v.lexeme ++ x = one_rest t [] (lexeme_text v.lexeme ++ x) b a in
-    absurd (none-some (form_of v.lexeme, x) (ap lexeme_at e ∙ lexeme_at-past v.lexeme x is))
-begins_cut at t (v ∷ vs) (w ∷ ws) r (x, a, is, m, more) (y, b, js, n, more') =
-    let same : SameFirst v w x y = same_first at t v w x y a is m b js n in
-    let following : LexesUpTo (end_of v) x ws [] =
-    subst (λ (k : ℕ). LexesUpTo k x ws []) (sym (same_end v w x y same))
-    (subst (λ (z : List ℕ). LexesUpTo (end_of w) z ws []) (sym same.rest) more') in
-    let rec = begins_cut (end_of v) x vs ws r more following in (
-      rec.0,
-      λ file. ap (λ f. f ∷ map (flat_token file) ws) (sym (same_flat v w x y same file))
-          ∙ ap (λ fs. flat_token file v ∷ fs) (rec.1 file),
+begins_flat at file t vs ws r a b =
+    let (more, same) = begins_cut at t vs ws r a b in (
+      more,
+      flat_tokens file ws
+          ∙ ap (map (flat_view file)) same
+          ∙ map-append (flat_view file) (map as_token vs) (map as_token more)
+          ∙ ap (λ fs. fs ++ map (flat_view file) (map as_token more)) (sym (flat_tokens file vs))
+          ∙ ap (λ fs. map (flat_token file) vs ++ fs) (sym (flat_tokens file more)),
     )

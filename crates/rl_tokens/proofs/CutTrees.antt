@@ -9,7 +9,7 @@ use Rattle.rl_tokens.specs.Trees.{Tree, GroupTree, IdentTree, PunctTree, Literal
 use Rattle.rl_lexer.specs.Lexemes.{lexeme_text, IsLexeme, LexemeForm, LiteralForm, IdentifierForm, DelimiterForm, MarkForm, form_of}
 use Rattle.rl_lexer.specs.Cuts.{LexedToken, end_of, LexesUpTo, is_opener}
 use Rattle.rl_tokens.specs.Lexing.{delimiter_for, flat_form, flat_token, Lexes}
-use Rattle.rl_tokens.specs.PrintedTrees.{IsLexedLiteral}
+use Rattle.rl_lexer.specs.PrintedTokens.{IsLexedLiteral}
 use Rattle.rl_syntax.proofs.Basics.{scalars_parts}
 
 -- The token's text is the UTF-8 encoding of `text`, and decodes to `text`.

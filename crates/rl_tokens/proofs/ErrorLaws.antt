@@ -282,16 +282,3 @@ error_kind_at UnmatchedClose groups r h = close_kind groups r h
 error_kind_at UnclosedGroup groups r (nil, some) = sym (ap (λ x. kind_at (lexeme_at x) x) nil)
 error_kind_at TooDeep groups r (h, n) = deep_kind r h
 error_kind_at Memory groups r h = absurd h
-
--- If no group is open, an empty text has no lexing error.
-pub no_error : (k : LexKind) → ErrorAt k [] [] → ⊥
-no_error DocComment h = absurd (cc)
-no_error UnclosedComment (h, _) = absurd (cc)
-no_error UnclosedQuote (_, h) = let q : false ≡ true = quote_here [] h in absurd (cc)
-no_error Lifetime (_, h) = absurd (cc)
-no_error RawIdentifier (_, h) = absurd (cc)
-no_error StrayCharacter (some, _, _, _) = some refl
-no_error UnmatchedClose h = absurd (cc)
-no_error UnclosedGroup (_, some) = some refl
-no_error TooDeep (h, _) = absurd (cc)
-no_error Memory h = h

@@ -6,7 +6,8 @@ use Rattle.rl_lexer.specs.Cuts.{OpenGroup, ErrorAt, error_place, OneError}
 use Rattle.rl_tokens.specs.Lexing.{OneList, NeverBoth}
 use Rattle.rl_tokens.proofs.FlatTrees.{flat_trees_same}
 use Rattle.rl_tokens.proofs.CutLaws.{same_cut}
-use Rattle.rl_tokens.proofs.ErrorLaws.{nothing_stuck, error_stuck, kind_at, error_kind_at, no_error}
+use Rattle.rl_tokens.proofs.ErrorLaws.{nothing_stuck, error_stuck, kind_at, error_kind_at}
+use Rattle.rl_lexer.proofs.ErrorKinds.{no_error}
 
 pub one_list : OneList
 one_list t file xs ys a b =

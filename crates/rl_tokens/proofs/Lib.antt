@@ -1,5 +1,4 @@
 pub mod CStringLemmas
-pub mod LexemeGaps
 pub mod TreeLemmas
 pub mod NestLemmas
 pub mod LexLoop
@@ -9,11 +8,8 @@ pub mod CutTrees
 pub mod CutLaws
 pub mod ErrorLaws
 pub mod LexLaws
-pub mod PrintedCuts
-pub mod LiteralEnds
-pub mod StrictQuotedLexemes
-pub mod StrictNumberLexemes
 pub mod PrintedLaws
+pub mod NestedTrees
 pub mod PrintedAnswers
 pub mod TreeRests
 pub mod MarkLemmas

@@ -9,7 +9,8 @@ use Rattle.rl_tokens.specs.Trees.{Tree, stream_view}
 use Rattle.rl_tokens.specs.Lexing.{Lexes}
 use Rattle.rl_lexer.specs.Cuts.{HasFirstError, Rejects}
 use Rattle.rl_syntax.specs.Printed.{Entry, Printed}
-use Rattle.rl_tokens.specs.PrintedTrees.{Reprinted, printed_trees}
+use Rattle.rl_lexer.specs.PrintedTokens.{Reprinted}
+use Rattle.rl_tokens.specs.PrintedTrees.{printed_trees}
 use Rattle.rl_tokens.proofs.LexLaws.{one_list, never_both}
 use Rattle.rl_tokens.proofs.PrintedLaws.{printed_literals_lex_to_their_trees, reprinted_literals_lex_to_themselves}
 

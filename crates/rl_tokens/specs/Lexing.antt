@@ -1,6 +1,6 @@
 -- The relation between a text and its token trees: the text's tokens, and the groups that they form.
 pub use Rattle.rl_lexer.specs.Cuts.{LexedToken, end_of, LexesUpTo, is_pair, is_opener, is_closer, OpenGroup, closes, popped, after_delimiter, after_form, after_lexeme, open_groups, begins_doc_comment, begins_lifetime, BeginsQuote, BeginsLexeme, BeginsNoLexeme, ErrorAt, innermost, error_place, HasFirstError, LeavesRestAt, Rejects, OneError}
-use Rattle.std.specs.Prelude.{◌≡◌, ℕ, ◌||◌, ◌==◌, List, [], map, encode_utf8_all, Some, if◌then◌else◌}
+use Rattle.std.specs.Prelude.{◌≡◌, ◌⊎◌, ℕ, ◌||◌, ◌==◌, List, [], map, encode_utf8_all, Some, if◌then◌else◌}
 use Prim.Native.Char.{code}
 use Rattle.rl_syntax.specs.declared.span.Span.{Span}
 use Rattle.rl_tokens.specs.declared.token.Delimiter.{Delimiter}
@@ -47,3 +47,9 @@ abbrev pub NeverBoth : Type 0
 NeverBoth =
     (t : List ℕ) (file : ℕ) (trees : List Tree) (k : LexKind) (at : ℕ) → Lexes t file trees
     → HasFirstError t k at → ⊥
+
+-- A theorem: each text is lexed into token trees, or has a first error.
+abbrev pub ATextLexesOrHasAnError : Type 0
+ATextLexesOrHasAnError =
+    (t : List ℕ) (file : ℕ)
+    → ((trees : List Tree) × Lexes t file trees) ⊎ ((kind : LexKind) × (at : ℕ) × HasFirstError t kind at)

@@ -1,15 +1,13 @@
 -- The token trees into which a printed list of literals is lexed. A printed list is a text of literals with separators
 -- between them.
-use Rattle.std.specs.Prelude.{◌≡◌, ◌≢◌, ℕ, ◌+◌, List, [], ◌∷◌, ◌++◌, ⊤, drop}
-use Rattle.std.specs.List.{AllByRecursion}
+use Rattle.std.specs.Prelude.{ℕ, ◌+◌, List, [], ◌∷◌, ◌++◌}
 use Prim.Native.Char.{code}
-use Rattle.rl_syntax.specs.Trivia.{IsTrivia}
 use Rattle.rl_tokens.specs.Trees.{Tree, IdentTree, PunctTree, LiteralTree}
-use Rattle.rl_lexer.specs.Lexemes.{Lexeme, lexeme_text, IsLexeme, LiteralForm, form_of}
+use Rattle.rl_lexer.specs.PrintedTokens.{Reprinted}
 use Rattle.rl_syntax.specs.Texts.{byte_len}
 use Rattle.rl_tokens.specs.Lexing.{Lexes}
 use Rattle.rl_syntax.specs.Reading.{truth_text}
-use Rattle.rl_syntax.specs.Printed.{Entry, Item, LiteralItem, MinusItem, Printed, WordItem, item_text, printed_text, token_at}
+use Rattle.rl_syntax.specs.Printed.{Entry, Item, LiteralItem, MinusItem, Printed, WordItem, item_text, token_at}
 
 -- The token trees of one item of a printed list of literals: a word `true` or `false`, a literal, or a minus and a
 -- literal. The item begins at the byte offset `at` of the file.
@@ -33,26 +31,6 @@ abbrev pub PrintedLiteralsLexToTheirTrees : Type 0
 PrintedLiteralsLexToTheirTrees =
     (t : List ℕ) (entries : List Entry) (last : List ℕ) (file : ℕ) → Printed t entries last
     → Lexes t file (printed_trees file 0 entries)
-
--- There is a text at whose start the lexer finds the given text as a literal token. The literal needn't be valid.
-abbrev pub IsLexedLiteral : List ℕ → Type 0
-IsLexedLiteral text =
-    (l : Lexeme) × (after : List ℕ) × IsLexeme l after × (form_of l ≡ LiteralForm)
-    × (text ≡ lexeme_text l)
-
-abbrev pub IsLexedItem : Item → Type 0
-IsLexedItem (WordItem truth) = ⊤
-IsLexedItem (LiteralItem text) = IsLexedLiteral text
-IsLexedItem (MinusItem text) = IsLexedLiteral text
-
--- The text `t` is a printed list of lexed literals: a separator, an item, a separator, and so on, up to the separator
--- `last`. Each item is a literal as the lexer finds it in some text, and each separator is trivia (white space and
--- plain comments). The first and the last separator may be empty. A separator between two items isn't empty.
-pub record Reprinted (t : List ℕ) (entries : List Entry) (last : List ℕ) : Type 0 where
-  pub items : AllByRecursion (λ e. IsTrivia e.gap × IsLexedItem e.item) entries
-  pub apart : AllByRecursion (λ e. e.gap ≢ []) (drop 1 entries)
-  pub last_gap : IsTrivia last
-  pub text : t ≡ printed_text entries last
 
 -- A theorem: a printed list of literals that were lexed from any text is lexed into the token trees of the list's items
 -- and no others.

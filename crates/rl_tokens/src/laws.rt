@@ -1,5 +1,6 @@
 //! Theorems about lexing. Each function here does nothing when it is called: its contract is a theorem about all texts.
 
+ghost use Rattle.rl_tokens.specs.Lexing.{ATextLexesOrHasAnError};
 ghost use Rattle.rl_tokens.specs.PrintedTrees.{PrintedLiteralsLexToTheirTrees, ReprintedLiteralsLexToThemselves};
 
 pub use rl_lexer::laws::{
@@ -23,4 +24,9 @@ pub fn printed_literals_lex_to_their_trees()
 /// literals were lexed from any text. The separators aren't empty.
 pub fn reprinted_literals_lex_to_themselves()
     ensures { ReprintedLiteralsLexToThemselves }
+{}
+
+/// Proves that each text is lexed into token trees, or has a first error. No memory is needed for this.
+pub fn a_text_lexes_or_has_an_error()
+    ensures { ATextLexesOrHasAnError }
 {}

@@ -6,7 +6,8 @@ ghost use Rattle.rl_lexer.specs.declared.lex_error.LexKind.{LexKind};
 ghost use Rattle.rl_tokens.specs.Lexing.{Lexes, OneList, NeverBoth};
 ghost use Rattle.rl_lexer.specs.Cuts.{Rejects, OneError};
 ghost use Rattle.rl_syntax.specs.Printed.{Entry, Printed};
-ghost use Rattle.rl_tokens.specs.PrintedTrees.{Reprinted, printed_trees};
+ghost use Rattle.rl_lexer.specs.PrintedTokens.{Reprinted};
+ghost use Rattle.rl_tokens.specs.PrintedTrees.{printed_trees};
 ghost use Rattle.rl_tokens.specs.Trees.{stream_view};
 
 use crate::nest::TreeBuilder;

@@ -1,8 +1,7 @@
 //! The program `rl_tool`. It reads literals or attributes, and prints the kind, the value and the suffix of each literal.
 #![tactic(auto)]
 
-use rl_commands::run_with_arguments;
-use rl_program::{arguments, finish};
+use rl_program::{arguments, finish, run_with_arguments};
 use std::process::ExitCode;
 
 fn main(rt: HostRuntime) -> ExitCode {

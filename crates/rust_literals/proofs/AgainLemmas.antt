@@ -1,7 +1,7 @@
 -- If the texts of parsed literals are joined with separators between them, the joined text is parsed as the same
 -- literals.
 use Rattle.rl_lenient.proofs.Names.{HasReading, SpannedText, byte_len}
-use Rattle.rl_syntax.proofs.Common.{AllByRecursion, List, Result, [], ap, chars, drop, encode_utf8_all, refl, subst, sym, ℕ, ◌++◌, ◌+◌, ◌∙◌, ◌∷◌, ◌≡◌, ◌≢◌}
+use Rattle.rl_syntax.proofs.Common.{AllByRecursion, IsUtf8, List, Result, [], ap, chars, drop, encode_utf8_all, refl, subst, sym, ℕ, ◌++◌, ◌+◌, ◌∙◌, ◌∷◌, ◌≡◌, ◌≢◌}
 use Rattle.std.specs.Prelude.{Vec}
 use Rattle.std.proofs.lemmas.Str.{scalars-chars}
 use Rattle.rl_tokens.specs.declared.error.Error.{Error}
@@ -9,7 +9,8 @@ use Rattle.rl_syntax.specs.Trivia.{IsTrivia}
 use Rattle.rl_tokens.specs.Trees.{Tree, IdentTree, PunctTree, LiteralTree}
 use Rattle.rl_fronts.specs.Fronts.{IsFront}
 use Rattle.rl_syntax.specs.Printed.{Item, WordItem, LiteralItem, MinusItem, item_text, Entry, printed_text, token_at}
-use Rattle.rl_tokens.specs.PrintedTrees.{printed_trees, IsLexedItem, Reprinted}
+use Rattle.rl_lexer.specs.PrintedTokens.{IsLexedItem, Reprinted}
+use Rattle.rl_tokens.specs.PrintedTrees.{printed_trees}
 use Rattle.rl_tokens.proofs.CutTrees.{IsCutTree, lexed_trees}
 use Rattle.rl_tokens.proofs.PrintedLaws.{reprinted_literals_lex_to_themselves}
 use Rattle.rl_lenient.proofs.MinusLemmas.{minus_chars}
@@ -172,12 +173,12 @@ items_moved file at (s ∷ ss) (c, cuts) =
 -- an allocation failure.
 pub again_read : {A B : Type 0} (text : List ℕ) (file : ℕ) (r : Result (Vec (Lit A) B) (Error A))
     → ((list : List (Lit A)) → AreRead (chars text) file list → HoldsOrMemory (λ found. found ≡ list) r)
-    → (spaced : List (Spaced A)) (last : List ℕ) → IsReprint (chars text) spaced last
+    → (source : List ℕ) (origin : ℕ) (spaced : List (Spaced A)) (last : List ℕ) → IsUtf8 source
+    → AreRead (chars source) origin (lits_of spaced) → IsReprint (chars text) spaced last
     → HoldsOrMemory (SameButSpans (lits_of spaced)) r
-again_read text file r exactly spaced last again =
-    let read = again.are_read in
-    let cuts = leads_cut read.trees (lits_of spaced) (lexed_trees (chars again.source) again.file read.trees
-    (scalars-chars again.source again.is_text) read.lexes) read.leads in
+again_read text file r exactly source origin spaced last is_text read again =
+    let cuts = leads_cut read.trees (lits_of spaced) (lexed_trees (chars source) origin read.trees
+    (scalars-chars source is_text) read.lexes) read.leads in
     let entries = entries_of spaced cuts in
     let reprinted : Reprinted (chars text) entries last = record {
       items = items_cut spaced cuts again.gaps;

@@ -6,7 +6,7 @@ use Rattle.rl_syntax.specs.Texts.{SpannedText}
 use Rattle.rl_tokens.specs.Trees.{Tree, GroupTree, IdentTree, PunctTree, LiteralTree, FlatToken, flat_trees}
 use Rattle.rl_tokens.specs.Lexing.{flat_token, Lexes}
 use Rattle.rl_fronts.specs.Fronts.{IsFront, HasNoFront}
-use Rattle.rl_tokens.proofs.CutLaws.{begins_cut}
+use Rattle.rl_tokens.proofs.CutLaws.{begins_flat}
 use Rattle.rl_fronts.proofs.FrontLemmas.{one_front}
 use Rattle.rust_literals.specs.declared.lit.Lit.{Lit}
 use Rattle.rust_literals.specs.Parsing.{ReadsLiterals}
@@ -41,9 +41,9 @@ pub goes_on : {A : Type 0} (text : List ℕ) (file : ℕ) (list : List (Lit A)) 
     → AreBegun text file list → Lexes text file trees → (following : List Tree) × ReadsLiterals trees list following
 goes_on text file list trees begun lexes =
     let read = begun.read in
-    let (more, same) = begins_cut 0 text read.cuts.cuts lexes.cuts begun.rest read.cuts.are_cuts lexes.are_cuts in
+    let (more, same) = begins_flat 0 file text read.cuts.cuts lexes.cuts begun.rest read.cuts.are_cuts lexes.are_cuts in
     let flat : flat_trees trees ≡ flat_trees read.trees ++ map (flat_token file) more =
-    sym lexes.flat_is ∙ same file ∙ ap (λ z. z ++ map (flat_token file) more) read.cuts.flat_is in
+    sym lexes.flat_is ∙ same ∙ ap (λ z. z ++ map (flat_token file) more) read.cuts.flat_is in
     let (following, is) = front_trees read.trees trees (map (flat_token file) more) read.cuts.no_groups flat in
     (following, subst (λ (ts : List Tree). ReadsLiterals ts list following) (sym is) (read.leads following))
 

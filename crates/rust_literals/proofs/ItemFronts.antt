@@ -10,7 +10,7 @@ use Rattle.rl_fronts.specs.Fronts.{joined_span, joined, IsFront}
 use Rattle.rl_syntax.specs.Printed.{Item, WordItem, LiteralItem, MinusItem, item_text, Entry, token_at}
 use Rattle.rl_tokens.specs.PrintedTrees.{item_trees, printed_trees}
 use Rattle.rl_syntax.proofs.LowBytes.{low_front}
-use Rattle.rl_fronts.proofs.FrontLemmas.{truth_reads}
+use Rattle.rl_lenient.proofs.StrictItems.{truth_reads}
 use Rattle.rust_literals.proofs.LitLemmas.{SpellsWords}
 use Rattle.rust_literals.specs.declared.lit.Lit.{Lit}
 use Rattle.rust_literals.specs.Literals.{IsReadFrom}

@@ -11,13 +11,13 @@ use Rattle.rl_syntax.specs.Printed.{Item, WordItem, LiteralItem, MinusItem, item
 use Rattle.rl_tokens.specs.PrintedTrees.{printed_trees}
 use Rattle.rl_syntax.proofs.Basics.{scalars_parts}
 use Rattle.rl_tokens.proofs.PrintedLaws.{printed_literals_lex_to_their_trees}
-use Rattle.rl_fronts.proofs.FrontLemmas.{truth_reads}
+use Rattle.rl_lenient.proofs.StrictItems.{item_is, truth_reads}
 use Rattle.rust_literals.specs.declared.lit.Lit.{Lit}
 use Rattle.rust_literals.specs.Parsing.{AreRead}
 use Rattle.rust_literals.specs.ReadBack.{HoldsOrMemory, IsItemRead, AreItems}
 use Rattle.rust_literals.proofs.LitLemmas.{read_lit}
 use Rattle.rust_literals.proofs.ItemFronts.{IsFrontItem, AreReadAt, items_lead, spells_words}
-use Rattle.rust_literals.proofs.StrictLits.{lit_from, item_is}
+use Rattle.rust_literals.proofs.StrictLits.{lit_from}
 
 -- Each item of a printed list of literals, a literal by Rust's grammar or a minus and a number, is also a literal of
 -- the lenient grammar.

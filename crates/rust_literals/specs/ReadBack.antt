@@ -1,32 +1,20 @@
 -- The literals that are parsed from a printed list of literals: a text of literals with separators between them.
-use Rattle.std.specs.Prelude.{◌≡◌, ℕ, ◌+◌, List, [], ◌∷◌, Some, IsTrue, Result, Ok, Err, Vec}
-use Prim.Native.Char.{code}
+use Rattle.std.specs.Prelude.{◌≡◌, ℕ, ◌+◌, List, [], ◌∷◌, Some, Result, Ok, Err, Vec}
 use Rattle.std.specs.Str.{chars, encode_utf8_all}
 use Rattle.rl_syntax.specs.declared.kind.Kind.{Kind}
 use Rattle.rl_tokens.specs.declared.error.Error.{Error}
 use Rattle.rl_tokens.specs.declared.error.ErrorKind.TheVariants.{Memory}
-use Rattle.rl_syntax.specs.Reading.{ReadsAs, Contents, Digits, truth_text}
+use Rattle.rl_syntax.specs.Reading.{ReadsAs, Contents}
 use Rattle.rl_syntax.specs.Texts.{byte_len}
-use Rattle.rl_syntax.specs.Printed.{Item, item_text, Entry, token_at, WordItem, LiteralItem, MinusItem}
+use Rattle.rl_syntax.specs.Printed.{Item, item_text, Entry, token_at, IsItemOf}
 use Rattle.rust_literals.specs.declared.lit.Lit.{Lit}
 use Rattle.rust_literals.specs.Literals.{kind_of, IsReadFrom, IsLitOf}
-use Rattle.rl_syntax.specs.Strict.{Strict}
-use Rattle.rl_syntax.specs.Quoted.{is_number}
 
 -- The result is a list of literals with the property `holds`, or the error for an allocation failure.
 abbrev pub HoldsOrMemory : {A B : Type 0} → (List (Lit A) → Type 0)
     → Result (Vec (Lit A) B) (Error A) → Type 0
 HoldsOrMemory holds (Ok found) = holds found.items
 HoldsOrMemory holds (Err e) = e.kind ≡ Memory
-
--- The kind, value and suffix of an item of a printed list of literals by Rust's grammar. The value of a minus and a
--- number is the number's digits with `-` before them.
-abbrev pub IsItemOf : Kind → Contents → List ℕ → Item → Type 0
-IsItemOf kind contents suffix (WordItem truth) = Strict (truth_text truth) kind contents suffix
-IsItemOf kind contents suffix (LiteralItem text) = Strict text kind contents suffix
-IsItemOf kind contents suffix (MinusItem text) =
-    (digits : List ℕ) × IsTrue (is_number kind) × Strict text kind (Digits digits) suffix
-    × (contents ≡ Digits (code "-" ∷ digits))
 
 -- The literal `lit` is parsed from the item `item` of a printed list of literals, which begins at the byte offset `at`
 -- of the file. The literal has the item's text and byte range, and the kind, value and suffix that Rust's grammar gives

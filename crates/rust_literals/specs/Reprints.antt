@@ -1,13 +1,12 @@
 -- The literals that are parsed from the texts of literals that were parsed before.
 use Rattle.std.specs.Prelude.{◌≡◌, ◌≢◌, ℕ, List, [], ◌∷◌, ◌++◌, map, drop}
-use Rattle.std.specs.Str.{chars, IsUtf8}
+use Rattle.std.specs.Str.{chars}
 use Rattle.std.specs.List.{AllByRecursion}
 use Rattle.rl_syntax.specs.declared.span.Span.{Span}
 use Rattle.rl_syntax.specs.Trivia.{IsTrivia}
 use Rattle.rust_literals.specs.declared.lit.Lit.{Lit}
 use Rattle.rust_literals.specs.Literals.{token_of}
 use Rattle.rust_literals.specs.LitParts.{IsSameAt}
-use Rattle.rust_literals.specs.Parsing.{AreRead}
 
 -- A literal's text as written, as a list of characters.
 abbrev pub lit_text : {A : Type 0} → Lit A → List ℕ
@@ -27,18 +26,14 @@ abbrev pub lits_of : {A : Type 0} → List (Spaced A) → List (Lit A)
 lits_of spaced = map (λ s. s.lit) spaced
 
 -- The text `t` is a separator, a literal, a separator, and so on, up to the separator `last`. Each separator is trivia
--- (white space and plain comments), and the literals are all the literals of some text `source`. The first and the last
--- separator may be empty. A separator between two literals isn't empty.
+-- (white space and plain comments). The first and the last separator may be empty. A separator between two literals
+-- isn't empty.
 pub record IsReprint {A : Type 0} (t : List ℕ) (spaced : List (Spaced A)) (last : List ℕ)
     : Type 0 where
   pub gaps : AllByRecursion (λ s. IsTrivia s.gap) spaced
   pub apart : AllByRecursion (λ s. s.gap ≢ []) (drop 1 spaced)
   pub last_gap : IsTrivia last
   pub text : t ≡ spaced_text spaced last
-  pub source : List ℕ
-  pub is_text : IsUtf8 source
-  pub file : ℕ
-  pub are_read : AreRead (chars source) file (lits_of spaced)
 
 -- The literals of the second list equal the literals of the first list one by one, except for their spans.
 abbrev pub SameButSpans : {A : Type 0} → List (Lit A) → List (Lit A) → Type 0

@@ -1,7 +1,7 @@
 //! The function that returns all literals of a text.
 
 ghost use Rattle.std.specs.Prelude.{◌≡◌, ◌⊎◌, ℕ, List, [], ◌++◌, length, IfOk, IfErr};
-ghost use Rattle.std.specs.Str.{chars};
+ghost use Rattle.std.specs.Str.{chars, IsUtf8};
 ghost use Rattle.rl_tokens.specs.Buffers.{trees_in, scope_of};
 ghost use Rattle.rl_tokens.specs.Trees.{Tree};
 ghost use Rattle.rl_syntax.specs.Printed.{Entry, Printed};
@@ -141,9 +141,11 @@ pub fn read_all<A: Allocator + Copy>(
     // the list's items, each with its byte range, or an allocation failed.
     ensures printed { (entries : List Entry) (last : List ℕ) → Printed (chars text.now) entries last
         → HoldsOrMemory (AreItems file 0 entries) result }
-    // If the text consists of the texts of literals that were read before, with white space or comments between them,
-    // the result is the same literals, or an allocation failed. The literals needn't be valid by Rust's grammar.
-    ensures again { (spaced : List (Spaced A)) (last : List ℕ)
+    // If the text consists of the texts of literals that were read from a text `source`, with white space or comments
+    // between them, the result is the same literals, or an allocation failed. The literals needn't be valid by Rust's
+    // grammar.
+    ensures again { (source : List ℕ) (origin : ℕ) (spaced : List (Spaced A)) (last : List ℕ)
+        → IsUtf8 source → AreRead (chars source) origin (lits_of spaced)
         → IsReprint (chars text.now) spaced last
         → HoldsOrMemory (SameButSpans (lits_of spaced)) result }
 {

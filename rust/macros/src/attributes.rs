@@ -19,17 +19,8 @@ fn without_spaces(tokens: TokenStream) -> String {
 }
 
 /// Returns a slice of triples: for each error its message, and the source text at its first and at its last token.
-pub fn shown_errors(error: &MacroError) -> TokenStream {
-    let trees: Vec<TokenTree> = error.to_compile_error().into_iter().collect();
-    // A call `::core::compile_error!{..}` consists of eight token trees.
-    let shown = trees.chunks(8).map(|call| {
-        let TokenTree::Group(message) = &call[7] else {
-            panic!("no call of compile_error")
-        };
-        let (first, last) = (source(call[0].span()), source(call[7].span()));
-        format!("({}, {first}, {last}),", message.stream())
-    });
-    tokens_of(&format!("&[{}]", shown.collect::<String>()))
+fn shown_errors(error: MacroError) -> TokenStream {
+    tokens_of(&format!("&{}", crate::shown_errors(error)))
 }
 
 /// Returns an entry's name, the source text at its span, its form and its tokens, as the source text of a tuple.
@@ -51,6 +42,7 @@ fn shown_entry(meta: &Meta) -> String {
         (Err(_), Err(_)) => ("flag", TokenStream::new()),
         (Ok(_), Ok(_)) => panic!("a value and a list"),
     };
+    assert_eq!(format!("{:?}", meta.form()).to_lowercase(), form);
     let tokens = write_str(&without_spaces(tokens));
     format!("({name}, {at}, \"{form}\", {tokens}, \"\"),")
 }
@@ -63,7 +55,7 @@ pub fn entries(input: TokenStream) -> TokenStream {
             let shown: String = metas.iter().map(shown_entry).collect();
             tokens_of(&format!("&[{shown}]"))
         }
-        Err(error) => shown_errors(&error),
+        Err(error) => shown_errors(error),
     }
 }
 
@@ -107,8 +99,22 @@ fn read(attrs: &Attrs) -> Result<String, MacroError> {
 pub fn options(input: TokenStream) -> TokenStream {
     match Attrs::parse(input).and_then(|attrs| read(&attrs)) {
         Ok(shown) => tokens_of(&shown),
-        Err(error) => shown_errors(&error),
+        Err(error) => shown_errors(error),
     }
+}
+
+/// Returns the result of [`read`] for the input of an attribute macro.
+pub fn checked(input: TokenStream) -> Result<TokenStream, MacroError> {
+    Ok(tokens_of(&read(&Attrs::parse(input)?)?))
+}
+
+/// Returns the number of entries in the attributes `#[opt(..)]` before an item. The name `a::b` may not be repeated.
+pub fn counted(item: TokenStream) -> Result<TokenStream, MacroError> {
+    let metas = next_attributes(&mut item.into_iter().peekable())?;
+    let attrs = Attrs::join("opt", &metas)?;
+    attrs.get("a::b")?;
+    let count = attrs.entries().len();
+    Ok(tokens_of(&count.to_string()))
 }
 
 /// Returns the result of [`read`] for the input as the content of `#[..]`, or the errors.
@@ -116,7 +122,7 @@ pub fn attribute(input: TokenStream) -> TokenStream {
     let attrs = Meta::parse(input).and_then(|meta| meta.list());
     match attrs.and_then(|attrs| read(&attrs)) {
         Ok(shown) => tokens_of(&shown),
-        Err(error) => shown_errors(&error),
+        Err(error) => shown_errors(error),
     }
 }
 
@@ -135,7 +141,7 @@ pub fn joined(item: TokenStream) -> TokenStream {
     });
     match shown {
         Ok(shown) => tokens_of(&shown),
-        Err(error) => shown_errors(&error),
+        Err(error) => shown_errors(error),
     }
 }
 
@@ -162,6 +168,29 @@ fn of_described(brackets: &Group) -> Result<Option<Attrs>, MacroError> {
     (meta.name() == "described")
         .then(|| meta.list())
         .transpose()
+}
+
+/// Returns an array with a triple for each integer of the input's list, as [`crate::digits`] says.
+pub fn digits(input: TokenStream) -> Result<TokenStream, MacroError> {
+    let mut shown = String::new();
+    let meta = Meta::parse(input)?;
+    for number in meta.literals::<LitInt>()? {
+        if number.magnitude() > 9 {
+            return Err(number.error("expected a digit"));
+        }
+        let at: Vec<String> = number
+            .to_token_stream()?
+            .into_iter()
+            .map(|it| source(it.span()))
+            .collect();
+        shown += &format!(
+            "({}, {}, {}),",
+            write_str(number.text()),
+            at[0],
+            at[at.len() - 1]
+        );
+    }
+    Ok(tokens_of(&format!("[{shown}]")))
 }
 
 /// Implements `description()` for a struct, from its attributes `#[described(text = "..", level = 1)]`.
@@ -198,14 +227,14 @@ pub fn converted(input: TokenStream) -> TokenStream {
     assert_eq!(moved.join().expect("no panic"), "other");
     let words = panic_on_another_thread(MacroError::new("other", Span::call_site()));
     assert!(words.contains("procedural macro"), "{words}");
-    shown_errors(&error)
+    shown_errors(error)
 }
 
 /// Returns an error at the value of each entry, in the form of the errors of `entries`.
 pub fn at_values(input: TokenStream) -> TokenStream {
     let metas = Meta::parse_all(input).expect("entries");
     let errors = metas.iter().map(|meta| meta.value_error(meta.name()));
-    shown_errors(&MacroError::combine_all(errors).expect_err("an entry"))
+    shown_errors(MacroError::combine_all(errors).expect_err("an entry"))
 }
 
 /// Returns the message of the panic of `span` on another thread. There the span is that of the call of the thread's own macro. But

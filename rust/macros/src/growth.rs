@@ -1,6 +1,6 @@
 //! Measures how the time of the package's calls grows with the length of a macro's input.
 
-use navyspindle::{next_literal, parse_macro_settings, LitStr, MacroError, MacroInput, Meta};
+use navyspindle::{next_literal, LitStr, MacroError, MacroInput, Meta};
 use proc_macro::TokenStream;
 use std::time::{Duration, Instant};
 use std::{fs, thread};
@@ -12,7 +12,10 @@ const LONG: usize = 32 * SHORT;
 type Call = fn(TokenStream);
 
 fn read_settings(input: TokenStream) {
-    assert!(parse_macro_settings(input).is_ok_and(|entries| entries.len() >= SHORT));
+    let text = MacroInput::of(input);
+    assert!(text
+        .settings()
+        .is_ok_and(|settings| settings.entries().len() >= SHORT));
 }
 
 /// Converts the range of each setting of the text to spans, as the errors of settings do.
@@ -98,7 +101,7 @@ fn grows_in_step(few: Duration, many: Duration) -> bool {
 /// Iterates over the measured calls, each with each value that the settings of its input have.
 fn calls() -> impl Iterator<Item = (&'static str, Call, &'static str)> {
     let calls: [(&str, Call); 5] = [
-        ("parse_macro_settings", read_settings),
+        ("MacroInput::settings", read_settings),
         ("MacroInput::spans", place_settings),
         ("next_literal", read_literals),
         ("Meta::parse_all", read_entries),

@@ -6,8 +6,8 @@ mod places;
 mod written;
 
 use navyspindle::{
-    next_literal, next_literal_of, next_value, only_literal_of, parse_macro_settings, write_str,
-    AtSpan, Key, Lit, LitInt, LitStr, MacroError, MacroInput,
+    next_literal, next_literal_of, next_value, only_literal_of, write_str, AtSpan, Key, Lit,
+    LitInt, LitStr, MacroError, MacroInput,
 };
 use proc_macro::{Punct, Spacing, Span, TokenStream, TokenTree};
 use std::iter::Peekable;
@@ -135,7 +135,7 @@ pub fn entries_of(input: TokenStream) -> TokenStream {
     };
     match pairs(input) {
         Ok(pairs) => tokens_of(&format!("[{pairs}]")),
-        Err(error) => shown_errors(error.to_compile_error()),
+        Err(error) => shown_errors(error),
     }
 }
 
@@ -144,7 +144,7 @@ pub fn entries_of(input: TokenStream) -> TokenStream {
 pub fn whole(input: TokenStream) -> TokenStream {
     let tokens =
         Lit::try_from(input).and_then(|literal| literal.to_token_stream(Span::call_site()));
-    tokens.unwrap_or_else(|error| shown_errors(error.to_compile_error()))
+    tokens.unwrap_or_else(|error| shown_errors(error))
 }
 
 /// Returns a string literal with the value of the string that is the whole input, or the error in the form of `strings_errors`.
@@ -152,7 +152,7 @@ pub fn whole(input: TokenStream) -> TokenStream {
 pub fn whole_string(input: TokenStream) -> TokenStream {
     match LitStr::try_from(input) {
         Ok(literal) => tokens_of(&write_str(&literal.value())),
-        Err(error) => shown_errors(error.to_compile_error()),
+        Err(error) => shown_errors(error),
     }
 }
 
@@ -169,7 +169,7 @@ pub fn only_string(input: TokenStream) -> TokenStream {
                 write_str(&place)
             ))
         }
-        Err(error) => shown_errors(error.to_compile_error()),
+        Err(error) => shown_errors(error),
     }
 }
 
@@ -184,7 +184,7 @@ pub fn small(input: TokenStream) -> TokenStream {
     };
     match value(input) {
         Ok(value) => tokens_of(&format!("{value}u8")),
-        Err(error) => shown_errors(error.to_compile_error()),
+        Err(error) => shown_errors(error),
     }
 }
 
@@ -227,27 +227,29 @@ pub fn strings(input: TokenStream) -> TokenStream {
     or_error(no_strings(input).map(|()| TokenStream::new()))
 }
 
-/// Returns an array with a triple for each call of `compile_error!` to which `strings` expands: its message, and the source text at
-/// the first and at the last token of the error.
+/// Returns an array with a triple for each error that `strings` reports: its message, and the source text at the first and at the last
+/// token of the error.
 #[proc_macro]
 pub fn strings_errors(input: TokenStream) -> TokenStream {
-    shown_errors(strings(input))
+    match no_strings(input) {
+        Ok(()) => tokens_of("[]"),
+        Err(error) => shown_errors(error),
+    }
 }
 
-/// Returns the array of triples of `strings_errors` for these calls of `compile_error!`.
-fn shown_errors(errors: TokenStream) -> TokenStream {
-    let trees: Vec<TokenTree> = errors.into_iter().collect();
+/// Returns the array of triples of `strings_errors` for the errors that are combined in `error`.
+fn shown_errors(error: MacroError) -> TokenStream {
     let source = |tree: &TokenTree| write_str(&tree.span().source_text().expect("a source"));
-    // A call `::core::compile_error!{..}` consists of eight token trees.
-    let shown = trees.chunks(8).map(|call| match call {
-        [first, .., TokenTree::Group(message)] => {
-            let (first, last) = (source(first), source(&call[7]));
-            let text = message.stream().into_iter().next().expect("a message");
-            // If a compiler marks the message, it marks the last token of the error, because the message has that token's span.
-            assert_eq!(source(&text), last);
-            format!("({text}, {first}, {last}),")
-        }
-        _ => panic!("no call of compile_error"),
+    let shown = error.into_iter().map(|error| {
+        let call: Vec<TokenTree> = error.to_compile_error().into_iter().collect();
+        let TokenTree::Group(message) = &call[7] else {
+            panic!("no call of compile_error")
+        };
+        let (first, last) = (source(&call[0]), source(&call[7]));
+        let text = message.stream().into_iter().next().expect("a message");
+        // If a compiler marks the message, it marks the last token of the error, because the message has that token's span.
+        assert_eq!(source(&text), last);
+        format!("({text}, {first}, {last}),")
     });
     tokens_of(&format!("[{}]", shown.collect::<String>()))
 }
@@ -271,13 +273,21 @@ pub fn written(input: TokenStream) -> TokenStream {
 pub fn settings(input: TokenStream) -> TokenStream {
     let shown = |text: &str| write_str(text);
     let source = |span: Span| shown(&span.source_text().expect("a source"));
-    match parse_macro_settings(input) {
-        Ok(entries) => {
-            let entries = entries.iter().map(|entry| {
-                let (name, value) = (shown(&entry.name), shown(entry.value.text()));
-                let (name_at, value_offset) = (source(entry.name_span), source(entry.value_span));
-                let minus_at = entry.minus_span.map_or("\"\"".into(), source);
-                format!("({name}, {value}, {name_at}, {minus_at}, {value_offset}),")
+    let text = MacroInput::of(input);
+    match text.settings() {
+        Ok(settings) => {
+            let entries = settings.entries().iter().map(|entry| {
+                let (name, value) = (shown(entry.name), shown(entry.value.text()));
+                let name_at = source(text.spans(entry.name_range.clone()).0);
+                let (first, last) = text.spans(entry.value_range.clone());
+                let minus_at = match entry.value.text().starts_with('-') {
+                    true => source(first),
+                    false => "\"\"".into(),
+                };
+                format!(
+                    "({name}, {value}, {name_at}, {minus_at}, {}),",
+                    source(last)
+                )
             });
             tokens_of(&format!("[{}]", entries.collect::<String>()))
         }
@@ -325,9 +335,8 @@ pub fn joined_slashes(_: TokenStream) -> TokenStream {
     let slashes = [slash(Spacing::Joint), slash(Spacing::Alone)];
     let input = tokens_of("a = 1,").into_iter().chain(slashes);
     let input = input.chain(tokens_of("b = 2")).collect();
-    tokens_of(&write_str(
-        &parse_macro_settings(input).unwrap_err().to_string(),
-    ))
+    let error = MacroInput::of(input).settings().unwrap_err();
+    tokens_of(&write_str(&error.to_string()))
 }
 
 /// Returns a string literal with the names of the package's calls that take more time per setting for a long input than for a short
@@ -420,4 +429,45 @@ pub fn converted(input: TokenStream) -> TokenStream {
 #[proc_macro]
 pub fn at_values(input: TokenStream) -> TokenStream {
     attributes::at_values(input)
+}
+
+/// Returns the settings in the input of an attribute macro, read by name, as the source text of a tuple.
+#[proc_macro]
+pub fn checked(input: TokenStream) -> TokenStream {
+    or_error(attributes::checked(input))
+}
+
+/// Returns the number of entries in the attributes `#[opt(..)]` before an item.
+#[proc_macro]
+pub fn counted(item: TokenStream) -> TokenStream {
+    or_error(attributes::counted(item))
+}
+
+/// Returns the values of the settings `name` and `size`.
+#[proc_macro]
+pub fn checked_settings(input: TokenStream) -> TokenStream {
+    or_error(
+        named_size(input)
+            .map(|(name, size)| tokens_of(&format!("({}, {size}u8)", write_str(&name)))),
+    )
+}
+
+/// Returns the string that is the whole input and has no brace, as it was read. A brace is an error inside of the string, whose form is
+/// that of `strings_errors`.
+#[proc_macro]
+pub fn without_brace(input: TokenStream) -> TokenStream {
+    match places::without_brace(input) {
+        Ok(tokens) => tokens,
+        Err(error) => shown_errors(error),
+    }
+}
+
+/// Returns an array with a triple for each integer in the input's list: its text, and the source texts at the tokens that it is
+/// converted to. An integer above 9 is an error with its minus. The form of errors is that of `strings_errors`.
+#[proc_macro]
+pub fn digits(input: TokenStream) -> TokenStream {
+    match attributes::digits(input) {
+        Ok(tokens) => tokens,
+        Err(error) => shown_errors(error),
+    }
 }

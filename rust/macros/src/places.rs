@@ -1,7 +1,7 @@
 //! Macros that return the spans of literals and errors, as source texts.
 
 use crate::{take_comma, tokens_of};
-use navyspindle::{next_literal, write_str, Kind, Lit, LitByte, MacroError};
+use navyspindle::{next_literal, write_str, Kind, Lit, LitByte, LitStr, Located, MacroError};
 use proc_macro::{Span, TokenStream};
 
 /// Returns the source text at a span, as a string literal.
@@ -34,8 +34,7 @@ fn errors_of_bytes(input: &TokenStream) -> Vec<MacroError> {
 
 /// Returns an error's message, the source text at its span, and the number of errors that are combined in it.
 fn shown(error: &MacroError) -> String {
-    // A call `::core::compile_error!{..}` consists of eight token trees.
-    let count = error.to_compile_error().into_iter().count() / 8;
+    let count = error.clone().into_iter().count();
     let message = write_str(&error.to_string());
     format!("({message}, {}, {count}),", source(error.span()))
 }
@@ -55,7 +54,7 @@ pub fn errors(input: &TokenStream) -> TokenStream {
 /// Returns the errors of converting texts that Rust rejects to tokens, with the span of the input's first token.
 pub fn errors_of_tokens(input: TokenStream) -> TokenStream {
     let span = input.into_iter().next().expect("a token").span();
-    let error_of = |text: &str| Lit::new(text).to_token_stream(span).expect_err(text);
+    let error_of = |text: &str| Lit::of_text(text).to_token_stream(span).expect_err(text);
     let errors = ["word", "0b2", "\"\\q\"", "--1"].map(error_of);
     let errors: String = errors.iter().map(shown).collect();
     tokens_of(&format!("[{errors}]"))
@@ -64,13 +63,25 @@ pub fn errors_of_tokens(input: TokenStream) -> TokenStream {
 /// Returns errors that a macro creates from the spans of two token trees.
 pub fn made_errors(input: TokenStream) -> TokenStream {
     let spans: Vec<Span> = input.into_iter().map(|tree| tree.span()).collect();
+    let mut two = MacroError::new("four", spans[0]);
+    two.combine(MacroError::new("five", spans[0]));
     let made = [
         MacroError::new("one", spans[1]),
         MacroError::between(format_args!("{}{}", 't', "wo"), spans[0], spans[1]),
         MacroError::expected(Kind::CStr, Kind::Float, spans[1]),
         MacroError::new("three", spans[0]).at(spans[1]),
+        two.at(spans[1]),
     ];
     let padded = format!("[{:>4}] [{:<4}] [{:.1}]", made[0], made[0], made[1]);
     let made: String = made.iter().map(shown).collect();
     tokens_of(&format!("([{made}], {})", write_str(&padded)))
+}
+
+/// Returns the string that is the whole input and has no brace, as it was read.
+pub fn without_brace(input: TokenStream) -> Result<TokenStream, MacroError> {
+    let text = Located::<LitStr>::only(input)?;
+    match text.value().find('{') {
+        Some(at) => Err(text.error_inside(at..at + 1, "unexpected brace")),
+        None => text.to_token_stream(),
+    }
 }

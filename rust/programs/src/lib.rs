@@ -12,19 +12,18 @@ mod proved;
 pub mod rattle_std;
 
 use navyspindle::rendered::{
-    rl_cursors, rl_flaws, rl_lenient, rl_lexer, rl_settings, rl_strict, rl_style, rl_syntax,
-    rl_writing,
+    rl_cursors, rl_flaws, rl_lenient, rl_lexer, rl_strict, rl_style, rl_syntax, rl_writing,
 };
 #[cfg(not(feature = "__rendered"))]
 use proved::{
-    rl_attributes, rl_commands, rl_files, rl_fronts, rl_options, rl_output, rl_program, rl_quoted,
-    rl_restyle, rl_sources, rl_tokens, rust_literals,
+    rl_attributes, rl_files, rl_fronts, rl_program, rl_quoted, rl_restyle, rl_tokens,
+    rust_literals,
 };
 
 /// The libraries of the programs, for the tests.
 #[cfg(feature = "__rendered")]
 pub use proved::{
-    rl_attributes, rl_commands, rl_files, rl_fronts, rl_grammar, rl_options, rl_output, rl_program,
-    rl_quoted, rl_restyle, rl_sources, rl_tokens, rust_literals,
+    rl_attributes, rl_files, rl_fronts, rl_grammar, rl_program, rl_quoted, rl_restyle,
+    rl_tokens, rust_literals,
 };
 pub use proved::{rl_scan, rl_tool};

@@ -31,11 +31,18 @@ fn directory(name: &str, user: u32, group: u32, mode: u32) -> Option<PathBuf> {
     Some(here)
 }
 
-/// Runs the program on the file, as another user or as root. Checks its exit status and its line on standard error, and the text and
+/// Runs the program on the file, as another user or as root, with the umask. Checks its exit status and its line on standard error, and the text and
 /// the owners of the file.
-fn assert_fixed(here: &Path, as_root: bool, ended: (i32, &str), text: &str, owners: (u32, u32)) {
-    let mut command = Command::new(here.join("rl_scan"));
-    command.args(["--fix", "a.rs"]).current_dir(here);
+fn assert_fixed(
+    here: &Path,
+    (as_root, umask): (bool, &str),
+    ended: (i32, &str),
+    text: &str,
+    owners: (u32, u32),
+) {
+    let mut command = Command::new("sh");
+    command.current_dir(here);
+    command.args(["-c", &format!("umask {umask}; exec ./rl_scan --fix a.rs")]);
     if !as_root {
         command.uid(NOBODY).gid(NOBODY);
     }
@@ -59,24 +66,29 @@ const OLD: &str = "let a = 1E5;\n";
 const NEW: &str = "let a = 1e5;\n";
 const DENIED: &str = "rl_scan: a.rs: permission denied\n";
 const OWNERS: &str = "rl_scan: a.rs: its owner or group would change\n";
+const RIGHTS: &str = "rl_scan: a.rs: its permissions or access control list could change\n";
 
 /// The files are tested one after another. A program can't be run while its copy is open in a process that another thread starts.
 #[test]
 fn files_of_other_users() {
-    for (name, (user, group), mode, as_root, status, line) in [
-        ("denied", (USER, GROUP), 0o644, false, 2, DENIED),
-        ("of_root", (0, 0), 0o644, false, 2, DENIED),
-        ("readable", (NOBODY, NOBODY), 0o444, false, 2, DENIED),
-        ("owner", (USER, NOBODY), 0o664, false, 2, OWNERS),
-        ("any", (USER, GROUP), 0o666, false, 2, OWNERS),
-        ("group", (NOBODY, GROUP), 0o664, false, 2, OWNERS),
-        ("own", (NOBODY, NOBODY), 0o644, false, 0, ""),
-        ("by_root", (USER, GROUP), 0o640, true, 0, ""),
+    for (name, (user, group), mode, as_root, umask, status, line) in [
+        ("denied", (USER, GROUP), 0o644, false, "022", 2, DENIED),
+        ("of_root", (0, 0), 0o644, false, "022", 2, DENIED),
+        ("readable", (NOBODY, NOBODY), 0o444, false, "022", 2, DENIED),
+        ("owner", (USER, NOBODY), 0o664, false, "002", 2, OWNERS),
+        ("any", (USER, GROUP), 0o666, false, "022", 2, OWNERS),
+        ("group", (NOBODY, GROUP), 0o664, false, "002", 2, OWNERS),
+        ("own", (NOBODY, NOBODY), 0o644, false, "077", 0, ""),
+        ("by_root", (USER, GROUP), 0o640, true, "027", 0, ""),
+        ("may_read", (USER, GROUP), 0o640, true, "022", 2, RIGHTS),
+        ("may_write", (USER, GROUP), 0o664, true, "022", 2, RIGHTS),
+        ("may_run", (USER, GROUP), 0o654, true, "022", 2, RIGHTS),
+        ("mask", (USER, GROUP), 0o660, true, "002", 2, RIGHTS),
     ] {
         let Some(here) = directory(name, user, group, mode) else {
             return;
         };
         let text = if status == 0 { NEW } else { OLD };
-        assert_fixed(&here, as_root, (status, line), text, (user, group));
+        assert_fixed(&here, (as_root, umask), (status, line), text, (user, group));
     }
 }

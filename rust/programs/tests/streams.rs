@@ -70,24 +70,25 @@ fn arguments_that_are_not_texts() {
     }
 }
 
-/// A path that isn't UTF-8 is skipped, as an argument and in a list. The other paths are read. An option that isn't UTF-8 is an error.
+/// A path that isn't UTF-8 is an error, as an argument and in a list. The other paths are read. An option that isn't UTF-8 is an error
+/// of the arguments.
 #[test]
 fn paths_that_are_not_texts() {
-    let skipped = "rl_scan: a\\xff: skipped a path that is not UTF-8\n";
+    let unread = "rl_scan: a\\xff: the path is not UTF-8\n";
     let bad = OsStr::from_bytes(b"a\xff");
-    for (options, expected) in [(&[][..], 0), (&["--find"], 2), (&["-c", "--extension"], 2)] {
+    for options in [&[][..], &["--find"], &["-c", "--extension"]] {
         let mut command = rl_scan();
         let command = command
             .arg("--files")
             .args(options)
             .arg(bad)
             .arg("Cargo.toml");
-        let said = if expected == 0 {
-            skipped
+        let said = if options.is_empty() {
+            unread
         } else {
             "rl_scan: the argument 'a\\xff' is neither UTF-8 nor a path\n"
         };
-        assert_eq!(ended(command), (Some(expected), said.to_owned()));
+        assert_eq!(ended(command), (Some(2), said.to_owned()));
     }
     let mut child = rl_scan()
         .args(["--files", "--files-from", "-"])
@@ -104,8 +105,8 @@ fn paths_that_are_not_texts() {
         .unwrap();
     let done = child.wait_with_output().unwrap();
     assert_eq!(String::from_utf8(done.stdout).unwrap(), "Cargo.toml\n");
-    assert_eq!(String::from_utf8(done.stderr).unwrap(), skipped);
-    assert_eq!(done.status.code(), Some(0));
+    assert_eq!(String::from_utf8(done.stderr).unwrap(), unread);
+    assert_eq!(done.status.code(), Some(2));
 }
 
 /// Runs `rl_scan -l` in the directory. Returns the paths that it prints, the text on standard error, and its exit status.

@@ -7,10 +7,6 @@ pub mod rl_flaws;
 pub mod rl_lenient;
 #[cfg(any(feature = "sources", feature = "settings"))]
 pub mod rl_lexer;
-#[cfg(feature = "sources")]
-pub mod rl_recovery;
-#[cfg(any(feature = "sources", feature = "settings"))]
-pub mod rl_settings;
 pub mod rl_strict;
 #[cfg(feature = "style")]
 pub mod rl_style;

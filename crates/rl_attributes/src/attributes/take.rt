@@ -16,7 +16,7 @@ ghost use Rattle.rl_attributes.specs.AttributeSteps.{
 
 use super::name::Name;
 use super::{Attrs, Entry};
-use rl_settings::Part;
+use rl_cursors::Part;
 use rl_tokens::{Error, ErrorKind, Ident, Parse, ParseBuffer, Span, attempt};
 use rust_literals::Lit;
 use std::alloc::Allocator;

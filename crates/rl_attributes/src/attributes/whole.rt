@@ -14,8 +14,7 @@ ghost use Rattle.rl_attributes.specs.NextEntries.{value_token, IsEntryOf};
 
 use super::name::Name;
 use super::{Attrs, Entry};
-use rl_cursors::NextLiteral;
-use rl_settings::{NextSetting, SettingStep, first_error, next_setting};
+use rl_cursors::{NextLiteral, NextSetting, SettingStep, first_error, next_setting};
 use rl_tokens::{Error, Literal, Span, Tokens, parse_all};
 use rust_literals::Lit;
 use std::alloc::{AllocError, Allocator};

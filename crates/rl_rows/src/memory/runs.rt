@@ -5,9 +5,8 @@ use crate::memory::format_results::format_result;
 use crate::memory::trial::{Scarce, Trial};
 use crate::noted::HERE;
 use rl_attributes::Attrs;
-use rl_commands::Command;
-use rl_commands::run::run;
-use rl_program::Rejection;
+use rl_program::run::run;
+use rl_program::{Command, Rejection};
 use rl_tokens::{Parse, ParseBuffer};
 
 /// Runs a command on the text, and appends its result and the number of written bytes.

@@ -1,10 +1,10 @@
-//! An example of a function that calls `rl_recovery`.
+//! An example of a function that calls `leading_literal` of `rl_cursors`.
 
 ghost use Rattle.std.specs.Prelude.{◌≡◌, IfSome, IfNone};
-ghost use Rattle.rl_recovery.specs.declared.leading.LeadingLiteral.{LeadingLiteral};
-ghost use Rattle.rl_recovery.specs.Leading.{Leads, LeadsNone};
+ghost use Rattle.rl_cursors.specs.declared.leading.LeadingLiteral.{LeadingLiteral};
+ghost use Rattle.rl_cursors.specs.Leading.{Leads, LeadsNone};
 
-use rl_recovery::leading_literal;
+use rl_cursors::leading_literal;
 
 /// Returns the text of the literal at the start of `text`, or `None` if `text` doesn't begin with a literal.
 pub fn literal_at_start(text: &str) -> Option<&str>

@@ -95,6 +95,34 @@ fn commas_that_end_no_value() {
     assert_eq!(names, expected.map(|name| (name, "value")));
 }
 
+/// Types and casts, whose angle brackets follow a name, and comparisons beside them.
+#[test]
+fn commas_in_types() {
+    let found: &[Entry] = entries! {
+        a = x as &dyn I<A, Item = u8>,
+        b = HashMap<String, Vec<(u8, u8)>>,
+        c = fn(u8, u8) -> Map<u8, u8>,
+        d = &'a mut dyn I<A, Item = B> + Send,
+        e = I<A, B>::C,
+        f = x as F<A, B = C, D = E>,
+        g = x as M<T, U> - y,
+        h = &|x, y| x,
+        i = -<T as U<A, B>>::C,
+        j = || |x, y| x,
+        k = x < y, l = z > w,
+        m = x < y, n = z >= w,
+        o = x << y, p = z >> w,
+        q = x < <T as U<A, B>>::C, r = z > -1,
+        s = x < y, t = Map<K, V>
+    };
+    let names: Vec<_> = found.iter().map(|it| (it.0, it.2)).collect();
+    let expected = ('a'..='t').map(|name| (name.to_string(), "value"));
+    let expected: Vec<_> = expected.collect();
+    let expected: Vec<_> = expected.iter().map(|it| (&*it.0, it.1)).collect();
+    assert_eq!(names, expected);
+    assert_eq!(found[5].3, "xasF<A,B=C,D=E>");
+}
+
 /// Tokens that `macro_rules!` passes on are in groups without delimiters.
 #[test]
 fn passed_on() {
@@ -131,6 +159,14 @@ fn errors_of_entries() {
     assert_eq!(error!(a::b: 1), ("expected `=`", ":", ":"));
     assert_eq!(error!(a:), ("expected `=`", ":", ":"));
     assert_eq!(error!(:a), ("expected identifier", ":", ":"));
+    assert_eq!(error!(a : : b = 1), ("expected `=`", ":", ":"));
+    assert_eq!(error!(: :a), ("expected identifier", ":", ":"));
+    assert_eq!(error!(_ = 1), ("expected identifier", "_", "_"));
+    assert_eq!(error!(a::_), ("expected identifier", "_", "_"));
+    assert_eq!(error!(a = 1; b = 2), ("expected `,`", ";", ";"));
+    assert_eq!(error!(a; b), ("expected `,`", ";", ";"));
+    let message = "expected `,`: before `<` with a comma inside, write `::`";
+    assert_eq!(error!(a = x < y, b > z), (message, ">", ">"));
     assert_eq!(
         error!(a =),
         ("unexpected end of input, expected a value", "=", "=")
@@ -177,7 +213,14 @@ fn errors_by_name() {
         error!(name = "a"x),
         ("unexpected suffix `x`", "\"a\"x", "\"a\"x")
     );
-    assert_eq!(error!(name = f()), ("expected literal", "f", "f"));
+    assert_eq!(
+        error!(name = concat!("a")),
+        ("expected string literal", "concat", "concat")
+    );
+    assert_eq!(
+        error!(name = "a", size = -x),
+        ("expected integer literal", "x", "x")
+    );
     assert_eq!(error!(name = "a" "b"), ("expected `,`", "\"b\"", "\"b\""));
     assert_eq!(error!(name = "a", size = 1 + 2), ("expected `,`", "+", "+"));
     assert_eq!(
@@ -229,8 +272,12 @@ fn errors_by_name() {
         error!(name = "a", verbose(1)),
         ("unexpected list", "(", "(")
     );
-    let unexpected = "expected boolean literal, found integer literal";
-    assert_eq!(error!(name = "a", verbose = 1), (unexpected, "1", "1"));
+    let unexpected = "unexpected value: write `verbose` alone";
+    assert_eq!(error!(name = "a", verbose = -1), (unexpected, "-", "1"));
+    assert_eq!(
+        error!(name = "a", verbose = "yes"),
+        (unexpected, "\"yes\"", "\"yes\"")
+    );
     // The error for a missing name is at the macro's call.
     let (message, first, last) = error!(size = 1);
     assert_eq!(message, "missing `name`");
@@ -243,10 +290,14 @@ fn all_unknown_names_are_reported() {
     assert_eq!(
         errors,
         [
-            ("unknown name `nme`", "nme", "nme"),
-            ("unknown name `verbos`", "verbos", "verbos"),
+            ("unknown name `nme`: did you mean `name`?", "nme", "nme"),
+            (
+                "unknown name `verbos`: did you mean `verbose`?",
+                "verbos",
+                "verbos"
+            ),
             ("unknown name `a::b`", "a", "b"),
-            ("unknown name `Size`", "Size", "Size"),
+            ("unknown name `Size`: did you mean `size`?", "Size", "Size"),
         ]
     );
 }
@@ -333,8 +384,12 @@ fn errors_of_joined_attributes() {
     assert_eq!(
         errors,
         [
-            ("unknown name `nme`", "nme", "nme"),
-            ("unknown name `verbos`", "verbos", "verbos"),
+            ("unknown name `nme`: did you mean `name`?", "nme", "nme"),
+            (
+                "unknown name `verbos`: did you mean `verbose`?",
+                "verbos",
+                "verbos"
+            ),
         ]
     );
     let errors: Errors = joined!(#[a b] struct A;);

@@ -1,9 +1,9 @@
 //! Tests of literals that rustc passes to procedural macros.
 
 use navyspindle_macros::{
-    again, byte_errors, entries_of, errors_of_tokens, hex_bytes, joined_slashes, literals,
+    again, byte_errors, digits, entries_of, errors_of_tokens, hex_bytes, joined_slashes, literals,
     made_errors, named, only_string, placed, printed, settings, slow_calls, small, strings,
-    strings_errors, sum, sum_error, text, whole, whole_string, written,
+    strings_errors, sum, sum_error, text, whole, whole_string, without_brace, written,
 };
 use std::ffi::CStr;
 use std::fmt::Debug;
@@ -122,13 +122,13 @@ fn errors() {
     );
     assert_eq!(sum_error!(1 2), "expected `,`");
     assert_eq!(sum_error!(1, -"a"), "expected a number after the minus");
-    assert_eq!(sum_error!(--1), "expected literal");
+    assert_eq!(sum_error!(--1), "expected integer literal");
     assert_eq!(
         sum_error!(-340282366920938463463374607431768211456),
         "integer above 128 bits"
     );
-    assert_eq!(sum_error!(word), "expected literal");
-    assert_eq!(sum_error!((1)), "expected literal");
+    assert_eq!(sum_error!(word), "expected integer literal");
+    assert_eq!(sum_error!((1)), "expected integer literal");
     assert_eq!(
         sum_error!(1u9, 99999999999999999999999999999999999999999),
         "integer above 128 bits"
@@ -158,7 +158,10 @@ fn errors_inside_of_groups() {
         "expected a number after the minus"
     );
     assert_eq!(passed_expression!(sum: 0x10), 16);
-    assert_eq!(passed_expression!(sum_error: 1 + 2), "expected literal");
+    assert_eq!(
+        passed_expression!(sum_error: 1 + 2),
+        "expected integer literal"
+    );
 }
 
 #[test]
@@ -181,7 +184,7 @@ fn errors_have_a_place_and_others_after_them() {
             (&*format!("{expected}integer literal"), "1", 1),
             (&*format!("{expected}character literal"), "'a'", 1),
             (&*format!("{expected}boolean literal"), "true", 1),
-            ("expected literal", "word", 1),
+            ("expected byte literal", "word", 1),
             (&*format!("{expected}integer literal"), "1", 4),
         ]
     );
@@ -197,6 +200,7 @@ fn errors_have_a_place_and_others_after_them() {
                 1
             ),
             ("three", "second", 1),
+            ("four", "second", 2),
         ]
     );
     assert_eq!(padded, "[ one] [one ] [t]");
@@ -240,7 +244,7 @@ fn the_literal_that_is_the_whole_input() {
     );
     assert_eq!(whole_string!(-1), [(first, "-", "1")]);
     let [(message, ..)] = whole_string!();
-    assert_eq!(message, "unexpected end of input, expected literal");
+    assert_eq!(message, "unexpected end of input, expected string literal");
 }
 
 #[test]
@@ -256,7 +260,34 @@ fn the_only_literal_has_a_span() {
     let message = "expected string literal, found integer literal";
     assert_eq!(only_string!(-1), [(message, "-", "1")]);
     let [(message, ..)] = only_string!();
-    assert_eq!(message, "unexpected end of input, expected literal");
+    assert_eq!(message, "unexpected end of input, expected string literal");
+}
+
+#[test]
+fn errors_inside_of_strings() {
+    assert_eq!(without_brace!("a\x41"), "aA");
+    let text = r#""\x41é{b}""#;
+    let message = "unexpected brace\n\"\\x41é{b}\"\n      ^";
+    assert_eq!(without_brace!("\x41é{b}"), [(message, text, text)]);
+    let message = "expected string literal, found integer literal";
+    assert_eq!(without_brace!(-1), [(message, "-", "1")]);
+}
+
+#[test]
+fn literals_of_a_list() {
+    assert_eq!(
+        digits!(a(1, -0x2,)),
+        [("1", "1", "1"), ("-0x2", "-", "0x2")]
+    );
+    assert_eq!(digits!(a = [3]), [("3", "3", "3")]);
+    let none: [(&str, &str, &str); 0] = digits!(a[]);
+    assert_eq!(none, []);
+    assert_eq!(digits!(a(1, -10)), [("expected a digit", "-", "10")]);
+    assert_eq!(digits!(a(1; 2)), [("expected `,`", ";", ";")]);
+    let message = "expected integer literal, found string literal";
+    assert_eq!(digits!(a("b")), [(message, "\"b\"", "\"b\"")]);
+    assert_eq!(digits!(a = -1), [("expected an array: `[..]`", "-", "1")]);
+    assert_eq!(digits!(a), [("expected a list: `a(..)`", "a", "a")]);
 }
 
 /// Without `at`, these errors would be at the macro's call.
@@ -322,7 +353,7 @@ fn errors_after_a_minus_have_its_place_too() {
     let [(message, first, last)] = strings_errors!(-"a");
     assert_eq!(message, "expected a number after the minus");
     assert_eq!((first, last), ("-", "\"a\""));
-    assert_eq!(strings_errors!(-), [("expected literal", "-", "-")]);
+    assert_eq!(strings_errors!(-), [("expected string literal", "-", "-")]);
     // The number without its minus isn't a literal either.
     let [(_, first, last)] = strings_errors!(-340282366920938463463374607431768211456);
     assert_eq!(

@@ -1,9 +1,7 @@
 //! The results of commands that only Cargo's programs have, and not the proved `rl_rows`.
 
-use crate::rattle_std::alloc::Global;
-use crate::rattle_std::vec::Vec;
+use crate::command::run;
 use crate::rl_grammar::{explain, explain_missing_value, Flaw, LineEnds};
-use crate::rl_sources::{scan, Options, ScanError};
 
 /// Returns the reason why the text isn't a token of Rust, as a line, or the line `None`.
 pub fn explained(text: &str) -> String {
@@ -23,15 +21,9 @@ fn flaw_line(flaw: Option<Flaw>) -> String {
     }
 }
 
-/// Returns the lines of the literals in a source, each with its position. An error of the source has a line too. The last line is a
-/// full stop.
+/// Returns the lines that `rl_scan` prints for a source: its literals with their positions, and its error. The last line is a full
+/// stop.
 pub fn source_lines(text: &str) -> String {
-    let mut lines = Vec::new(Global);
-    let answer = scan(Global, Options::default(), text, &mut lines);
-    let lines = std::str::from_utf8(lines.as_slice()).expect("lines of a text are text");
-    match answer {
-        Ok(_) => format!("{lines}.\n"),
-        Err(ScanError::Source(place, kind)) => format!("{lines}error at {place}: {kind}\n.\n"),
-        Err(ScanError::Program(error)) => panic!("{error}"),
-    }
+    let (out, _, errors) = run(&[], text);
+    format!("{out}{errors}.\n")
 }

@@ -2,17 +2,17 @@
 #![forbid(unsafe_code)]
 
 pub mod answers;
+pub mod command;
 pub mod commands;
 pub mod failing;
+pub mod one_text;
 pub mod settings;
 pub mod texts;
 include!(concat!(env!("OUT_DIR"), "/modules.rs"));
 
 use navyspindle::rendered::{
-    rl_cursors, rl_lenient, rl_lexer, rl_recovery, rl_settings, rl_strict, rl_style, rl_syntax,
-    rl_writing,
+    rl_cursors, rl_lenient, rl_lexer, rl_strict, rl_style, rl_syntax, rl_writing,
 };
 use navyspindle_programs::{
-    rattle_std, rl_attributes, rl_commands, rl_grammar, rl_program, rl_quoted, rl_sources,
-    rl_tokens, rust_literals,
+    rattle_std, rl_attributes, rl_grammar, rl_program, rl_quoted, rl_tokens, rust_literals,
 };

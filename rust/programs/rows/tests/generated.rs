@@ -1,8 +1,6 @@
 //! Tests the output of `rl_scan --generate`.
 
-mod command;
-
-use command::run;
+use navyspindle_rows::command::run;
 use std::process::Command;
 
 /// The values of `--generate`.
@@ -50,13 +48,15 @@ fn each_option() {
         assert!(fish.contains(&format!(" -l {name} ")), "{name}");
     }
     // The rows of the table of options, without `--`.
-    assert_eq!(count, 40);
+    assert_eq!(count, 42);
 }
 
 #[test]
 fn the_manual_page() {
     let page = generated("man");
-    assert!(page.starts_with(".TH RL_SCAN 1\n.SH NAME\nrl_scan \\- prints the literals of Rust"));
+    let (head, rest) = page.split_once('\n').expect("a first line");
+    assert!(head.starts_with(".TH RL_SCAN 1 20"), "{head}");
+    assert!(rest.starts_with(".SH NAME\nrl_scan \\- prints the literals of Rust"));
     assert!(page.contains("\n.TP\n.B \\-\\-check\nPrint the changes that \\-\\-fix would make.\n"));
     assert!(page.contains("\n.SH EXIT STATUS\n.nf\n  0  success\n"));
 }

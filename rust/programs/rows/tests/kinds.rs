@@ -1,14 +1,12 @@
 //! Tests `--only` with `--check`, `--diff` and `--fix`: only literals of the listed kinds are rewritten. The expected output is
 //! written by hand, and every expected position is counted by hand.
 
-mod command;
-
-use command::run;
 use navyspindle_programs::rattle_std::alloc::Global;
 use navyspindle_programs::rattle_std::string::String as Line;
 use navyspindle_programs::rattle_std::vec::Vec as List;
 use navyspindle_programs::rl_files::{MemoryFile, MemoryReplacements, MemoryTree};
-use navyspindle_programs::rl_scan::{run_with_arguments, Console};
+use navyspindle_programs::rl_scan::{run_with_arguments, Console, System};
+use navyspindle_rows::command::run;
 
 /// A source in which the default style changes the first three literals, and with `--macros all` also the last two.
 const TEXT: &str = "f(1E5, r#\"a\"#, \"it\\'s\", b'\\'', m!(2E5, \"\\'\"));\n";
@@ -170,11 +168,13 @@ fn replaced(words: &[&str]) -> (String, Vec<(String, String)>) {
     run_with_arguments(
         Global,
         &words,
-        console,
-        &tree,
-        &mut out,
-        &mut errors,
-        &mut kept,
+        System {
+            console,
+            tree: &tree,
+            out: &mut out,
+            err: &mut errors,
+            files: &mut kept,
+        },
     );
     assert_eq!(errors.as_slice(), b"");
     let text = |bytes: &[u8]| String::from_utf8(bytes.to_vec()).expect("it is UTF-8");

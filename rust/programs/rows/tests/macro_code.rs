@@ -1,25 +1,16 @@
 //! Tests `--bad` on literals inside macro calls, `macro_rules!` definitions and attributes. rustc 1.95 accepts any suffix and any
 //! number there, because only the code that a macro expands to has to be valid. Every expected position is counted by hand.
 
-use navyspindle_programs::rattle_std::alloc::Global;
-use navyspindle_programs::rattle_std::vec::Vec as Bytes;
-use navyspindle_programs::rl_sources::{scan, Options, Shown};
+use navyspindle_rows::command::run;
 
-/// Returns the program's output for a source.
-fn printed(options: Options<'_>, text: &str) -> String {
-    let mut out = Bytes::new(Global);
-    assert!(scan(Global, options, text, &mut out).is_ok(), "{text}");
-    String::from_utf8(out.as_slice().to_vec()).expect("lines are UTF-8")
-}
+/// The options of a check that treats literals in macro code like all other literals.
+const ALL: [&str; 3] = ["--bad", "--macros", "all"];
 
-/// The options of `--bad`. With `judges_macros` they are those of `--bad --macros all`.
-fn bad(judges_macros: bool) -> Options<'static> {
-    Options {
-        shown: Shown::Bad,
-        explains: true,
-        judges_macros,
-        ..Options::default()
-    }
+/// Returns the output for a source on standard input.
+fn printed(words: &[&str], text: &str) -> String {
+    let (out, _, errors) = run(words, text);
+    assert_eq!(errors, "", "{text}");
+    out
 }
 
 /// Sources with errors only inside macro code, and the lines for these errors with `--macros all`.
@@ -56,8 +47,8 @@ const INSIDE: [(&str, &str); 12] = [
 #[test]
 fn macro_code_may_have_any_suffix_and_value() {
     for (text, lines) in INSIDE {
-        assert_eq!(printed(bad(false), text), "", "{text}");
-        assert_eq!(printed(bad(true), text), lines, "{text}");
+        assert_eq!(printed(&["--bad"], text), "", "{text}");
+        assert_eq!(printed(&ALL, text), lines, "{text}");
     }
 }
 
@@ -82,71 +73,41 @@ const REPORTED: [(&str, &str); 11] = [
 #[test]
 fn other_errors_are_reported() {
     for (text, lines) in REPORTED {
-        assert_eq!(printed(bad(false), text), lines, "{text}");
+        assert_eq!(printed(&["--bad"], text), lines, "{text}");
     }
 }
 
 /// With `--any-suffix`, `--macros` has no effect.
 #[test]
 fn any_suffix_is_everywhere() {
-    for judges_macros in [false, true] {
-        let options = Options {
-            any_suffix: true,
-            ..bad(judges_macros)
-        };
-        assert_eq!(printed(options, "m!(1u9) 2u9"), "");
+    for words in [&["--bad"][..], &ALL] {
+        let words = [words, &["--any-suffix"]].concat();
+        assert_eq!(printed(&words, "m!(1u9) 2u9"), "");
     }
 }
 
 /// A stray character inside a macro call is a finding, and doesn't end the call.
 #[test]
 fn stray_characters_stay() {
-    let options = |judges_macros| Options {
-        rejects_strays: true,
-        ..bad(judges_macros)
-    };
     let text = "m!(\u{20ac} 1u9) \u{20ac}";
     assert_eq!(
-        printed(options(false), text),
+        printed(&["--bad", "--no-stray"], text),
         "3..6 error: stray character: \u{20ac}\n12..15 error: stray character: \u{20ac}\n"
     );
     assert_eq!(
-        printed(options(true), text),
+        printed(&["--no-stray", "--bad", "--macros=all"], text),
         "3..6 error: stray character: \u{20ac}\n\
          7..10 error: unknown suffix: 1u9\n\
          12..15 error: stray character: \u{20ac}\n"
     );
 }
 
-/// Without explanations, the line of an invalid literal has its value, or its text if it has none.
-#[test]
-fn invalid_literals_without_reasons() {
-    let options = |judges_macros| Options {
-        explains: false,
-        ..bad(judges_macros)
-    };
-    assert_eq!(printed(options(false), "m!(1u9) 2u9"), "8..11 Int 2 u9\n");
-    assert_eq!(
-        printed(options(true), "m!(1u9) 2u9"),
-        "3..6 Int 1 u9\n8..11 Int 2 u9\n"
-    );
-}
-
-/// Where no errors are looked for, macro code has the lines of other code.
+/// If no errors are reported, macro code has the lines of other code.
 #[test]
 fn other_modes_list_all_literals() {
     let lines = "3..6 Int 1 u9\n8..11 Int 2 u9\n";
-    for judges_macros in [false, true] {
-        let options = Options {
-            judges_macros,
-            ..Options::default()
-        };
-        assert_eq!(printed(options, "m!(1u9) 2u9"), lines);
-        let strictly = Options {
-            rejects_strays: true,
-            ..options
-        };
-        assert_eq!(printed(strictly, "m!(1u9) 2u9"), lines);
+    for words in [&[][..], &["--no-stray"], &["--only", "Int"]] {
+        assert_eq!(printed(words, "m!(1u9) 2u9"), lines);
     }
 }
 
@@ -155,13 +116,13 @@ fn other_modes_list_all_literals() {
 fn valid_literals_are_passed() {
     let text = "1 m!(2 (3) 4u9 5) 6 7u9 n![8 [9u9]] 10u9";
     assert_eq!(
-        printed(bad(false), text),
+        printed(&["--bad"], text),
         "20..23 error: unknown suffix: 7u9\n36..40 error: unknown suffix: 10u9\n"
     );
     let call = format!("m!({} 1u9)", "1 ".repeat(50_000));
-    assert_eq!(printed(bad(false), &call), "");
+    assert_eq!(printed(&["--bad"], &call), "");
     assert_eq!(
-        printed(bad(true), &call),
+        printed(&ALL, &call),
         "100004..100007 error: unknown suffix: 1u9\n"
     );
 }
@@ -171,44 +132,18 @@ fn valid_literals_are_passed() {
 fn errors_of_sources_follow() {
     for text in ["m!(1u9) 2 \"", "m!(123) 2 \""] {
         assert_eq!(
-            printed(bad(false), text),
+            printed(&["--bad"], text),
             "10..10 error: unclosed quote\n",
             "{text}"
         );
-        let options = Options {
-            explains: false,
-            ..bad(false)
-        };
-        let mut out = Bytes::new(Global);
-        assert!(scan(Global, options, text, &mut out).is_err(), "{text}");
-        assert_eq!(out.as_slice(), b"");
     }
-}
-
-/// If errors are explained and all literals are shown, a literal inside a macro call has the line with its value.
-#[test]
-fn explained_lists_skip_macro_code() {
-    let options = |judges_macros| Options {
-        shown: Shown::All,
-        ..bad(judges_macros)
-    };
-    assert_eq!(
-        printed(options(false), "m!(1u9) 2u9 3u8"),
-        "3..6 Int 1 u9\n8..11 error: unknown suffix: 2u9\n12..15 Int 3 u8\n"
-    );
-    assert_eq!(
-        printed(options(true), "m!(1u9) 2u9 3u8"),
-        "3..6 error: unknown suffix: 1u9\n\
-         8..11 error: unknown suffix: 2u9\n\
-         12..15 Int 3 u8\n"
-    );
 }
 
 /// The state of macro calls is kept from one block of output lines to the next. A block has 65,536 bytes.
 #[test]
 fn calls_are_longer_than_a_block() {
     let inside = "1u9 \"\\q\" ".repeat(10_000);
-    let lines = printed(bad(false), &format!("m!({inside}) 1u9"));
+    let lines = printed(&["--bad"], &format!("m!({inside}) 1u9"));
     assert_eq!(lines.lines().count(), 10_001);
     assert_eq!(lines.matches("unknown suffix").count(), 1);
     assert!(lines.ends_with("90005..90008 error: unknown suffix: 1u9\n"));

@@ -1,37 +1,20 @@
 //! Tests the forms of the output: GitHub annotations, the source line below a message, and the SARIF document that `sarif.jq`
 //! creates from JSON objects. Every expected position is counted by hand.
 
-use navyspindle_programs::rattle_std::alloc::Global;
-use navyspindle_programs::rattle_std::vec::Vec as Bytes;
-use navyspindle_programs::rl_sources::{scan, Context, Form, Options, Shown, Spelling};
+use navyspindle_rows::command::run;
 use std::io::Write;
 use std::process::{Command, Stdio};
 
-/// Shows only the line of the position, without lines before and after it.
-const LINE: Context = Context {
-    before: 0,
-    after: 0,
-};
-
-/// Returns the program's output for a source.
-fn printed(options: Options<'_>, text: &str) -> String {
-    let mut out = Bytes::new(Global);
-    let Ok(any) = scan(Global, options, text, &mut out) else {
-        panic!("the source has an error, or there was no memory");
-    };
-    let shown = String::from_utf8(out.as_slice().to_vec()).expect("lines are UTF-8");
-    assert_eq!(any, !shown.is_empty());
-    shown
+/// Returns the output for a source, which has no error besides the findings.
+fn printed(words: &[&str], text: &str) -> String {
+    let (out, _, errors) = run(words, text);
+    assert_eq!(errors, "", "{text}");
+    out
 }
 
-fn bad(form: Form, path: Option<&str>) -> Options<'_> {
-    Options {
-        shown: Shown::Bad,
-        explains: true,
-        form,
-        path,
-        ..Options::default()
-    }
+/// Returns the output of `--bad` for a source, with more arguments.
+fn bad(words: &[&str], text: &str) -> String {
+    printed(&[&["--bad"], words].concat(), text)
 }
 
 /// Characters with a special meaning in GitHub's messages and properties are encoded as numbers, such as `%25`.
@@ -39,7 +22,7 @@ fn bad(form: Form, path: Option<&str>) -> Options<'_> {
 fn annotations_of_what_is_bad() {
     let text = "\tlet b = b\"\\%\"; 1u9\n  \"\u{e9}\\\u{e9}\" /* x";
     assert_eq!(
-        printed(bad(Form::Github, Some("a,b:c%.rs")), text),
+        bad(&["--format=github", "a,b:c%.rs"], text),
         "::error file=a%2Cb%3Ac%25.rs,line=1,endLine=1,col=13,endColumn=14,title=unknown-escape::unknown escape: \\%25\n\
          ::error file=a%2Cb%3Ac%25.rs,line=1,endLine=1,col=17,endColumn=20,title=unknown-suffix::unknown suffix: 1u9\n\
          ::error file=a%2Cb%3Ac%25.rs,line=2,endLine=2,col=6,endColumn=7,title=unknown-escape::unknown escape: \\\u{e9}\n\
@@ -50,22 +33,15 @@ fn annotations_of_what_is_bad() {
 /// A literal is a notice, which covers its first to its last line.
 #[test]
 fn annotations_of_literals() {
-    let options = Options {
-        form: Form::Github,
-        ..Options::default()
-    };
+    let github = ["--format", "github"];
     assert_eq!(
-        printed(options, "\u{feff}f(\"100%\")\n\"a\nb\" '\\q'"),
+        printed(&github, "\u{feff}f(\"100%\")\n\"a\nb\" '\\q'"),
         "::notice line=1,endLine=1,col=3,endColumn=9,title=literal::Str \"100%25\" -\n\
          ::notice line=2,endLine=3,col=1,endColumn=3,title=literal::Str \"a\\nb\" -\n\
          ::notice line=3,endLine=3,col=4,endColumn=8,title=literal::Verbatim \"'\\\\q'\" -\n"
     );
-    let source = Options {
-        spelling: Spelling::Source,
-        ..options
-    };
     assert_eq!(
-        printed(source, "\"100%\r\nb\""),
+        printed(&["--text", "--format=github"], "\"100%\r\nb\""),
         "::notice line=1,endLine=2,col=1,endColumn=3,title=literal::\"100%25\\r\\nb\"\n"
     );
 }
@@ -78,7 +54,7 @@ fn objects_of_flaws_in_long_literals() {
         // The literal contains a character of two bytes, so the test distinguishes bytes from characters.
         let literal = format!("\"\u{e9}{}\\q\"", "a".repeat(bytes - 6));
         assert_eq!(literal.len(), bytes);
-        let shown = printed(bad(Form::Json, None), &literal);
+        let shown = bad(&["--json"], &literal);
         let text = if is_shown {
             format!("\"{}\"", literal.replace('\\', "\\\\").replace('"', "\\\""))
         } else {
@@ -94,13 +70,8 @@ fn objects_of_flaws_in_long_literals() {
 
 #[test]
 fn annotations_of_what_hides_text() {
-    let options = Options {
-        shown: Shown::Hidden,
-        form: Form::Github,
-        ..Options::default()
-    };
     assert_eq!(
-        printed(options, "a\u{202e}\n\u{200b}"),
+        printed(&["--invisible", "--format=github"], "a\u{202e}\n\u{200b}"),
         "::error line=1,endLine=1,col=2,endColumn=3,title=bidirectional-character::U+202E RIGHT-TO-LEFT OVERRIDE\n\
          ::error line=2,endLine=2,col=1,endColumn=2,title=invisible-character::U+200B\n"
     );
@@ -110,14 +81,9 @@ fn annotations_of_what_hides_text() {
 /// an escape has a caret for each character of the escape.
 #[test]
 fn context_of_what_is_bad() {
-    let options = Options {
-        by_line: true,
-        context: Some(LINE),
-        ..bad(Form::Plain, Some("a.rs"))
-    };
     assert_eq!(
-        printed(
-            options,
+        bad(
+            &["-C0", "a.rs"],
             "\u{feff}\tlet b = b\"\\%\"; //\u{202e}\r\n \u{e9}\u{e9} 1u9\n\t/* \u{e9}\n*"
         ),
         "a.rs:1:13: error: unknown escape: \\%\n\
@@ -136,11 +102,6 @@ fn context_of_what_is_bad() {
 /// of the line. A wide character has two carets or spaces, and a combining mark none. If a mark is alone, it has one caret.
 #[test]
 fn carets_below_wide_characters() {
-    let options = Options {
-        by_line: true,
-        context: Some(LINE),
-        ..bad(Form::Plain, None)
-    };
     for (line, carets) in [
         ("let a = \"\u{4f60}\u{597d}\\q\";", "              ^"),
         ("let b = \"e\u{301}\\q\";", "           ^"),
@@ -155,7 +116,7 @@ fn carets_below_wide_characters() {
         ("let k = b\"\\\u{301}\";", "           ^"),
         ("/* \u{4f60} */ 1u9", "         ^^^"),
     ] {
-        let shown = printed(options, line);
+        let shown = bad(&["-C0", "--lines"], line);
         let below = format!("\n    {line}\n    {carets}\n");
         assert!(shown.ends_with(&below), "{line}: {shown}");
         assert_eq!(shown.lines().count(), 3);
@@ -166,12 +127,8 @@ fn carets_below_wide_characters() {
 /// 1.95, each at the byte that can't continue a literal. `'ab'` has no suffix.
 #[test]
 fn two_flaws_of_a_character() {
-    let options = Options {
-        by_line: true,
-        ..bad(Form::Plain, Some("a.rs"))
-    };
     assert_eq!(
-        printed(options, "skip! { '\r\n'_ '\\q'_ b''_ 'ab'_ }\r\n"),
+        bad(&["a.rs"], "skip! { '\r\n'_ '\\q'_ b''_ 'ab'_ }\r\n"),
         "a.rs:1:10: error: must be written as an escape: \\r\\n\n\
          a.rs:2:3: error: `_` isn't a suffix: '\\r\\n'_\n\
          a.rs:2:6: error: unknown escape: \\q\n\
@@ -185,12 +142,8 @@ fn two_flaws_of_a_character() {
 /// If a range covers several lines, the first line is shown, with carets up to its end.
 #[test]
 fn context_of_literals() {
-    let options = Options {
-        context: Some(LINE),
-        ..Options::default()
-    };
     assert_eq!(
-        printed(options, "\u{e9} \"x\u{202e}\ny\" 2"),
+        printed(&["-A0"], "\u{e9} \"x\u{202e}\ny\" 2"),
         "3..11 Str \"x\\u{202e}\\ny\" -\n\
          \x20   \u{e9} \"x\\u{202e}\n\
          \x20     ^^^^^^^^^^\n\
@@ -198,22 +151,14 @@ fn context_of_literals() {
          \x20   y\" 2\n\
          \x20      ^\n"
     );
-    let hidden = Options {
-        shown: Shown::Hidden,
-        ..options
-    };
     assert_eq!(
-        printed(hidden, "a\n\tb\u{200b}c"),
+        printed(&["-C0", "--invisible"], "a\n\tb\u{200b}c"),
         "4..7 U+200B\n\
          \x20   \tb\\u{200b}c\n\
          \x20   \t ^^^^^^^^\n"
     );
-    let found = Options {
-        finds: &["b"],
-        ..options
-    };
     assert_eq!(
-        printed(found, "\"a\nb\""),
+        printed(&["-C0", "-eb"], "\"a\nb\""),
         "3..4 Str \"a\\nb\" -\n\
          \x20   b\"\n\
          \x20   ^\n"
@@ -224,29 +169,22 @@ fn context_of_literals() {
 /// is too long, nothing is shown. The line end isn't counted.
 #[test]
 fn context_of_long_lines() {
-    let options = Options {
-        by_line: true,
-        context: Some(Context {
-            before: 1,
-            after: 1,
-        }),
-        ..bad(Form::Plain, Some("a.rs"))
-    };
+    let words = ["-C1", "a.rs"];
     let blank = " ".repeat(1019);
     let whole = format!("\u{e9}{blank}1u9");
     assert_eq!(whole.len(), 1024);
     let left_out = "    (a line of more than 1024 bytes)";
     assert_eq!(
-        printed(options, &format!("{whole}\r\n{whole} \n1u9\n ")),
+        bad(&words, &format!("{whole}\r\n{whole} \n1u9\n ")),
         format!(
-            "a.rs:1:1021: error: unknown suffix: 1u9\n    {whole}\n     {blank}^^^\n{left_out}\n\
+            "a.rs:1:1021: error: unknown suffix: 1u9\n    {whole}\n     {blank}^^^\n\
              a.rs:2:1021: error: unknown suffix: 1u9\n{left_out}\n\
-             a.rs:3:1: error: unknown suffix: 1u9\n{left_out}\n    1u9\n    ^^^\n     \n"
+             a.rs:3:1: error: unknown suffix: 1u9\n    1u9\n    ^^^\n     \n"
         )
     );
     let front = "x".repeat(1025);
     assert_eq!(
-        printed(options, &format!("{front}\"")),
+        bad(&words, &format!("{front}\"")),
         format!("a.rs:1:1026: error: unclosed quote\n{left_out}\n")
     );
 }
@@ -254,14 +192,9 @@ fn context_of_long_lines() {
 /// JSON objects and annotations have no source lines.
 #[test]
 fn context_of_words_alone() {
-    for form in [Form::Json, Form::Github] {
-        let options = bad(form, Some("a.rs"));
-        let context = Options {
-            context: Some(LINE),
-            ..options
-        };
-        let lines = printed(context, "1u9 \"\\q\"");
-        assert_eq!(lines, printed(options, "1u9 \"\\q\""));
+    for form in ["--format=json", "--format=github"] {
+        let lines = bad(&[form, "-C0", "a.rs"], "1u9 \"\\q\"");
+        assert_eq!(lines, bad(&[form, "a.rs"], "1u9 \"\\q\""));
         assert_eq!(lines.lines().count(), 2);
     }
 }
@@ -279,16 +212,8 @@ fn sarif() {
         eprintln!("not tried: jq is not on the path");
         return;
     };
-    let mut lines = printed(
-        bad(Form::Json, Some("./a b/\u{e9}#.rs")),
-        "\"\\q\u{e9}\n\" 1u9",
-    );
-    let hidden = Options {
-        shown: Shown::Hidden,
-        form: Form::Json,
-        ..Options::default()
-    };
-    lines.push_str(&printed(hidden, "\u{202e}"));
+    let mut lines = bad(&["--json", "./a b/\u{e9}#.rs"], "\"\\q\u{e9}\n\" 1u9");
+    lines += &printed(&["--json", "--invisible"], "\u{202e}");
     jq.stdin
         .take()
         .expect("it is piped")

@@ -1,9 +1,8 @@
 //! Compares the package with other files of the repository: the messages of flaws, and the single texts of
 //! `rust/programs/tests/stored/texts.rs`, each with the kind, the value and the suffix as `rl_tool text` prints them.
 
-use navyspindle::{write_byte_str, write_c_str, write_str, Lit, ParseErrorKind};
+use navyspindle::{write_byte_str, write_str, Lit, ParseErrorKind};
 use std::collections::HashSet;
-use std::ffi::CString;
 use std::fs;
 
 /// Whether `rl_tool` prints a suffix unchanged, because it is an identifier. The character `·` isn't a letter, but can continue an
@@ -17,12 +16,13 @@ fn is_word(suffix: &str) -> bool {
 
 /// Returns the line that `rl_tool text` prints for the text.
 fn line_of(text: &str) -> String {
-    let (kind, contents, suffix) = match Lit::new(text) {
+    let (kind, contents, suffix) = match Lit::of_text(text) {
         Lit::Str(l) => ("Str", write_str(&l.value()), l.suffix().to_owned()),
         Lit::ByteStr(l) => ("ByteStr", write_byte_str(&l.value()), l.suffix().to_owned()),
+        // The stored lines have an escape for each non-ASCII byte.
         Lit::CStr(l) => {
-            let value = CString::new(l.value()).expect("a C string holds no zero");
-            ("CStr", write_c_str(&value), l.suffix().to_owned())
+            let bytes = write_byte_str(&l.value()).replacen('b', "c", 1);
+            ("CStr", bytes, l.suffix().to_owned())
         }
         Lit::Byte(l) => (
             "Byte",

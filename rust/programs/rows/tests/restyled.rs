@@ -2,6 +2,7 @@
 //! repository are rewritten by the package too, and the results are compared.
 
 use navyspindle::rendered::rl_style::{Case, Style as Rules};
+use navyspindle::rendered::rl_syntax::Kind;
 use navyspindle::{rewrite_source as package_restyle, Style};
 use navyspindle_programs::rattle_std::alloc::Global;
 use navyspindle_programs::rl_restyle::{rewrite_source, Choice, Macros, RestyleError};
@@ -100,21 +101,17 @@ fn edits_stand_in_order() {
 #[test]
 fn only_literals_of_the_kinds_are_rewritten() {
     let text = "f(0xA, 1_0.0, \"\\'\", t.0xB, m!(0xC))";
-    for (macros, kinds, written) in [
-        (
-            Macros::Skip,
-            "Int",
-            "f(0xa, 1_0.0, \"\\'\", t.0xB, m!(0xC))",
-        ),
-        (Macros::All, "int", "f(0xa, 1_0.0, \"\\'\", t.0xB, m!(0xc))"),
-        (
-            Macros::Skip,
-            "STR,float",
-            "f(0xA, 10.0, \"'\", t.0xB, m!(0xC))",
-        ),
-        (Macros::All, "ByteStr,Verbatim", text),
-        (Macros::All, "", text),
-    ] {
+    let skipped = "f(0xa, 1_0.0, \"\\'\", t.0xB, m!(0xC))";
+    let integers = "f(0xa, 1_0.0, \"\\'\", t.0xB, m!(0xc))";
+    let others = "f(0xA, 10.0, \"'\", t.0xB, m!(0xC))";
+    let cases: [(Macros, &[Option<Kind>], &str); 5] = [
+        (Macros::Skip, &[Some(Kind::Int)], skipped),
+        (Macros::All, &[Some(Kind::Int)], integers),
+        (Macros::Skip, &[Some(Kind::Str), Some(Kind::Float)], others),
+        (Macros::All, &[Some(Kind::ByteStr), None], text),
+        (Macros::All, &[], text),
+    ];
+    for (macros, kinds, written) in cases {
         let choice = Choice {
             macros,
             kinds: Some(kinds),
@@ -122,9 +119,17 @@ fn only_literals_of_the_kinds_are_rewritten() {
         let Ok((new, edits)) = chosen(choice, text) else {
             panic!("it is a source");
         };
-        assert_eq!(new, written, "{kinds}");
-        assert_eq!(edits.is_empty(), new == text, "{kinds}");
+        assert_eq!(new, written, "{kinds:?}");
+        assert_eq!(edits.is_empty(), new == text, "{kinds:?}");
     }
+    // `syn` accepts no integer above 128 bits.
+    let large = format!("(0xA, 0x1{})", "_0".repeat(32));
+    let choice = Choice {
+        macros: Macros::Skip,
+        kinds: Some(&[None]),
+    };
+    let new = chosen(choice, &large).ok().map(|(new, _)| new);
+    assert_eq!(new, Some(format!("(0xA, 0x1{})", "0".repeat(32))));
 }
 
 #[test]

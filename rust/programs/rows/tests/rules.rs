@@ -1,10 +1,7 @@
 //! Tests the output of `rl_scan --rules`: each rule has an example, and `--rule` accepts each listed value. `--check` prints the
 //! examples, and names the rules that change a literal.
 
-mod command;
-
-use command::run;
-use navyspindle_programs::rl_options::rules_page;
+use navyspindle_rows::command::run;
 
 /// A rule of the output of `--rules`.
 struct Entry {
@@ -14,7 +11,8 @@ struct Entry {
 }
 
 fn entries() -> Vec<Entry> {
-    let blocks = rules_page().trim_end().split("\n\n").skip(1);
+    let page = run(&["--rules"], "").0.leak();
+    let blocks = page.trim_end().split("\n\n").skip(1);
     blocks
         .map(|block| {
             let (head, rest) = block.split_once('\n').expect("a description");
@@ -27,12 +25,6 @@ fn entries() -> Vec<Entry> {
             }
         })
         .collect()
-}
-
-#[test]
-fn the_page_is_printed() {
-    let expected = (rules_page().to_string(), 0, String::new());
-    assert_eq!(run(&["--rules"], ""), expected);
 }
 
 #[test]
@@ -71,7 +63,11 @@ fn values_are_accepted() {
             let value = if value == "NUM" { "3" } else { value };
             for value in [value, value.trim_matches('"')] {
                 let setting = format!("{name}={value}");
-                assert_eq!(run(&["--check", "--rule", &setting], "1").1, 0, "{setting}");
+                let mut words = vec!["--check", "--rule", &setting];
+                if name == "min_digits" {
+                    words.push("--rule=decimal_groups=3");
+                }
+                assert_eq!(run(&words, "1").1, 0, "{setting}");
             }
             count += 1;
         }
@@ -84,6 +80,16 @@ fn values_are_accepted() {
         );
     }
     assert_eq!(count, 35);
+}
+
+#[test]
+fn a_value_is_a_single_rule() {
+    let (out, status, error) = run(&["--check", "--rule", "float_zero=true\ndrop_raw"], "1.");
+    assert_eq!((out.as_str(), status), ("", 2));
+    assert_eq!(
+        error,
+        "rl_scan: the value 'float_zero=true\\ndrop_raw' of --rule is more than one rule: pass --rule for each"
+    );
 }
 
 /// Literals that many rules change, alone and together.
@@ -172,20 +178,18 @@ fn a_rule_is_named_if_it_alone_changes_the_literal() {
     );
 }
 
+/// The totals are no part of the rewritten source.
 #[test]
-fn totals_follow_a_rewritten_input() {
+fn totals_of_a_rewritten_input_are_on_standard_error() {
     assert_eq!(
         run(&["--fix", "--stats"], "f(1E5, \"it\\'s\", 2E5)\n"),
         (
-            "f(1e5, \"it's\", 2e5)\nfiles: 1\nfiles with findings: 1\nfindings: 3\nfiles with an error: 0\n\
-            exponent_letter: 2\ndrop_quote_escapes: 1\n"
-                .to_string(),
+            "f(1e5, \"it's\", 2e5)\n".to_string(),
             0,
-            String::new()
+            "files: 1\nfiles with findings: 1\nfindings: 3\nfiles with an error: 0\n\
+            exponent_letter: 2\ndrop_quote_escapes: 1\n"
+                .to_string()
         )
     );
-    assert_eq!(
-        run(&["--fix", "--stats"], "1\n").0,
-        "1\nfiles: 1\nfiles with findings: 0\nfindings: 0\nfiles with an error: 0\n"
-    );
+    assert_eq!(run(&["--fix", "--stats"], "1\n").0, "1\n");
 }

@@ -3,7 +3,7 @@
 
 use navyspindle::rendered::rl_style;
 use navyspindle::{Case, DigitGroups, Separator, Settings, Style};
-use navyspindle_programs::rl_restyle::{default_style, parse_style};
+use navyspindle_programs::rl_restyle::{default_style, parse_style, StyleErrorKind};
 
 fn case_of(case: rl_style::Case) -> Case {
     match case {
@@ -56,11 +56,17 @@ fn shown(style: rl_style::Style) -> Style {
     }
 }
 
-/// Returns the style that the text describes, or its error message.
+/// Returns the style that the text describes, or the range and the kind of its error.
 fn told(text: &str) -> Result<Style, String> {
     match parse_style(text) {
         Ok(style) => Ok(shown(style)),
-        Err(error) => Err(format!("{}..{} {}", error.lo, error.hi, error.kind)),
+        Err(error) => {
+            let kind = match error.kind {
+                StyleErrorKind::Syntax(kind) => kind.message().to_string(),
+                kind => format!("{kind:?}"),
+            };
+            Err(format!("{}..{} {kind}", error.lo, error.hi))
+        }
     }
 }
 
@@ -91,34 +97,22 @@ fn styles_that_are_expected() {
 #[test]
 fn errors_that_are_expected() {
     for (text, expected) in [
-        ("drop_row = true", "0..8 no rule has this name"),
-        ("drop_raw.a = true", "0..10 no rule has this name"),
-        ("drop_raw = true\ndrop_raw = 1", "16..24 repeated name"),
-        ("drop_raw = true\ndrop_raw", "16..24 repeated name"),
-        ("drop_raw = 1", "11..12 expected `true` or `false`"),
-        ("octal_groups = -1", "15..17 expected a number of digits"),
-        ("octal_groups = - 1", "15..18 expected a number of digits"),
-        ("octal_groups = 3u8", "15..18 expected a number of digits"),
+        ("drop_row = true", "0..8 Unknown"),
+        ("drop_raw.a = true", "0..10 Unknown"),
+        ("drop_raw = true\ndrop_raw = 1", "16..24 Repeated"),
+        ("drop_raw = true\ndrop_raw", "16..24 Repeated"),
+        ("drop_raw = 1", "11..12 Expected(Truth)"),
+        ("octal_groups = -1", "15..17 Expected(Size)"),
+        ("octal_groups = - 1", "15..18 Expected(Size)"),
+        ("octal_groups = 3u8", "15..18 Expected(Size)"),
         (
             "octal_groups = 18446744073709551616",
-            "15..35 expected a number of digits",
+            "15..35 Expected(Size)",
         ),
-        (
-            "hex_digits = \"Lower\"",
-            "13..20 expected `\"lower\"` or `\"upper\"`",
-        ),
-        (
-            "hex_digits = \"lower\"x",
-            "13..21 expected `\"lower\"` or `\"upper\"`",
-        ),
-        (
-            "hex_digits = \"\\x6cower\"",
-            "13..23 expected `\"lower\"` or `\"upper\"`",
-        ),
-        (
-            "suffix_separator = '_'",
-            "19..22 expected `\"\"` or `\"_\"`",
-        ),
+        ("hex_digits = \"Lower\"", "13..20 Expected(Case)"),
+        ("hex_digits = \"lower\"x", "13..21 Expected(Case)"),
+        ("hex_digits = \"\\x6cower\"", "13..23 Expected(Case)"),
+        ("suffix_separator = '_'", "19..22 Expected(Separator)"),
         ("drop_raw true", "9..13 expected `=`"),
         ("drop_raw = true float_zero = true", "16..26 expected `,`"),
         ("drop_raw = \"", "11..11 unclosed quote"),
@@ -127,7 +121,7 @@ fn errors_that_are_expected() {
             "10..10 unexpected end of input, expected literal",
         ),
         // The error is the first one from the left.
-        ("drop_raw = 1\nno = \"", "11..12 expected `true` or `false`"),
+        ("drop_raw = 1\nno = \"", "11..12 Expected(Truth)"),
     ] {
         assert_eq!(told(text), Err(expected.to_string()), "{text}");
     }

@@ -5,14 +5,16 @@
 //! Rust's own calls that copy a path or a name end the process if there is no memory for the copy. So the available memory is
 //! checked before each of these calls.
 
-use super::alloc::{has_room, Allocator};
+use super::alloc::has_room;
 use super::io::{Error, ErrorKind, Read, Result, Write};
 use super::path::PathBuf;
 use super::rt::{Alloc, Files};
 use super::string::String;
-use super::vec::Vec;
+use std::fs::FileType;
 use std::io::{Read as _, Write as _};
 use std::os::unix::ffi::OsStrExt;
+use std::path::PathBuf as PathOfStd;
+use std::sync::{Mutex, PoisonError};
 
 pub use std::fs::{Metadata, Permissions};
 
@@ -45,18 +47,6 @@ impl Read for File {
     fn read(&mut self, buf: &mut [u8]) -> Result<usize> {
         Ok(self.0.read(buf)?)
     }
-
-    /// Reads the rest of the file. This method allocates memory for the whole file at once. Rattle's method lets the list grow,
-    /// which needs more memory.
-    fn read_up_to<A: Allocator>(&mut self, list: &mut Vec<u8, A>, limit: u64) -> Result<()> {
-        let expected = self.0.metadata().map_or(0, |about| about.len()).min(limit);
-        let count = usize::try_from(expected).unwrap_or(usize::MAX);
-        if !list.grows_exactly(count.saturating_add(1)) {
-            return Err(Error::of(ErrorKind::OutOfMemory));
-        }
-        (&mut self.0).take(limit).read_to_end(&mut list.items)?;
-        Ok(())
-    }
 }
 
 impl Write for File {
@@ -67,6 +57,8 @@ impl Write for File {
 
 /// The methods of an open file.
 pub trait OpenFile {
+    fn metadata(&self) -> Result<Metadata>;
+
     fn set_permissions(&self, permissions: Permissions) -> Result<()>;
 
     /// Waits until all written bytes are stored.
@@ -74,6 +66,10 @@ pub trait OpenFile {
 }
 
 impl OpenFile for File {
+    fn metadata(&self) -> Result<Metadata> {
+        Ok(self.0.metadata()?)
+    }
+
     fn set_permissions(&self, permissions: Permissions) -> Result<()> {
         Ok(self.0.set_permissions(permissions)?)
     }
@@ -120,9 +116,24 @@ pub fn metadata<R: Files>(_rt: &R, path: &str) -> Result<Metadata> {
     Ok(std::fs::metadata(copied(path)?)?)
 }
 
-/// Returns the system's data about the file at the path. If the path is a link, they are about the link itself.
-pub fn symlink_metadata<R: Files>(_rt: &R, path: &str) -> Result<Metadata> {
-    Ok(std::fs::symlink_metadata(copied(path)?)?)
+/// The path and the type of the file that a directory listed last.
+static LISTED: Mutex<Option<(PathOfStd, FileType)>> = Mutex::new(None);
+
+/// Replaces the path and the type in `LISTED`, and returns the replaced ones.
+fn listed(new: Option<(PathOfStd, FileType)>) -> Option<(PathOfStd, FileType)> {
+    let mut last = LISTED.lock().unwrap_or_else(PoisonError::into_inner);
+    std::mem::replace(&mut last, new)
+}
+
+/// Returns the type of the file at the path. If the path is a link, it is the type of the link itself. Rattle's function returns all
+/// of the system's data about the file.
+///
+/// The system isn't asked if a directory has listed this file directly before.
+pub fn symlink_metadata<R: Files>(_rt: &R, path: &str) -> Result<FileType> {
+    match listed(None) {
+        Some((listed, kind)) if listed.as_os_str() == path => Ok(kind),
+        _ => Ok(std::fs::symlink_metadata(copied(path)?)?.file_type()),
+    }
 }
 
 /// Returns the absolute path of the file, with all links resolved.
@@ -153,7 +164,11 @@ pub fn remove_file<R: Files>(_rt: &R, path: &str) -> Result<()> {
 ///
 /// A read returns one name. Rattle's reads return as many names as the buffer has room for, also `.` and `..`. If the directory is
 /// removed, there are no more names.
-pub struct Dir(std::fs::ReadDir);
+pub struct Dir {
+    entries: std::fs::ReadDir,
+    /// The number of bytes that a memory check reserves for the path of an entry.
+    room: usize,
+}
 
 /// The system's error number of a read into a buffer that is too short for the next name.
 const TOO_SHORT: i32 = 22;
@@ -164,19 +179,24 @@ impl Dir {
         if !has_room(2 * path.len() + DIRECTORY) {
             return Err(Error::of(ErrorKind::OutOfMemory));
         }
-        Ok(Dir(std::fs::read_dir(path)?))
+        Ok(Dir {
+            entries: std::fs::read_dir(path)?,
+            room: path.len() + 2 * NAME,
+        })
     }
 }
 
 impl Read for Dir {
     fn read(&mut self, buf: &mut [u8]) -> Result<usize> {
-        if !has_room(NAME) {
+        if !has_room(self.room) {
             return Err(Error::of(ErrorKind::OutOfMemory));
         }
-        let Some(entry) = self.0.next() else {
+        let Some(entry) = self.entries.next() else {
             return Ok(0);
         };
-        let name = entry?.file_name();
+        let entry = entry?;
+        listed(entry.file_type().ok().map(|kind| (entry.path(), kind)));
+        let name = entry.file_name();
         let name = name.as_bytes();
         let Some(room) = buf.get_mut(..=name.len()) else {
             return Err(std::io::Error::from_raw_os_error(TOO_SHORT).into());

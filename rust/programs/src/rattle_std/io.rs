@@ -3,7 +3,6 @@
 //! It is more limited than Rattle's module:
 //!
 //! - An error has a kind and the system's error number, but no message. Kinds that the sources don't use are `Other`.
-//! - A `Take` can only be read to its end.
 //! - No call gives up after 2^64 tries.
 //!
 //! The standard streams use Rust's own. Rust allocates a few kilobytes when a standard stream is used for the first time, and ends
@@ -135,118 +134,6 @@ impl<T> From<AllocFailed<T>> for Error {
 pub trait Read {
     /// Reads some bytes into the buffer, and returns their number. The number is 0 if the buffer is empty or no byte is left.
     fn read(&mut self, buf: &mut [u8]) -> Result<usize>;
-
-    /// Appends the remaining bytes to the list, up to `limit` bytes. After an error, the bytes that were read stay in the list.
-    fn read_up_to<A: Allocator>(&mut self, list: &mut Vec<u8, A>, limit: u64) -> Result<()> {
-        let mut filled = list.len();
-        let end = fill(self, list, &mut filled, limit);
-        list.truncate(filled);
-        end
-    }
-
-    /// Returns a reader of the first `limit` bytes of this reader.
-    fn take(self, limit: u64) -> Take<Self>
-    where
-        Self: Sized,
-    {
-        Take { inner: self, limit }
-    }
-}
-
-const LEAST_GROWTH: usize = 512;
-const FIRST_READ: usize = 8 * 1024;
-const LONGEST_READ: usize = 128 * 1024;
-
-/// Reads to the end, or up to `limit` bytes, into the list after its first `filled` bytes, and adds the number of bytes read to
-/// `filled`. The list's bytes after these are a buffer.
-///
-/// The calls of the reader and of the allocator are those of Rattle's function, with the same numbers of bytes. Memory is allocated
-/// before each read, so that no byte is lost if the allocation fails.
-fn fill<R: Read + ?Sized, A: Allocator>(
-    reader: &mut R,
-    list: &mut Vec<u8, A>,
-    filled: &mut usize,
-    limit: u64,
-) -> Result<()> {
-    let mut left = limit;
-    let mut most = FIRST_READ;
-    let first_capacity = list.items.capacity();
-    loop {
-        if !has_room_to_read(list, *filled, most, first_capacity) {
-            return Err(Error::of(ErrorKind::OutOfMemory));
-        }
-        let mut room = &mut list.items[*filled..];
-        if room.len() as u64 > left {
-            room = &mut room[..left as usize];
-        }
-        if room.is_empty() {
-            return Ok(());
-        }
-        let count = read_uninterrupted(reader, room)?;
-        if count == 0 {
-            return Ok(());
-        }
-        *filled += count;
-        left -= count as u64;
-        if count >= most {
-            most = most.saturating_mul(2).min(LONGEST_READ);
-        }
-    }
-}
-
-/// Makes the list longer than `filled`, for a read of up to `most` bytes. Returns whether there is enough memory. A list that is
-/// full at its first capacity may already have all bytes of the reader, so it grows only a little.
-fn has_room_to_read<A: Allocator>(
-    list: &mut Vec<u8, A>,
-    filled: usize,
-    mut most: usize,
-    first_capacity: usize,
-) -> bool {
-    let capacity = list.items.capacity();
-    if filled == capacity {
-        let has_grown = if capacity == first_capacity {
-            most = LEAST_GROWTH;
-            list.grows_exactly(LEAST_GROWTH.max(capacity / 8))
-        } else {
-            list.grows(LEAST_GROWTH)
-        };
-        if !has_grown {
-            return false;
-        }
-    }
-    let end = filled + (list.items.capacity() - filled).min(most);
-    if list.len() < end {
-        list.items.resize(end, 0);
-    }
-    true
-}
-
-/// Reads once, and again if a signal interrupted the read.
-fn read_uninterrupted<R: Read + ?Sized>(reader: &mut R, buf: &mut [u8]) -> Result<usize> {
-    loop {
-        match reader.read(buf) {
-            Err(error) if error.kind == ErrorKind::Interrupted => {}
-            read => return read,
-        }
-    }
-}
-
-/// A reader that ends after a limited number of bytes.
-pub struct Take<R> {
-    inner: R,
-    limit: u64,
-}
-
-impl<R: Read> Take<R> {
-    /// Appends the remaining bytes to the list, and returns their number. After an error, the bytes that were read stay in the
-    /// list, and count towards the limit.
-    pub fn read_to_end<A: Allocator>(&mut self, list: &mut Vec<u8, A>) -> Result<usize> {
-        let before = list.len();
-        let end = self.inner.read_up_to(list, self.limit);
-        let count = list.len() - before;
-        self.limit -= count as u64;
-        end.map(|()| count)
-    }
 }
 
 impl Read for &[u8] {
@@ -457,13 +344,6 @@ impl fmt::Write for Ahead {
 /// Returns the writer of standard output.
 pub fn writer(rt: &HostRuntime) -> Stdout {
     rt.stdout()
-}
-
-/// Reads the remaining bytes of a reader, which must be UTF-8.
-pub fn read_to_string<A: Allocator, R: Read>(alloc: A, mut reader: R) -> Result<String<A>> {
-    let mut bytes = Vec::new(alloc);
-    reader.read_up_to(&mut bytes, u64::MAX)?;
-    text_of(bytes)
 }
 
 fn text_of<A: Allocator>(bytes: Vec<u8, A>) -> Result<String<A>> {

@@ -74,10 +74,10 @@
 ("1١", "Verbatim \"1١\" -"), ("²", "Verbatim \"²\" -"), ("// a\n// b\nx", "Verbatim \"// a\\n// b\\nx\" -"),
 ("/* a /* b */ */x", "Verbatim \"/* a /* b */ */x\" -"), ("/**//***/y", "Verbatim \"/**//***/y\" -"),
 ("/// x", "Verbatim \"/// x\" -"), ("//// x\ny", "Verbatim \"//// x\\ny\" -"), ("/*/", "Verbatim \"/*/\" -"),
-("//", "Verbatim \"//\" -"), (" ‎z", "Verbatim \" ‎z\" -"), ("/*! a */", "Verbatim \"/*! a */\" -"),
+("//", "Verbatim \"//\" -"), (" \u{200e}z", "Verbatim \" \u{200e}z\" -"), ("/*! a */", "Verbatim \"/*! a */\" -"),
 ("//! a", "Verbatim \"//! a\" -"), ("/** a */", "Verbatim \"/** a */\" -"), ("/*** a */", "Verbatim \"/*** a */\" -"),
 ("/* a", "Verbatim \"/* a\" -"), ("/* /* */", "Verbatim \"/* /* */\" -"),
-(" \t\r\n\x0b\x0c‏  　x", "Verbatim \" \\t\\r\\n\\x0B\\x0C‏  　x\" -"), ("//a\r\nb", "Verbatim \"//a\\r\\nb\" -"),
+(" \t\r\n\x0b\x0c\u{85}\u{200f}\u{2028}\u{2029}　x", "Verbatim \" \\t\\r\\n\\x0B\\x0C\u{85}\u{200f}\u{2028}\u{2029}　x\" -"), ("//a\r\nb", "Verbatim \"//a\\r\\nb\" -"),
 ("/*/**/*/", "Verbatim \"/*/**/*/\" -"), ("/*//*/x", "Verbatim \"/*//*/x\" -"), ("/**/*/", "Verbatim \"/**/*/\" -"),
 ("/****/x", "Verbatim \"/****/x\" -"), ("/***/x", "Verbatim \"/***/x\" -"), ("//!", "Verbatim \"//!\" -"),
 ("///", "Verbatim \"///\" -"), ("////", "Verbatim \"////\" -"),
@@ -88,93 +88,93 @@
 ], [
 ("..\"\\\"\"", "error at 0..1: expected literal"), ("\\'\\x80'", "error at 0..0: stray character"),
 ("false/***/1", "Bool false -\nInt 1 -"), ("'\\n'x\"\\q\"", "Char '\\n' x\nVerbatim \"\\\"\\\\q\\\"\" -"),
-("/* /** */ */\"\\q\"\x0c1_ -0x// /*\nb\"é\"\n1_/* /** */ */", "Verbatim \"\\\"\\\\q\\\"\" -\nInt 1 -\nFloat -0 x\nVerbatim \"b\\\"é\\\"\" -\nInt 1 -"),
+("/* /** */ */\"\\q\"\x0c1_\u{2028}-0x// /*\nb\"é\"\n1_/* /** */ */", "Verbatim \"\\\"\\\\q\\\"\" -\nInt 1 -\nFloat -0 x\nVerbatim \"b\\\"é\\\"\" -\nInt 1 -"),
 ("}(", "error at 0..0: unmatched closing delimiter"), ("　1\x0c", "Int 1 -"), ("c\"é\"/***/", "CStr c\"\\xC3\\xA9\" -"),
 ("\"é\"/****/1.0e", "Str \"é\" -\nFloat 1.0 e"),
 (" 1.5//\n\"\\\n a\"/***/1e5/*/**/*/\"a\"x/* // */-1\t\"é\"é/* /*! */ */", "Float 1.5 -\nStr \"a\" -\nFloat 1e5 -\nStr \"a\" x\nInt -1 -\nStr \"é\" é"),
 (" c\"a ", "error at 1..1: unclosed quote"), ("/* \" */1_/*/ */ */'\\0x80'/*/**/*", "error at 25..25: unclosed block comment"),
-("-0x‏1", "Float -0 x\nInt 1 -"), ("\"é\"‎'a'", "Str \"é\" -\nChar 'a' -"), ("\"\\\"\"\r\n1", "Str \"\\\"\" -\nInt 1 -"),
+("-0x\u{200f}1", "Float -0 x\nInt 1 -"), ("\"é\"\u{200e}'a'", "Str \"é\" -\nChar 'a' -"), ("\"\\\"\"\r\n1", "Str \"\\\"\" -\nInt 1 -"),
 ("0o8b'''", "Float 0 o8b\nChar '\\'' -"),
-(" 99999999999999999999999999999999999999999/*/**/*/'\\''/**/1f64 1.0e/* ' */b'a'/*/**/*/", "Verbatim \"99999999999999999999999999999999999999999\" -\nChar '\\'' -\nInt 1 f64\nFloat 1.0 e\nByte b'a' -"),
-("\"é\"‎r\"a\"", "Str \"é\" -\nStr \"a\" -"), ("\"é\"\n/**", "error at 5..5: doc comment is not carried"),
+("\u{2028}99999999999999999999999999999999999999999/*/**/*/'\\''/**/1f64\u{2028}1.0e/* ' */b'a'/*/**/*/", "Verbatim \"99999999999999999999999999999999999999999\" -\nChar '\\'' -\nInt 1 f64\nFloat 1.0 e\nByte b'a' -"),
+("\"é\"\u{200e}r\"a\"", "Str \"é\" -\nStr \"a\" -"), ("\"é\"\n/**", "error at 5..5: doc comment is not carried"),
 ("'ar#_x", "error at 0..0: lifetime is not carried"),
-(" true/* é中 */- 1.5/* /* */ */\"a\"/****/\"a\"x/***/99999999999999999999999999999999999999999\x0c\"é\"é\x0c", "Bool true -\nFloat -1.5 -\nStr \"a\" -\nStr \"a\" x\nVerbatim \"99999999999999999999999999999999999999999\" -\nStr \"é\" é"),
+("\u{2028}true/* é中 */- 1.5/* /* */ */\"a\"/****/\"a\"x/***/99999999999999999999999999999999999999999\x0c\"é\"é\x0c", "Bool true -\nFloat -1.5 -\nStr \"a\" -\nStr \"a\" x\nVerbatim \"99999999999999999999999999999999999999999\" -\nStr \"é\" é"),
 ("/***/\"\\q\"", "Verbatim \"\\\"\\\\q\\\"\" -"),
 ("\nr#\"a\"b\"# '\\''////x\n0_953_8.9/****/", "Str \"a\\\"b\" -\nChar '\\'' -\nFloat 09538.9 -"),
 ("\"é\"\n(", "error at 5..5: unclosed group"), (";r#_", "error at 1..1: raw identifier is not carried"),
 ("'\\''/*/**/*/1", "Char '\\'' -\nInt 1 -"), ("0xFF_u8 -1.5 ", "Int 255 u8\nFloat -1.5 -"), ("b'a'e", "Byte b'a' e"),
 ("\x0bb\"é\"/***/0o8\x0b\"é\"é/* \" */", "Verbatim \"b\\\"é\\\"\" -\nFloat 0 o8\nStr \"é\" é"), ("0xg // x", "Float 0 xg"),
-("\r\n", ""), (" 0x2D5a7aFc8b'\\xff' ", "Int 194791537803 -\nVerbatim \"'\\\\xff'\" -"), ("0x1e\"a\"_", "Int 30 -\nStr \"a\" _"),
+("\r\n", ""), ("\u{2028}0x2D5a7aFc8b'\\xff' ", "Int 194791537803 -\nVerbatim \"'\\\\xff'\" -"), ("0x1e\"a\"_", "Int 30 -\nStr \"a\" _"),
 ("cr\"a\"/* /*! */ */1", "CStr c\"a\" -\nInt 1 -"), ("\"a\"x·", "Str \"a\" x·"), ("'1'", "Char '1' -"),
 ("c\"é\"'é'", "CStr c\"\\xC3\\xA9\" -\nChar 'é' -"), ("0xFF_u8 -1.5 true ", "Int 255 u8\nFloat -1.5 -\nBool true -"),
 ("\"é\"//\nfalse", "Str \"é\" -\nBool false -"),
-("/* é中 */\"é\"é/***/1f64/*/**/*/'''/****/", "Str \"é\" é\nInt 1 f64\nChar '\\'' -"), ("1‏2", "Int 1 -\nInt 2 -"),
+("/* é中 */\"é\"é/***/1f64/*/**/*/'''/****/", "Str \"é\" é\nInt 1 f64\nChar '\\'' -"), ("1\u{200f}2", "Int 1 -\nInt 2 -"),
 ("b\"é\"/****/1", "Verbatim \"b\\\"é\\\"\" -\nInt 1 -"), ("\"é\"//\nb\"é\"", "Str \"é\" -\nVerbatim \"b\\\"é\\\"\" -"),
 ("\r\n\"é\"é//\n\"a\r\nb\"/***//* ' */false/* \" */", "Str \"é\" é\nStr \"a\\nb\" -\nBool false -"),
 ("b'\\xff''\\x80'", "Byte b'\\xFF' -\nVerbatim \"'\\\\x80'\" -"), ("b'a'\"a\"", "Byte b'a' -\nStr \"a\" -"),
 ("true false", "Bool true -\nBool false -"),
 ("////x\n\"a\"x/* é中 */99999999999999999999999999999999999999999/* // */b'a'/**/", "Str \"a\" x\nVerbatim \"99999999999999999999999999999999999999999\" -\nByte b'a' -"),
-(" -/**/2u8‏\"a\"\n\"é\"é/***/1ee5////x\nr#\"a\"b\"#/**/", "Int -2 u8\nStr \"a\" -\nStr \"é\" é\nInt 1 ee5\nStr \"a\\\"b\" -"),
+(" -/**/2u8\u{200f}\"a\"\n\"é\"é/***/1ee5////x\nr#\"a\"b\"#/**/", "Int -2 u8\nStr \"a\" -\nStr \"é\" é\nInt 1 ee5\nStr \"a\\\"b\" -"),
 ("'\\n'x\"é\"é", "Char '\\n' x\nStr \"é\" é"),
 ("/* \" */true/***/0_2_0e/* é中 */'\\''/* // */", "Bool true -\nInt 20 e\nChar '\\'' -"),
 ("// /*\n- 1.5// /*\n\"\\q\"\x0c1_　0o8/* é中 */\"é\"é　1e5\r\n", "Float -1.5 -\nVerbatim \"\\\"\\\\q\\\"\" -\nInt 1 -\nFloat 0 o8\nStr \"é\" é\nFloat 1e5 -"),
-("//\nfalse/*/**/*/r#\"a\"b\"#\"a\"‎0o8/*-*/", "Bool false -\nStr \"a\\\"b\" -\nStr \"a\" -\nFloat 0 o8"),
+("//\nfalse/*/**/*/r#\"a\"b\"#\u{85}\"a\"\u{200e}0o8/*-*/", "Bool false -\nStr \"a\\\"b\" -\nStr \"a\" -\nFloat 0 o8"),
 ("/* /** */ */'a'/* /** */ */r#\"a\"b\"#// /*\nb'\\xff'// /*\nr\"a\"/* é中 */\"a\r\nb\"/* // */\"a\" ", "Char 'a' -\nStr \"a\\\"b\" -\nByte b'\\xFF' -\nStr \"a\" -\nStr \"a\\nb\" -\nStr \"a\" -"),
 ("-1'\\''", "Int -1 -\nChar '\\'' -"), ("1e5cr\"a\"", "Float 1e5 cr\nStr \"a\" -"),
 ("/*-*/- 1.5//\ntrue　\"é\"é\n", "Float -1.5 -\nBool true -\nStr \"é\" é"), ("b'\\xff'\x0b1", "Byte b'\\xFF' -\nInt 1 -"),
 ("'é'1.", "Char 'é' -\nFloat 1. -"), ("br##\"x\"##0b12", "ByteStr b\"x\" -\nFloat 0 b12"),
 ("\"\\q\"b\"\\xff\"", "Verbatim \"\\\"\\\\q\\\"b\" -\nVerbatim \"\\\"\\\\xff\\\"\" -"),
-("b\"\\xff\"-1", "ByteStr b\"\\xFF\" -\nInt -1 -"), ("\"é\"b\"\\xff\"", "Str \"é\" -\nByteStr b\"\\xFF\" -"),
+("b\"\\xff\"-1", "ByteStr b\"\\xFF\" -\nInt -1 -"), ("\"é\"\u{85}b\"\\xff\"", "Str \"é\" -\nByteStr b\"\\xFF\" -"),
 ("b\"\\xff\"c\"é\"", "ByteStr b\"\\xFF\" c\nStr \"é\" -"),
 ("/*/**/*/\"\\\n a\"////x\nb'a'/*-*/b\"\\xff\"/*/**/*/92a٠/**/b'\\xff'\x0b1.0e/***/", "Str \"a\" -\nByte b'a' -\nByteStr b\"\\xFF\" -\nInt 92 a٠\nByte b'\\xFF' -\nFloat 1.0 e"),
 ("/* ' */'a'/***/b'\\xff'/*/**/*/1 ", "Char 'a' -\nByte b'\\xFF' -\nInt 1 -"),
-("‏1　1e/****/0x/*/**/*/1ee5　'\\''\r\n1e+5//\n", "Int 1 -\nInt 1 e\nFloat 0 x\nInt 1 ee5\nChar '\\'' -\nFloat 1e5 -"),
-("/*-*/99999999999999999999999999999999999999999\r\nbr##\"x\"##　'\\x80'////x\n1.0e‎", "Verbatim \"99999999999999999999999999999999999999999\" -\nByteStr b\"x\" -\nVerbatim \"'\\\\x80'\" -\nFloat 1.0 e"),
-(" 'é'　0x1e 'a''\\u{1F600}'/*/**/*/", "Char 'é' -\nInt 30 -\nChar 'a' -\nChar '😀' -"),
+("\u{200f}1　1e/****/0x/*/**/*/1ee5　'\\''\r\n1e+5//\n", "Int 1 -\nInt 1 e\nFloat 0 x\nInt 1 ee5\nChar '\\'' -\nFloat 1e5 -"),
+("/*-*/99999999999999999999999999999999999999999\r\nbr##\"x\"##　'\\x80'////x\n1.0e\u{200e}", "Verbatim \"99999999999999999999999999999999999999999\" -\nByteStr b\"x\" -\nVerbatim \"'\\\\x80'\" -\nFloat 1.0 e"),
+(" 'é'　0x1e\u{2028}'a'\u{85}'\\u{1F600}'/*/**/*/", "Char 'é' -\nInt 30 -\nChar 'a' -\nChar '😀' -"),
 ("/**/'é'/* /* */ */'\\n'x\x0c", "Char 'é' -\nChar '\\n' x"), ("b'''0o8", "Verbatim \"b'''\" -\nFloat 0 o8"),
 ("br##\"x\"##'é'", "ByteStr b\"x\" -\nChar 'é' -"),
-("\x0cb\"\\xff\"//\n1.0e\n\"\\\"\"/* /** */ */1. ", "ByteStr b\"\\xFF\" -\nFloat 1.0 e\nStr \"\\\"\" -\nFloat 1. -"),
+("\x0cb\"\\xff\"//\n1.0e\n\"\\\"\"/* /** */ */1.\u{2028}", "ByteStr b\"\\xFF\" -\nFloat 1.0 e\nStr \"\\\"\" -\nFloat 1. -"),
 ("\x0c\"a\"x////x\n1.// c\n1e5/*-*/1ee5/* /** */ */", "Str \"a\" x\nFloat 1. -\nFloat 1e5 -\nInt 1 ee5"),
 ("/* /* */ */b'''/****/99999999999999999999999999999999999999999\x0c0o33e5a·/***/", "Verbatim \"b'''\" -\nVerbatim \"99999999999999999999999999999999999999999\" -\nInt 27 e5a·"),
 ("/* /** */ */- 1.5\tb'\\xff'/* \" */\"\\\n a\"// c\ntrue\r\n", "Float -1.5 -\nByte b'\\xFF' -\nStr \"a\" -\nBool true -"),
 ("\"é\"/**/b'\\xff'", "Str \"é\" -\nByte b'\\xFF' -"), ("false\"a\"_", "Bool false -\nStr \"a\" _"),
 ("1 b\"x\"", "Int 1 -\nByteStr b\"x\" -"), ("b'''b\"é\"", "Verbatim \"b'''b\" -\nStr \"é\" -"),
-("// /*\ncr\"a\" \"\\\n a\"/* // */1.0e// c\nr#\"a\"b\"#/* é中 */", "CStr c\"a\" -\nStr \"a\" -\nFloat 1.0 e\nStr \"a\\\"b\" -"),
-("\t0b12　1.0e/* \" */'''\"a\"x\r\nb\"é\" \"a\"_\t", "Float 0 b12\nFloat 1.0 e\nChar '\\'' -\nStr \"a\" x\nVerbatim \"b\\\"é\\\"\" -\nStr \"a\" _"),
+("// /*\ncr\"a\"\u{2028}\"\\\n a\"/* // */1.0e// c\nr#\"a\"b\"#/* é中 */", "CStr c\"a\" -\nStr \"a\" -\nFloat 1.0 e\nStr \"a\\\"b\" -"),
+("\t0b12　1.0e/* \" */'''\u{85}\"a\"x\r\nb\"é\"\u{2028}\"a\"_\t", "Float 0 b12\nFloat 1.0 e\nChar '\\'' -\nStr \"a\" x\nVerbatim \"b\\\"é\\\"\" -\nStr \"a\" _"),
 ("b\"\\xff\"b", "ByteStr b\"\\xFF\" b"),
 ("// /*\n'\\''/* /* */ */- 1.5\t\"a\"x/* // */", "Char '\\'' -\nFloat -1.5 -\nStr \"a\" x"),
 ("\"é\" cr\"a\"", "Str \"é\" -\nCStr c\"a\" -"), ("false'é'", "Bool false -\nChar 'é' -"),
 ("0o8b\"\\xff\"", "Float 0 o8b\nVerbatim \"\\\"\\\\xff\\\"\" -"), ("b'a''\\n'x", "Byte b'a' -\nChar '\\n' x"),
 ("true ", "Bool true -"),
-("\r\n-1/* /** */ */'\\''/**/'a'　cr\"a\" '\\n'x‎1e/* /* */ */", "Int -1 -\nChar '\\'' -\nChar 'a' -\nCStr c\"a\" -\nChar '\\n' x\nInt 1 e"),
-("c\"߿\"/* /** */ */0_9.0‎'\\u{1F600}'/*-*/\"a\r\nb\"‏", "CStr c\"\\xDF\\xBF\" -\nFloat 09.0 -\nChar '😀' -\nStr \"a\\nb\" -"),
-(" c\"é\"'''/**/99999999999999999999999999999999999999999/**/true/* \" */'\\''/* \" */'\\n'x/* // */", "CStr c\"\\xC3\\xA9\" -\nChar '\\'' -\nVerbatim \"99999999999999999999999999999999999999999\" -\nBool true -\nChar '\\'' -\nChar '\\n' x"),
-(" b'''/****/c\"é\"‏\"a\"\t", "Verbatim \"b'''\" -\nCStr c\"\\xC3\\xA9\" -\nStr \"a\" -"),
-("/* // */br##\"x\"##\r\nr#\"a\"b\"#/* /* */ */true 0x1e\t1e 1e5 ", "ByteStr b\"x\" -\nStr \"a\\\"b\" -\nBool true -\nInt 30 -\nInt 1 e\nFloat 1e5 -"),
+("\r\n-1/* /** */ */'\\''/**/'a'　cr\"a\" '\\n'x\u{200e}1e/* /* */ */", "Int -1 -\nChar '\\'' -\nChar 'a' -\nCStr c\"a\" -\nChar '\\n' x\nInt 1 e"),
+("\u{85}c\"߿\"/* /** */ */0_9.0\u{200e}'\\u{1F600}'/*-*/\"a\r\nb\"\u{200f}", "CStr c\"\\xDF\\xBF\" -\nFloat 09.0 -\nChar '😀' -\nStr \"a\\nb\" -"),
+("\u{2028}c\"é\"\u{85}'''/**/99999999999999999999999999999999999999999/**/true/* \" */'\\''/* \" */'\\n'x/* // */", "CStr c\"\\xC3\\xA9\" -\nChar '\\'' -\nVerbatim \"99999999999999999999999999999999999999999\" -\nBool true -\nChar '\\'' -\nChar '\\n' x"),
+(" b'''/****/c\"é\"\u{200f}\"a\"\t", "Verbatim \"b'''\" -\nCStr c\"\\xC3\\xA9\" -\nStr \"a\" -"),
+("/* // */br##\"x\"##\r\nr#\"a\"b\"#/* /* */ */true\u{2028}0x1e\t1e 1e5 ", "ByteStr b\"x\" -\nStr \"a\\\"b\" -\nBool true -\nInt 30 -\nInt 1 e\nFloat 1e5 -"),
 ], [
 ("1/", "error at 0..1: expected identifier"), (" _ = \"a\"_, r =/* '", "error at 14..14: unclosed block comment"),
 ("b\n= 'a', _/***/=/* /* */ */r#\"a\"b\"#, cr= 1e", "b Char 'a' -\n_ Str \"a\\\"b\" -\ncr Int 1 e"),
-("/* /*! */ */__ = b\"\\xff\", false=/***/0b12, u8/* é中 */=r#a 1, a =// c\n0o8, if/* /** */ */= -/**/2u8 ", "error at 59..59: raw identifier is not carried"),
-("fatruelse = -1e5, é = '\\u{1F600}', a· =\x0b1. ", "fatruelse Float -1e5 -\né Char '😀' -\na· Float 1. -"),
+("/* /*! */ */__ = b\"\\xff\", false\u{85}=/***/0b12, u8/* é中 */=r#a 1, a =// c\n0o8, if/* /** */ */= -/**/2u8 ", "error at 59..59: raw identifier is not carried"),
+("fatruelse = -1e5, é = '\\u{1F600}', a·\u{2028}=\x0b1. ", "fatruelse Float -1e5 -\né Char '😀' -\na· Float 1. -"),
 ("// c\né\r\n=// c\nr#\"a\"b\"#// c\n, á =", "error at 35..35: unexpected end of input, expected literal"),
 (" A ", "error at 3..3: unexpected end of input, expected `=`"), ("中/|\n ", "error at 3..4: expected `=`"),
 ("/*1 \" */u8/* /** */ */=/* \" */\"a = 1, a = 2\", if// c\n= /* , */ 1 , br/* \" */= -1_0.5 ", "u8 Str \"a = 1, a = 2\" -\nif Int 1 -\nbr Float -10.5 -"),
-("self =‏true ", "self Bool true -"), (" if = b'\\xf(f', ", "if Verbatim \"b'\\\\xf(f'\" -"), ("u8 =\n1e", "u8 Int 1 e"),
+("self =\u{200f}true\u{2028}", "self Bool true -"), ("\u{2028}if = b'\\xf(f', ", "if Verbatim \"b'\\\\xf(f'\" -"), ("u8 =\n1e", "u8 Int 1 e"),
 ("a = 'a',", "a Char 'a' -"), ("/* /*! */ :*/r = 1e+5 ", "r Float 1e5 -"),
 ("r= b\"é\", name = -1,  ", "r Verbatim \"b\\\"é\\\"\" -\nname Int -1 -"),
-("if/**/= -1, [a· = \"a\"x ‎", "error at 12..12: unclosed group"), ("é=·,b=1", "error at 3..3: stray character"),
+("if/**/= -1, [a· = \"a\"x \u{200e}", "error at 12..12: unclosed group"), ("é=·,b=1", "error at 3..3: stray character"),
 ("a = 1 -1e5", "error at 6..7: expected `,`"), ("r = /* , */ 1, br = true, name =\n\"x,y", "error at 33..33: unclosed quote"),
 ("self// /*\n=/* /* */ */cr\"a\" ", "self CStr c\"a\" -"),
-(" á = \"a\", b/* /*! */ */= \"=\" , b =　'a', e5=‏'a' , =//\n/* , */ 1", "error at 33..34: repeated name"),
+(" á = \"a\", b/* /*! */ */= \"=\" , b =　'a', e5=\u{200f}'a' , =//\n/* , */ 1", "error at 33..34: repeated name"),
 (" A/****/=/**/=////x\n-0x, á =　\"\\\"\"", "error at 13..14: expected literal"),
 ("cr = \"a = 1, a = a = 2\"", "cr Str \"a = 1, a = a = 2\" -"),
 ("true =/* ' */b\"\\xff\" , if = 0o8", "true ByteStr b\"\\xFF\" -\nif Float 0 o8"),
 ("self = true, r =\x0c'é' , \n", "self Bool true -\nr Char 'é' -"),
-(" x1 = b'\\xff', 中/* \" */= \"x,y\", name\n=0x ", "x1 Byte b'\\xFF' -\n中 Str \"x,y\" -\nname Float 0 x"),
+(" x1 = b'\\xff', 中/* \" */= \"x,y\", name\n=\u{85}0x ", "x1 Byte b'\\xFF' -\n中 Str \"x,y\" -\nname Float 0 x"),
 ("a = b\"\\xff\",", "a ByteStr b\"\\xFF\" -"),
 (" b =//\n1, x1 =\r\n- 1.5, e5 = '\\x80', name = \"\\\n a\" , 中// c\n= b'a'", "b Int 1 -\nx1 Float -1.5 -\ne5 Verbatim \"'\\\\x80'\" -\nname Str \"a\" -\n中 Byte b'a' -"),
 ("a = 1 /*! x ", "error at 6..6: doc comment is not carried"),
 ("// /*\nname/* ' */= 'a", "error at 19..19: lifetime is not carried"),
-(" _ =/* /*! */ */cr\"a\", a = '\\u{1F600}' ", "_ CStr c\"a\" -\na Char '😀' -"), ("b‏= b'\\xff' , ", "b Byte b'\\xFF' -"),
-("_] =//\ntrue, cr = a\"x", "error at 1..1: unmatched closing delimiter"), (" ", ""),
+(" _ =/* /*! */ */cr\"a\", a = '\\u{1F600}' ", "_ CStr c\"a\" -\na Char '😀' -"), ("b\u{200f}= b'\\xff' , ", "b Byte b'\\xFF' -"),
+("_] =//\ntrue, cr = a\"x", "error at 1..1: unmatched closing delimiter"), (" \u{85}", ""),
 ])

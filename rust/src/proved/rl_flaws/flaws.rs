@@ -2,35 +2,24 @@
 //! Iterates over all flaws in the text of a literal.
 
 use crate::rl_flaws::closings::closing_quote;
-use crate::rl_flaws::invalid_piece::{InvalidPiece, invalid_piece_with_offsets};
+use crate::rl_flaws::invalid_piece::{InvalidPiece, end_of, invalid_piece_with_offsets};
 use crate::rl_flaws::piece_ends::{after_bad_piece, is_flaw_after_quote, is_flaw_of_unit};
 use crate::rl_flaws::walks::{Opened, parse_quoted_content, split_opening_delimiter};
 use crate::rl_lenient::quoted_forms::QuotedForm;
 use crate::rl_strict::read_quoted::suffix_flaw;
-use crate::rl_strict::{FlawKind, LineEnds, read};
+use crate::rl_strict::{Flaw, FlawKind, LineEnds};
 use crate::rl_syntax::Kind;
 use crate::rl_syntax::text::{before, without_first_char};
 
 /// The part of a text that is still to be checked for flaws.
 #[derive(Clone, Copy)]
 pub enum Left<'t> {
-    /// All of a text that doesn't begin as a quoted literal.
-    Whole(&'t str),
     /// The text after a quoted literal's opening delimiter, or after an invalid character or escape inside the literal.
     Inside(Opened<'t>, &'t str),
     /// The text that begins at the closing quote of a character or byte literal, after a flaw before that quote.
     Closed(Kind, &'t str),
     /// Nothing: all of the text is checked.
     Nothing,
-}
-
-/// Returns the part of `text` to check first: the text after an opening delimiter, or all of the text.
-#[inline]
-fn whole(text: &str) -> Left<'_> {
-    match split_opening_delimiter(text) {
-        Some((opened, inside)) => Left::Inside(opened, inside),
-        None => Left::Whole(text),
-    }
 }
 
 /// Returns the part of the text to check after a flaw of the kind `flaw`. The flaw was found in the text `inside`, and
@@ -65,25 +54,6 @@ pub struct NextFlaw<'t> {
     pub end: usize,
     pub bad: Option<InvalidPiece>,
     pub left: Left<'t>,
-}
-
-/// Returns the flaw of a text that doesn't begin as a quoted literal.
-#[inline]
-fn flaw_of_whole(ends: LineEnds, text: &str) -> NextFlaw<'_> {
-    match read(text, ends, false) {
-        Ok(_) => NextFlaw {
-            good: "",
-            end: 0,
-            bad: None,
-            left: Left::Nothing,
-        },
-        Err(flaw) => NextFlaw {
-            good: "",
-            end: 0,
-            bad: Some(InvalidPiece { flaw, end: flaw.hi }),
-            left: Left::Nothing,
-        },
-    }
 }
 
 /// Returns the next flaw inside a quoted literal, or after its closing quote.
@@ -137,7 +107,6 @@ fn judge_closed<'t>(ends: LineEnds, len: usize, kind: Kind, closing: &'t str) ->
 #[inline]
 pub fn next_flaw<'t>(ends: LineEnds, len: usize, left: Left<'t>) -> NextFlaw<'t> {
     match left {
-        Left::Whole(text) => flaw_of_whole(ends, text),
         Left::Inside(opened, rest) => next_flaw_inside(ends, len, opened, rest),
         Left::Closed(kind, closing) => judge_closed(ends, len, kind, closing),
         Left::Nothing => NextFlaw {
@@ -149,12 +118,14 @@ pub fn next_flaw<'t>(ends: LineEnds, len: usize, left: Left<'t>) -> NextFlaw<'t>
     }
 }
 
-/// A cursor over all flaws in the text of a literal. A valid literal token has none. Nothing is allocated.
+/// A cursor over the flaws in the text of a literal, after the first one. A valid literal token has no flaw. Nothing is
+/// allocated.
 ///
 /// The first flaw is the error that [`read`](crate::rl_strict::read) returns with `signed = false`. After an invalid character or
 /// escape in a string, the search continues inside the string. After a flaw before the closing quote of a character or byte
 /// literal, only the suffix is checked. Any other flaw is the last one. Offsets are in bytes of the text as written. In a
 /// file, where CR LF is read as LF, no offset is between the CR and the LF.
+#[derive(Clone)]
 pub struct Flaws<'t> {
     ends: LineEnds,
     len: usize,
@@ -162,13 +133,25 @@ pub struct Flaws<'t> {
 }
 
 impl<'t> Flaws<'t> {
-    /// Creates a cursor over the flaws of `text`. `ends` says whether CR LF is read as LF, as in a file.
+    /// Returns the first flaw of `text` with its piece, and the cursor after this flaw. `flaw` is the error that
+    /// [`read`](crate::rl_strict::read) returned for `text` and `ends` with `signed = false`.
     #[inline]
-    pub fn of(text: &'t str, ends: LineEnds) -> Flaws<'t> {
-        Flaws {
-            ends,
-            len: text.len(),
-            left: whole(text),
+    pub fn after(text: &'t str, ends: LineEnds, flaw: Flaw) -> (InvalidPiece, Flaws<'t>) {
+        let len = text.len();
+        match split_opening_delimiter(text) {
+            Some((opened, inside)) => {
+                let piece = &text[flaw.from..];
+                let end = end_of(ends, len, opened.kind.quote(), flaw, piece);
+                let left = left_after(ends, opened, inside, flaw.kind, piece);
+                (InvalidPiece { flaw, end }, Flaws { ends, len, left })
+            }
+            None => {
+                let left = Left::Nothing;
+                (
+                    InvalidPiece { flaw, end: flaw.hi },
+                    Flaws { ends, len, left },
+                )
+            }
         }
     }
 

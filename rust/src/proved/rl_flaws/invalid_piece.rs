@@ -4,7 +4,7 @@
 use crate::rl_flaws::piece_ends::{after_bad_piece, is_flaw_of_unit};
 use crate::rl_strict::flaws::FlawAt;
 use crate::rl_strict::strict_reading::skip_first_char;
-use crate::rl_strict::{Flaw, FlawKind, LineEnds};
+use crate::rl_strict::{Flaw, LineEnds};
 
 /// A flaw, and the end of its piece: the range of text to show for the flaw.
 #[derive(Clone, Copy, PartialEq, Eq, Debug)]
@@ -16,14 +16,13 @@ pub struct InvalidPiece {
     pub end: usize,
 }
 
-/// Returns the byte offset after a flaw's piece. The text `piece` begins with this piece. `hi` is the byte offset after the
-/// flaw.
+/// Returns the byte offset after the flaw's piece. The text `piece` begins with this piece.
 #[inline]
-fn end_of(ends: LineEnds, len: usize, quote: char, kind: FlawKind, piece: &str, hi: usize) -> usize {
-    if is_flaw_of_unit(kind) {
+pub fn end_of(ends: LineEnds, len: usize, quote: char, flaw: Flaw, piece: &str) -> usize {
+    if is_flaw_of_unit(flaw.kind) {
         len - after_bad_piece(ends, quote, piece).len()
     } else {
-        hi
+        flaw.hi
     }
 }
 
@@ -36,14 +35,14 @@ pub fn invalid_piece_with_offsets(
     quote: char,
     found: FlawAt<'_>,
 ) -> InvalidPiece {
-    let hi = len - skip_first_char(ends, found.rest).len();
+    let flaw = Flaw {
+        kind: found.kind,
+        from: len - found.piece.len(),
+        lo: len - found.rest.len(),
+        hi: len - skip_first_char(ends, found.rest).len(),
+    };
     InvalidPiece {
-        flaw: Flaw {
-            kind: found.kind,
-            from: len - found.piece.len(),
-            lo: len - found.rest.len(),
-            hi,
-        },
-        end: end_of(ends, len, quote, found.kind, found.piece, hi),
+        flaw,
+        end: end_of(ends, len, quote, flaw, found.piece),
     }
 }

@@ -48,6 +48,8 @@ pub struct Restylables<'t> {
     // The byte offset after the last token.
     end: usize,
     calls: Calls<'t>,
+    // Whether a token before was a stray character.
+    has_stray: bool,
 }
 
 /// Returns the description of a dot. `last` describes the token before the dot. `is_joined` is true if that token directly
@@ -69,6 +71,15 @@ fn last_after(last: Last, end: usize, token: SourceToken<'_>) -> Last {
         SourceForm::Token(Form::Mark(',') | Form::Delimiter('{' | ']')) | SourceForm::DocComment =>
             Last::Opening,
         _ => Last::Other,
+    }
+}
+
+/// Whether a source has a stray character up to the token `token`. `before` tells whether it has one before the token.
+#[inline]
+fn stray_after(before: bool, token: SourceToken<'_>) -> bool {
+    match token.form {
+        SourceForm::Stray => true,
+        _ => before,
     }
 }
 
@@ -107,6 +118,7 @@ impl<'t> Restylables<'t> {
             last: Last::Other,
             end: 0,
             calls: Calls::Outside,
+            has_stray: false,
         }
     }
 
@@ -115,15 +127,18 @@ impl<'t> Restylables<'t> {
     #[inline]
     pub fn next(&mut self) -> Option<Restylable<'t>> {
         let (mut last, mut end, mut calls) = (self.last, self.end, self.calls);
+        let mut has_stray = self.has_stray;
         while let Some(token) = self.tokens.next() {
             let (before, around) = (last, calls);
             last = last_after(before, end, token);
             end = token.hi;
             calls = advance_calls(around, token);
+            has_stray = stray_after(has_stray, token);
             if token.is_literal() {
                 self.last = last;
                 self.end = end;
                 self.calls = calls;
+                self.has_stray = has_stray;
                 return Some(Restylable {
                     token,
                     is_field: is_field(before, token, self.tokens.rest()),
@@ -134,7 +149,15 @@ impl<'t> Restylables<'t> {
         self.last = last;
         self.end = end;
         self.calls = calls;
+        self.has_stray = has_stray;
         None
+    }
+
+    /// Returns `true` if a token before the cursor's position is a stray character: one that begins no token, for example `€`.
+    #[cfg(feature = "__rendered")]
+    #[inline]
+    pub fn has_stray(&self) -> bool {
+        self.has_stray
     }
 
     /// Returns the error at the cursor's position: a quote or a comment that isn't closed. The result is `None` at the end of

@@ -6,7 +6,6 @@
 pub mod characters;
 pub mod classes;
 pub mod ident;
-#[cfg(any(feature = "flaws", feature = "writers"))]
 mod integer_type;
 pub mod kind;
 #[cfg(any(feature = "sources", feature = "settings"))]
@@ -23,7 +22,6 @@ mod written_into;
 #[cfg(feature = "writers")]
 pub mod written_unit;
 
-#[cfg(any(feature = "flaws", feature = "writers"))]
 pub use crate::rl_syntax::integer_type::IntegerType;
 pub use crate::rl_syntax::kind::Kind;
 #[cfg(feature = "__rendered")]

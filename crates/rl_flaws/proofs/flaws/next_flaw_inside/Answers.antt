@@ -1,7 +1,7 @@
 use Rattle.rl_flaws.proofs.Names.{◌&&◌, not, arith, inr, refl, rules, IsUtf8, IfErr-at_err, IfOk-at_ok, is_flaw_after_quote, is_flaw_of_unit}
 use Rattle.rl_syntax.specs.Quoted.{is_single, is_string}
 use Rattle.rl_flaws.proofs.WalkLemmas.{rest_room}
-use Rattle.rl_flaws.proofs.FlawLemmas.{inside_left, inside_less, inside_takes, stays_open}
+use Rattle.rl_flaws.proofs.FlawLemmas.{inside_bad, inside_left, inside_less, inside_takes, stays_open}
 use Rattle.rl_flaws.proofs.PieceLemmas.{good_left}
 use Rattle.rl_flaws.proofs.flaws.next_flaw_inside.Goals as goal
 
@@ -29,9 +29,10 @@ returns-in-Err c =
     let stop_in = IfErr-at_err _ c.in-Err.is c.parse_quoted_content-stretch.ensures.stop in
     let room = rest_room c.args.ends _ _ c.requires.2 piece piece_in in
     record {
-      gives = inside_takes c.args.ends c.args.opened c.args.rest _ _ c.in-Err.found _ _ piece rest piece_in stop_in
+      gives = inside_takes c.args.ends c.args.opened c.args.rest _ _ _ _ _ piece_in c.invalid_piece_with_offsets.ensures.kind
+          (inside_bad c.args.ends c.args.opened c.args.rest _ _ c.in-Err.found _ piece rest piece_in stop_in
           (IfErr-at_err _ c.in-Err.is c.parse_quoted_content-stretch.ensures.flaw) c.quote.ensures.value
-          c.invalid_piece_with_offsets.ensures.kind c.invalid_piece_with_offsets.ensures.from c.invalid_piece_with_offsets.ensures.lo c.invalid_piece_with_offsets.ensures.hi c.invalid_piece_with_offsets.ensures.end
+          c.invalid_piece_with_offsets.ensures.kind c.invalid_piece_with_offsets.ensures.from c.invalid_piece_with_offsets.ensures.lo c.invalid_piece_with_offsets.ensures.hi c.invalid_piece_with_offsets.ensures.end)
           c.requires.0 c.left_after.ensures;
       less = inside_less c.args.ends c.args.opened c.args.rest _ _ (is_string c.args.opened.kind)
           (is_flaw_of_unit c.in-Err.found.kind)

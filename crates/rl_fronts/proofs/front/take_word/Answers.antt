@@ -1,5 +1,6 @@
 use Rattle.rl_syntax.proofs.TailLemmas.{if_none}
-use Rattle.rl_fronts.proofs.FrontLemmas.{no_word_at, truth_reads}
+use Rattle.rl_fronts.proofs.FrontLemmas.{no_word_at}
+use Rattle.rl_lenient.proofs.StrictItems.{truth_reads}
 use Rattle.rl_syntax.proofs.Common.{common_steps, sym, ◌∙◌, ap, arith}
 use Rattle.std.specs.Str.{chars}
 use Rattle.rl_fronts.proofs.front.take_word.Goals as goal

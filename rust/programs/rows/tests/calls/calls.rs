@@ -5,8 +5,7 @@ use crate::rows::{check, check_bytes, check_headings};
 use navyspindle_programs::rattle_std::alloc::Global;
 use navyspindle_programs::rattle_std::io::{self, ErrorKind, Read, Write};
 use navyspindle_programs::rattle_std::string::String as Text;
-use navyspindle_programs::rl_commands::{self, ProgramError};
-use navyspindle_programs::rl_program::{Ending, RunError};
+use navyspindle_programs::rl_program::{self, Ending, ProgramError, RunError};
 use navyspindle_programs::rl_tokens::{self as tokens, Error, Span};
 
 const TABLE: &str = include_str!("calls.rows");
@@ -100,7 +99,7 @@ fn called(words: &str, bytes: &[u8], streams: Streams) -> String {
         held: Vec::new(),
         streams,
     };
-    let ending = rl_commands::run_with_arguments(Global, &words, &mut input, &mut output);
+    let ending = rl_program::run_with_arguments(Global, &words, &mut input, &mut output);
     // If the output ends inside a character, it isn't shown.
     String::from_utf8(output.held).unwrap_or_default() + &ended(&ending)
 }

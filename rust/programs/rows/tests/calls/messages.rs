@@ -5,8 +5,8 @@ use crate::shown::{error, HERE};
 use navyspindle_programs::rattle_std::alloc::Global;
 use navyspindle_programs::rattle_std::string::String as Text;
 use navyspindle_programs::rattle_std::vec::Vec as Bytes;
-use navyspindle_programs::rl_commands::Command;
 use navyspindle_programs::rl_grammar::shape;
+use navyspindle_programs::rl_program::Command;
 use navyspindle_programs::rl_tokens::{CString, Error, ErrorKind, LexError, LexKind};
 
 const TABLE: &str = include_str!("messages.rows");

@@ -1,7 +1,7 @@
 //! Functions that show values, spans and errors as the rows contain them.
 
 use navyspindle_programs::rattle_std::alloc::Global;
-use navyspindle_programs::rl_commands::output_line;
+use navyspindle_programs::rl_program::output_line;
 use navyspindle_programs::rl_tokens::{lex, Error, Literal, Span, TokenStream, TokenTree};
 use navyspindle_programs::rust_literals::Lit;
 use std::collections::hash_map::DefaultHasher;

@@ -117,7 +117,7 @@ fn string_told(value: &Proved, setting: Key, answer: Told) -> Told {
 /// Returns the number that the package reads from the value's text. It must be equal to the proved parser's `answer`, unless the
 /// value has a suffix or the number is infinite.
 fn number_told<N: Number + Display>(value: &Proved, setting: Key, answer: Told) -> Told {
-    let number = match Lit::new(value.text()) {
+    let number = match Lit::of_text(value.text()) {
         // For a float type, an integer without a suffix is a value too.
         Lit::Int(literal) if literal.suffix().is_empty() && "0.5".parse::<N>().is_ok() => {
             return answer
@@ -266,8 +266,11 @@ pub fn check_settings(text: &str) -> Option<usize> {
         }
         (Err(ours), Err(proved)) => {
             let (words, name, range) = said_of(text, &proved);
-            assert_eq!(ours.kind().to_string(), words, "{text:?}");
-            assert_eq!(ours.kind().message(), words, "{text:?}");
+            assert_eq!(
+                ours.kind().to_string(),
+                format!("{words}{name}"),
+                "{text:?}"
+            );
             assert_eq!(ours.range(), range, "{text:?}");
             let line = format!("{words}{name} at byte {}", range.start);
             assert_eq!(ours.to_string(), with_help(line, ours.help()), "{text:?}");

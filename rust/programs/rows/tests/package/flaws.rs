@@ -43,9 +43,17 @@ pub fn proved_flaw_in_file(text: &str) -> Option<Flaw> {
 
 #[track_caller]
 fn check_flaw(text: &str, error: ParseError, flaw: Flaw) {
+    check_flaw_of(text, error, flaw, flaw.kind.message());
+}
+
+/// Checks the error of a text with this flaw, whose message is `words`.
+#[track_caller]
+fn check_flaw_of(text: &str, error: ParseError, flaw: Flaw, words: &str) {
     assert_eq!(error.range(), flaw.lo..flaw.hi, "{text:?}");
-    assert_eq!(error.piece(), flaw.from..flaw.hi, "{text:?}");
-    let words = flaw.kind.message();
+    // The range to show for a missing closing quote isn't empty.
+    let is_open = flaw.kind.id() == "unclosed-quote" && flaw.from == flaw.hi;
+    let from = if is_open { 0 } else { flaw.from };
+    assert_eq!(error.piece(), from..flaw.hi, "{text:?}");
     assert_eq!(error.kind().to_string(), words, "{text:?}");
     let line = format!("{words} at byte {}", flaw.lo);
     assert_eq!(error.to_string(), line, "{text:?}");
@@ -105,14 +113,16 @@ fn check_kinds(text: &str, proved: &Proved) {
                     $name::parse(text).map(Lit::from),
                     $name::try_from(text.to_owned()).map(Lit::from),
                     text.parse::<$name>().map(Lit::from),
-                    Lit::parse(text).and_then(|it| match $name::try_from(it) {
-                        Ok(it) => Ok(Lit::from(it)),
-                        Err(it) => {
+                    match Lit::parse(text).map($name::try_from) {
+                        Ok(Ok(it)) => Ok(Lit::from(it)),
+                        other => {
                             // A literal of another kind is returned unchanged.
-                            check_same(&it, proved);
+                            if let Ok(Err(it)) = other {
+                                check_same(&it, proved);
+                            }
                             $name::parse(text).map(Lit::from)
                         }
-                    }),
+                    },
                 ],
             );)*
         };
@@ -127,15 +137,16 @@ fn check_kind(text: &str, proved: &Proved, expected: Kind, read: [Result<Lit, Pa
                 assert_eq!(ours.kind(), expected, "{text:?}");
                 check_same(&ours, proved);
             }
+            (Err(error), Some(flaw)) if flaw.kind.id() == "no-literal" => {
+                check_flaw_of(text, error, flaw, &format!("expected {expected}"));
+            }
             (Err(error), Some(flaw)) => check_flaw(text, error, flaw),
             (Err(error), None) => {
-                let found = match proved.kind() {
-                    Some(kind) => kind.description(),
-                    None => "text without a value",
+                let words = match proved.kind().map(|kind| kind.description()) {
+                    Some(found) => format!("expected {expected}, found {found}"),
+                    None => format!("expected {expected}"),
                 };
-                let words = format!("expected {expected}, found {found}");
                 assert_eq!(error.kind().to_string(), words, "{text:?}");
-                assert_ne!(expected.to_string(), found, "{text:?}");
                 assert_eq!(
                     (error.range(), error.piece()),
                     (0..text.len(), 0..text.len())
@@ -163,7 +174,7 @@ pub fn check_file(text: &str) {
         value,
         "{text:?}"
     );
-    match (Lit::new(text).check(), proved_flaw_in_file(text)) {
+    match (Lit::of_text(text).check(), proved_flaw_in_file(text)) {
         (Ok(()), None) => {}
         (Err(error), Some(flaw)) => check_flaw(text, error, flaw),
         (ours, flaw) => panic!("{text:?}: {ours:?}, {:?}", flaw.map(|it| it.kind)),

@@ -1,21 +1,18 @@
-//! Compares the conversion of byte offsets to lines and columns, and back, with the translated libraries.
+//! Compares the conversion of byte offsets to lines and columns, and back, with counts of line ends and characters.
 
 use navyspindle::{LineColumn, LineIndex};
-use navyspindle_programs::rl_output::Places;
 
-/// Checks the line and column of each character and of the text's end. Columns in characters are compared with the proved `Places`.
-/// Columns in bytes are checked too. A byte order mark at the start has no column.
+/// Checks the line and column of each character and of the text's end, in characters and in bytes. A byte order mark at the start
+/// has no column.
 pub fn check(text: &str) {
     let index = LineIndex::new(text);
     let read = text.strip_prefix('\u{feff}').unwrap_or(text);
     let front = text.len() - read.len();
-    let mut places = Places::new(text);
-    let mut line_start = 0;
+    let (mut line, mut line_start) = (1, 0);
     assert_eq!(index.lines(), read.matches('\n').count() + 1, "{text:?}");
     let characters = read.char_indices().map(|(at, c)| (at, Some(c)));
     for (at, c) in characters.chain([(read.len(), None)]) {
-        let spot = places.position_of(&text[front + at..]);
-        let (line, column) = (spot.line, spot.column);
+        let column = read[line_start..at].chars().count() + 1;
         let place = LineColumn { line, column };
         let column = at - line_start + 1;
         let in_bytes = LineColumn { line, column };
@@ -49,7 +46,7 @@ pub fn check(text: &str) {
                 };
                 assert_eq!(index.byte_of_bytes(place), None, "{text:?} {place}");
             }
-            line_start = at + 1;
+            (line, line_start) = (line + 1, at + 1);
         }
     }
     for byte in 0..front {

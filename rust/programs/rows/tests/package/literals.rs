@@ -4,7 +4,7 @@ use crate::{flaws, numbers, quoted};
 use navyspindle::{write_byte, write_byte_str, write_char, write_str, Lit, LitBool};
 use navyspindle_programs::rattle_std::alloc::Global;
 use navyspindle_programs::rl_grammar::{self, Kind};
-use navyspindle_programs::{rl_commands, rl_tokens, rust_literals};
+use navyspindle_programs::{rl_program, rl_tokens, rust_literals};
 use std::collections::hash_map::DefaultHasher;
 use std::hash::{BuildHasher, BuildHasherDefault};
 
@@ -33,7 +33,7 @@ fn line_of(literal: &Lit) -> String {
 
 /// Shows a literal of the translated libraries, in the form that `rl_tool` prints.
 fn proved_line(literal: &Proved) -> String {
-    rl_commands::output_line(Global, literal)
+    rl_program::output_line(Global, literal)
         .unwrap()
         .as_str()
         .to_owned()
@@ -93,7 +93,7 @@ pub fn check_closely(ours: &Lit, proved: &Proved) {
 
 /// Checks a text as one literal, by `syn`'s grammar and by Rust's grammar.
 pub fn check_literal(text: &str) {
-    let (ours, proved) = (Lit::new(text), proved_of(text));
+    let (ours, proved) = (Lit::of_text(text), proved_of(text));
     check_same(&ours, &proved);
     flaws::check_parse(text, &proved);
     flaws::check_file(text);
@@ -102,9 +102,9 @@ pub fn check_literal(text: &str) {
 /// Checks all functions of a text as one literal, borrowed and owned.
 pub fn check_text(text: &str) {
     let proved = proved_of(text);
-    check_closely(&Lit::new(text), &proved);
-    check_closely(&Lit::new(text.to_owned()), &proved);
-    check_closely(&Lit::new(text).into_owned(), &proved);
+    check_closely(&Lit::of_text(text), &proved);
+    check_closely(&Lit::of_text(text.to_owned()), &proved);
+    check_closely(&Lit::of_text(text).into_owned(), &proved);
     flaws::check_closely(text, &proved);
     flaws::check_file(text);
     quoted::check_written(text);
@@ -113,7 +113,7 @@ pub fn check_text(text: &str) {
 /// Checks that two literals, borrowed or owned, are equal if and only if their texts are equal.
 pub fn check_equal(a: &str, b: &str) {
     let hash_of = |literal: &Lit| BuildHasherDefault::<DefaultHasher>::default().hash_one(literal);
-    let (ours, other) = (Lit::new(a), Lit::new(b.to_owned()));
+    let (ours, other) = (Lit::of_text(a), Lit::of_text(b.to_owned()));
     assert_eq!(ours == other, a == b, "{a:?} {b:?}");
     assert_eq!(hash_of(&ours) == hash_of(&other), a == b, "{a:?} {b:?}");
 }

@@ -185,8 +185,11 @@ pub fn check_written(text: &str) {
     let string = rl_tokens::Literal::byte_string(Global, bytes).unwrap();
     assert_eq!(write_byte_str(bytes), string.text());
     if let Ok(value) = CString::new(bytes) {
+        // The proved writer escapes each non-ASCII byte. The package does so if the value isn't UTF-8.
+        assert_eq!(write_c_str(&value), format!("c{}", write_str(text)));
+        let value = CString::new([bytes, b"\xff"].concat()).unwrap();
         let mut copied = ProvedVec::new(Global);
-        for byte in bytes {
+        for byte in value.to_bytes() {
             assert!(copied.push(*byte).is_ok());
         }
         let Ok(proved) = rl_tokens::CString::new(copied) else {

@@ -1,7 +1,7 @@
 //! Tests files, directories and environment variables on Linux.
 
 use crate::directory::Directory;
-use crate::fakes::{list_of, text, told};
+use crate::fakes::{text, told};
 use crate::rattle_std::env::{self, VarError};
 use crate::rattle_std::fs::{
     canonicalize, metadata, remove_file, rename, symlink_metadata, Dir, File, OpenFile,
@@ -89,30 +89,48 @@ fn a_file_is_no_directory_and_a_directory_opens() {
     let here = path_in(&here, ".");
     assert_both(&here, "Ok(\"opened\")", "Ok(\"listed\")");
 
-    let Ok(file) = File::open(&HostRuntime::new(), &here) else {
-        panic!("{here} opens")
-    };
-    let mut list = list_of(b"ab");
-    let read = told(file.take(9).read_to_end(&mut list));
-    assert_eq!(read, "Err(IsADirectory, Some(21))");
-    assert_eq!(text(&list), "ab");
+    let mut file = File::open(&HostRuntime::new(), &here).expect("a directory opens");
+    assert_eq!(told(file.read(&mut [0; 9])), "Err(IsADirectory, Some(21))");
 }
 
 #[test]
-fn files_up_to_a_limit() {
-    let here = directory("limit");
-    fs::write(here.join("file"), "fn").expect("the file can be written");
-    let path = path_in(&here, "file");
-    for (limit, first, whole) in [(1, "Ok(1)", "abf"), (9, "Ok(2)", "abfn")] {
-        let Ok(file) = File::open(&HostRuntime::new(), &path) else {
-            panic!("{path} opens")
-        };
-        let mut list = list_of(b"ab");
-        let mut front = file.take(limit);
-        assert_eq!(told(front.read_to_end(&mut list)), first);
-        assert_eq!(told(front.read_to_end(&mut list)), "Ok(0)");
-        assert_eq!(text(&list), whole);
+fn files_in_parts() {
+    let here = directory("parts");
+    fs::write(here.join("file"), "fn f").expect("the file can be written");
+    let rt = HostRuntime::new();
+    let mut file = File::open(&rt, &path_in(&here, "file")).expect("the file opens");
+    let len = file.metadata().map(|about| about.len());
+    assert_eq!(told(len), "Ok(4)");
+    for (part, count) in [("fn ", "Ok(3)"), ("f  ", "Ok(1)"), ("   ", "Ok(0)")] {
+        let mut buf = *b"   ";
+        assert_eq!(told(file.read(&mut buf)), count);
+        assert_eq!(text(&buf), part);
     }
+}
+
+/// The type of a listed file is returned at most once without a call of the system, and never for another path.
+#[test]
+fn types_of_listed_files() {
+    let here = directory("types");
+    fs::create_dir(here.join("d")).expect("the directory can be made");
+    fs::write(here.join("d/a"), "").expect("the file can be written");
+    fs::create_dir(here.join("a")).expect("the directory can be made");
+    let rt = HostRuntime::new();
+    let is_dir = |path: &str| told(symlink_metadata(&rt, path).map(|kind| kind.is_dir()));
+    let (inner, outer) = (path_in(&here, "d/a"), path_in(&here, "a"));
+    let list = || {
+        let mut names = opened(&path_in(&here, "d/"));
+        assert_eq!(told(names.read(&mut [0; 9])), "Ok(2)");
+    };
+    list();
+    assert_eq!(is_dir(&inner), "Ok(false)");
+    list();
+    assert_eq!(is_dir(&outer), "Ok(true)");
+    list();
+    let _ = is_dir(&inner);
+    fs::remove_file(&inner).expect("the file can be removed");
+    fs::create_dir(&inner).expect("the directory can be made");
+    assert_eq!(is_dir(&inner), "Ok(true)");
 }
 
 /// Opens the directory at the path.

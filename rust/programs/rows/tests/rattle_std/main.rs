@@ -11,7 +11,6 @@ mod fakes;
 mod files;
 mod memory;
 mod pieces;
-mod reading;
 #[cfg(target_os = "linux")]
 mod room;
 #[cfg(target_os = "linux")]

@@ -39,7 +39,7 @@ fn lines(bytes: &[u8]) -> std::string::String {
 #[test]
 fn ends() {
     for (all, pieces, rows) in [
-        ("", r#""#, r#""#),
+        ("", r"", r""),
         ("a", r#""a""#, r#""a""#),
         ("a\n", r#""a""#, r#""a""#),
         ("a\nb", r#""a" "b""#, r#""a" "b""#),

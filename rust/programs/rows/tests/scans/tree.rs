@@ -100,6 +100,9 @@ const FIXED: &str = "f(1., \"it\\'s\"); m!(1E5);\nt.0 1E5f32 r##\"a\"##\n";
 /// Literals with invisible characters, control characters and line ends. One literal has an escape that the default style drops.
 const INVISIBLE: &str = "\"\u{200b}\x1b\té\" \"it\\'s\u{e0001}\\u{200b}\na\" 'x'\n";
 
+/// Texts that a runner of GitHub would take for commands: `::` at the start of a line, and `##[`.
+const COMMANDS: &str = "::x \"##[a]\" 1u9\n\t::y '#', \"##[b]\"q\n";
+
 /// Files that can't be rewritten.
 pub const UNWRITABLE: [Unwritable<'static>; 2] = [
     Unwritable {
@@ -152,10 +155,13 @@ fn text_at(path: &str) -> Option<&'static str> {
         "list" => Some("\n./a.rs\n\nglobs/gen\nmissing\n"),
         "list0" => Some("./a.rs\0\0./t\n.rs\0none"),
         "list/marked" => Some("\u{feff}./a.rs\n\u{feff}none\n"),
+        "list/input" => Some("./none.rs\n-\n"),
         "empty" => Some(""),
         "fix/a.rs" => Some(FIXED),
         "fix/bad.rs" => Some("1. 0b12 \""),
         "fix/full.rs" | "fix/other.rs" | "./fix/other.rs" | ".//other.rs" => Some("1E5\n"),
+        "commands" => Some(COMMANDS),
+        "::p/a.rs" => Some("1u9"),
         "invisible.rs" => Some(INVISIBLE),
         "fix/none.rs" => Some("1.0 \"it's\"\n"),
         "fix/script.rs" => Some("#!/bin/x\n1E5\n"),
@@ -219,7 +225,7 @@ fn names_at(path: &str) -> Result<&'static [u8], PathError> {
 
 impl Tree for Sample {
     fn bytes<A: Allocator>(&self, alloc: A, path: &str) -> Result<Vec<u8, A>, PathError> {
-        Ok(Vec::from_slice(alloc, bytes_at(path)?).unwrap())
+        Vec::from_slice(alloc, bytes_at(path)?).map_err(|_| PathError::OutOfMemory)
     }
 
     fn names<A: Allocator + Copy>(
@@ -229,7 +235,9 @@ impl Tree for Sample {
     ) -> Result<Vec<Vec<u8, A>, A>, PathError> {
         let mut names = Vec::new(alloc);
         for name in names_at(path)?.split(|byte| *byte == b'|') {
-            assert!(names.push(Vec::from_slice(alloc, name).unwrap()).is_ok());
+            names
+                .push(Vec::from_slice(alloc, name).map_err(|_| PathError::OutOfMemory)?)
+                .map_err(|_| PathError::OutOfMemory)?;
         }
         Ok(names)
     }

@@ -7,13 +7,22 @@ use crate::rl_files::tree::{PathError, Tree};
 use crate::rl_files::walk::path_in;
 use crate::rl_files::whole_file::replace_file;
 use crate::rattle_std::alloc::{AllocError, Allocator};
-use crate::rattle_std::fs::File;
+use crate::rattle_std::fs::{File, OpenFile};
 use crate::rattle_std::io::{BufRead, BufReader, ErrorKind, Read};
 use crate::rattle_std::rt::Files;
 use crate::rattle_std::{fs, io};
 
 /// The maximum length of a file or of standard input: 1 GiB.
 pub const LONGEST: u64 = 1 << 30;
+
+/// The number of bytes that one call of a reader requests.
+const PIECE: usize = 8192;
+
+/// The maximum number of calls of a reader.
+const TURNS: u32 = u32::MAX;
+
+/// The number of bytes of a text that are tested for UTF-8 first.
+const FIRST_TEST: usize = 64 * 1024;
 
 /// The files of the operating system, and standard input at the path `-`. Nothing is proved about their contents.
 #[derive(Clone, Copy)]
@@ -35,27 +44,102 @@ pub(crate) fn error_of(kind: ErrorKind) -> PathError {
     }
 }
 
-/// Returns all bytes of a reader, or the error `TooLong` if it has more than `LONGEST` bytes. At most one byte above `LONGEST` is
-/// read.
-pub(crate) fn read_all<A: Allocator, R: Read + Drop>(
-    alloc: A,
-    reader: R,
-) -> Result<Vec<u8, A>, PathError> {
-    let mut bytes = Vec::new(alloc);
-    let mut front = reader.take(LONGEST + 1);
-    match front.read_to_end(&mut bytes) {
-        Ok(count) if count as u64 > LONGEST => Err(PathError::TooLong),
-        Ok(_) => Ok(bytes),
-        Err(e) => Err(error_of(e.kind())),
+/// Returns the offset of the first byte that isn't UTF-8, if at least four bytes begin there. A character has at most four bytes,
+/// so that more bytes don't make them UTF-8.
+fn invalid_at(bytes: &[u8]) -> Option<usize> {
+    match crate::rattle_std::str::from_utf8(bytes) {
+        Err(error) if bytes.len() - error.valid_up_to() >= 4 => Some(error.valid_up_to()),
+        _ => None,
     }
 }
 
-/// Whether the file at `path` has more than `LONGEST` bytes by its metadata. Such a file isn't read.
-fn is_too_long<R: Files>(rt: &R, path: &str) -> bool {
-    match fs::metadata(rt, path) {
-        Ok(about) => about.len() > LONGEST,
-        Err(_) => false,
+/// Returns the reason not to read on after the bytes `bytes`, if there is one. If they must be a text, and there are `due` bytes, they
+/// are tested for UTF-8.
+fn why_stopped(bytes: &[u8], is_text: bool, due: usize) -> Option<PathError> {
+    if bytes.len() as u64 > LONGEST {
+        return Some(PathError::TooLong);
     }
+    if !is_text || bytes.len() < due {
+        return None;
+    }
+    match invalid_at(bytes) {
+        Some(at) => Some(PathError::NotUtf8(at)),
+        None => None,
+    }
+}
+
+/// Returns the number of bytes at which a text is tested next. It has `len` bytes, and was tested at `due` bytes if it has that many.
+fn next_test(due: usize, len: usize) -> usize {
+    if len < due {
+        return due;
+    }
+    len.saturating_add(len)
+}
+
+/// Returns all bytes of a reader.
+///
+/// If they must be a text, they are tested for UTF-8 each time that their number has doubled. So little more is read of a binary file
+/// than the text at its start.
+///
+/// # Errors
+///
+/// Returns `TooLong` if there are more than `LONGEST` bytes, `NotUtf8` if they must be a text and are found not to be one, and else
+/// the reason why reading failed.
+pub(crate) fn read_all<A: Allocator, R: Read + Drop>(
+    alloc: A,
+    mut reader: R,
+    is_text: bool,
+) -> Result<Vec<u8, A>, PathError> {
+    let mut bytes = Vec::new(alloc);
+    let mut piece = [0_u8; PIECE];
+    let mut due = FIRST_TEST;
+    for _ in 0..TURNS {
+        match reader.read(&mut piece) {
+            Ok(0) => return Ok(bytes),
+            Ok(count) => {
+                if bytes.extend_from_slice(&piece[..count]).is_err() {
+                    return Err(PathError::OutOfMemory);
+                }
+                if let Some(why) = why_stopped(bytes.as_slice(), is_text, due) {
+                    return Err(why);
+                }
+                due = next_test(due, bytes.len());
+            }
+            Err(e) if e.kind() == ErrorKind::Interrupted => {}
+            Err(e) => return Err(error_of(e.kind())),
+        }
+    }
+    Err(PathError::ReadFailed)
+}
+
+/// Returns all bytes of the file at `path`, as `read_all` does. A file that is too long by its metadata isn't read.
+pub(crate) fn read_file<A: Allocator, R: Files>(
+    rt: &R,
+    alloc: A,
+    path: &str,
+    is_text: bool,
+) -> Result<Vec<u8, A>, PathError> {
+    let file = match File::open(rt, path) {
+        Ok(file) => file,
+        Err(e) => return Err(error_of(e.kind())),
+    };
+    match file.metadata() {
+        Ok(about) if about.len() > LONGEST => Err(PathError::TooLong),
+        _ => read_all(alloc, file, is_text),
+    }
+}
+
+/// Returns all bytes of standard input, if the path is `-`, or of the file at the path.
+fn read_path<A: Allocator, R: Files + Input>(
+    rt: &R,
+    alloc: A,
+    path: &str,
+    is_text: bool,
+) -> Result<Vec<u8, A>, PathError> {
+    if path == "-" {
+        return read_all(alloc, rt.reader(), is_text);
+    }
+    read_file(rt, alloc, path, is_text)
 }
 
 /// Returns the path of a directory with a slash at its end, so that the system follows a link to a directory. An empty path stays
@@ -130,16 +214,11 @@ fn list_directory<A: Allocator + Copy, R: Files>(
 
 impl<R: Files + Input> Tree for Host<'_, R> {
     fn bytes<A: Allocator>(&self, alloc: A, path: &str) -> Result<Vec<u8, A>, PathError> {
-        if path == "-" {
-            return read_all(alloc, self.rt.reader());
-        }
-        if is_too_long(self.rt, path) {
-            return Err(PathError::TooLong);
-        }
-        match File::open(self.rt, path) {
-            Ok(file) => read_all(alloc, file),
-            Err(e) => Err(error_of(e.kind())),
-        }
+        read_path(self.rt, alloc, path, true)
+    }
+
+    fn any_bytes<A: Allocator>(&self, alloc: A, path: &str) -> Result<Vec<u8, A>, PathError> {
+        read_path(self.rt, alloc, path, false)
     }
 
     fn names<A: Allocator + Copy>(

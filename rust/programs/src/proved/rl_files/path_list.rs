@@ -92,7 +92,7 @@ fn push_listed<A: Allocator + Copy, T: Tree>(
     file: &str,
     paths: &mut Vec<String<A>, A>,
 ) -> Result<(), PathError> {
-    let bytes = match tree.bytes(alloc, file) {
+    let bytes = match tree.any_bytes(alloc, file) {
         Ok(bytes) => bytes,
         Err(why) => return Err(why),
     };

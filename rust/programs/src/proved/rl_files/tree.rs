@@ -18,8 +18,10 @@ pub enum PathError {
     NotADirectory,
     /// The path is longer than the system allows.
     PathTooLong,
-    /// The path, or the target of the link at the path, isn't UTF-8.
+    /// The path of a file in a directory isn't UTF-8.
     PathNotUtf8,
+    /// A path that the user passed or that a file lists, or the target of a link at such a path, isn't UTF-8.
+    GivenNotUtf8,
     /// The file isn't UTF-8. The field is the offset of the first invalid byte.
     NotUtf8(usize),
     /// The file has more than `LONGEST` bytes, which is 1 GiB.
@@ -38,6 +40,12 @@ pub enum PathError {
     DirectoryDenied,
     /// A replacement would give the file another owner or group.
     OwnerChanges,
+    /// The file has other hard links, which a replacement wouldn't change.
+    HardLinks,
+    /// A replacement could give the file other permissions.
+    RightsChange,
+    /// All names that a new file in the file's directory may have are in use.
+    NamesTaken,
     /// Reading failed for a reason that no other variant describes.
     ReadFailed,
     /// Writing failed for a reason that no other variant describes.
@@ -53,6 +61,7 @@ impl fmt::Display for PathError {
             PathError::NotADirectory => write!(f, "not a directory"),
             PathError::PathTooLong => write!(f, "path too long"),
             PathError::PathNotUtf8 => write!(f, "skipped a path that is not UTF-8"),
+            PathError::GivenNotUtf8 => write!(f, "the path is not UTF-8"),
             PathError::NotUtf8(at) => write!(f, "not UTF-8 at byte {at}"),
             PathError::TooLong => write!(f, "longer than 1 GiB"),
             PathError::OutOfMemory => write!(f, "out of memory"),
@@ -62,6 +71,16 @@ impl fmt::Display for PathError {
             PathError::ReadOnly => write!(f, "read-only file system"),
             PathError::DirectoryDenied => write!(f, "no permission to write in its directory"),
             PathError::OwnerChanges => write!(f, "its owner or group would change"),
+            PathError::HardLinks => write!(f, "has other hard links"),
+            PathError::RightsChange => {
+                write!(f, "its permissions or access control list could change")
+            }
+            PathError::NamesTaken => {
+                write!(
+                    f,
+                    "its temporary names `.rl_scan-0` to `.rl_scan-99` are in use"
+                )
+            }
             PathError::ReadFailed => write!(f, "read failed"),
             PathError::WriteFailed => write!(f, "write failed"),
         }
@@ -70,12 +89,21 @@ impl fmt::Display for PathError {
 
 /// A tree of files: it returns the bytes of files, and the names in directories.
 pub trait Tree {
-    /// Returns the bytes of the file at a path.
+    /// Returns the bytes of the text file at a path. A tree may return `NotUtf8` before it has read a whole file that isn't UTF-8.
     ///
     /// # Errors
     ///
     /// Returns the reason why the file can't be read, or `OutOfMemory` if an allocation fails.
     fn bytes<A: Allocator>(&self, alloc: A, path: &str) -> Result<Vec<u8, A>, PathError>;
+
+    /// Returns the bytes of the file at a path, which needn't be UTF-8, as a list of paths needn't.
+    ///
+    /// # Errors
+    ///
+    /// Returns the reason why the file can't be read, or `OutOfMemory` if an allocation fails.
+    fn any_bytes<A: Allocator>(&self, alloc: A, path: &str) -> Result<Vec<u8, A>, PathError> {
+        self.bytes(alloc, path)
+    }
 
     /// Returns the names in the directory at a path, in any order. Each name is a list of bytes.
     ///

@@ -22,6 +22,16 @@ fn push_visible_char<A: Allocator>(out: &mut String<A>, c: char) -> Result<(), A
     Ok(())
 }
 
+/// Whether a byte is printable ASCII.
+fn is_printable(byte: u8) -> bool {
+    byte >= b' ' && byte < 127
+}
+
+/// Whether all bytes are printable ASCII.
+fn are_printable(bytes: &[u8]) -> bool {
+    bytes.iter().all(|byte| is_printable(*byte))
+}
+
 /// Appends a text with escapes, as `\n` and `\u{202e}`, for control, invisible and bidirectional characters. Other characters are
 /// unchanged.
 ///
@@ -29,6 +39,10 @@ fn push_visible_char<A: Allocator>(out: &mut String<A>, c: char) -> Result<(), A
 ///
 /// Returns an error if an allocation fails. A beginning of the text may have been appended then.
 pub fn push_visible<A: Allocator>(out: &mut String<A>, text: &str) -> Result<(), AllocError> {
+    if are_printable(text.as_bytes()) {
+        out.push_str(text)?;
+        return Ok(());
+    }
     for c in text.chars() {
         push_visible_char(out, c)?;
     }
@@ -54,7 +68,7 @@ fn push_visible_lines<A: Allocator>(out: &mut String<A>, lines: &str) -> Result<
 
 /// Whether a byte needs no escape in a line: it is printable ASCII or LF.
 fn is_plain(byte: u8) -> bool {
-    byte == b'\n' || byte >= b' ' && byte < 127
+    byte == b'\n' || is_printable(byte)
 }
 
 /// Whether no byte needs an escape in a line: all are printable ASCII or LF.

@@ -7,8 +7,8 @@
 pub mod strict;
 
 pub use crate::rl_cursors::{
-    ListStep, NextLiteral, Rejection, RejectionKind, Segment, SegmentValue, Segments, SourceStep,
-    next_list_literal, next_literal, next_source_literal, text_offset, text_range,
+    ListLiterals, ListStep, NextLiteral, Rejection, RejectionKind, Segment, SegmentValue, Segments,
+    SourceStep, next_list_literal, next_literal, next_source_literal, text_offset, text_range,
 };
 pub use crate::rl_fronts::{
     Front, Negative, begins_with_kind, bytes_of, bytes_of_body, digits_of, digits_of_found, str_of,

@@ -2,18 +2,20 @@
 //! The new text of a source while it is being written.
 
 use crate::rattle_std::prelude::{String, Vec};
+use crate::rl_restyle::clean::clean_after;
 use crate::rl_restyle::edit::{Choice, Edit};
 use crate::rl_restyle::slices::between;
 use crate::rl_restyle::texts::text_of;
 use crate::rl_style::{Restylable, Style};
 use crate::rattle_std::alloc::{AllocError, Allocator};
 
-/// A partly rewritten source: the new text up to a literal, the edits made before, and the byte offset `at` after that literal
-/// in the old text.
+/// A partly rewritten source: the new text up to a literal, the edits made before, the byte offset `at` after that literal in the
+/// old text, and whether the literals so far have no errors.
 pub(crate) struct Draft<A: Allocator> {
     pub(crate) text: String<A>,
     pub(crate) edits: Vec<Edit<A>, A>,
     pub(crate) at: usize,
+    pub(crate) is_clean: bool,
 }
 
 /// Appends to the draft the old text before a literal, and then the literal's new text `new`.
@@ -36,7 +38,7 @@ fn put<A: Allocator>(
     Ok(())
 }
 
-/// Rewrites `literal`, the next literal of the source, if the style changes it.
+/// Rewrites `literal`, the next literal of the source, if the style changes it. Tests whether it has an error.
 pub(crate) fn put_literal<A: Allocator + Copy>(
     alloc: A,
     style: Style,
@@ -45,6 +47,7 @@ pub(crate) fn put_literal<A: Allocator + Copy>(
     literal: Restylable<'_>,
     draft: &mut Draft<A>,
 ) -> Result<(), AllocError> {
+    draft.is_clean = clean_after(draft.is_clean, source, literal);
     let new = text_of(alloc, style, choice, source, literal)?;
     match new {
         Some(new) => put(draft, source, literal, new),

@@ -2,14 +2,13 @@
 //! Rewrites all literals of a source by a style, and returns the edits and the new text. Parses styles from configurations too.
 
 mod changing;
+mod clean;
 mod draft;
 mod edit;
 mod rule;
-mod settings;
 mod slices;
 mod style_error;
 mod styles;
-mod suggestion;
 mod texts;
 mod value;
 mod values;
@@ -18,9 +17,7 @@ mod whole;
 pub use crate::rl_restyle::changing::changing_rules;
 pub use crate::rl_restyle::edit::{Choice, Edit, Macros, RestyleError, Restyled};
 pub use crate::rl_restyle::rule::{RULES, Rule, number_of, settable_rules};
-pub use crate::rl_restyle::settings::settings_text;
 pub use crate::rl_restyle::slices::between;
 pub use crate::rl_restyle::style_error::{Expected, StyleError, StyleErrorKind};
 pub use crate::rl_restyle::styles::{default_style, parse_style};
-pub use crate::rl_restyle::suggestion::{is_near, near_rule, option_part};
 pub use crate::rl_restyle::whole::rewrite_source;

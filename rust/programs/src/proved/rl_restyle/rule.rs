@@ -51,7 +51,7 @@ pub enum Rule {
     EscapeInvisible,
 }
 
-/// Returns all rules that a configuration can set, in the order of `rl_scan --rules`.
+/// Returns all rules that a configuration can set, in the order of the variants of [`Rule`].
 pub fn settable_rules() -> &'static [Rule] {
     &[
         Rule::HexDigits,

@@ -1,8 +1,7 @@
 // Rendered from crates/rl_restyle/src/style_error.rt by tools/render, which erases contracts: change that file, and render again.
 //! The errors of a style's configuration.
 
-use crate::rl_settings::SyntaxErrorKind;
-use crate::rattle_std::fmt;
+use crate::rl_cursors::SyntaxErrorKind;
 
 /// The values that a rule of a style may have in a configuration.
 #[derive(Clone, Copy, PartialEq, Eq, Debug)]
@@ -42,35 +41,3 @@ pub struct StyleError<'t> {
     /// The byte offset after the error.
     pub hi: usize,
 }
-
-impl Expected {
-    /// Returns the error message for a value that isn't allowed, for example ``expected `true` or `false` ``.
-    fn message(self) -> &'static str {
-        match self {
-            Expected::Truth => "expected `true` or `false`",
-            Expected::Size => "expected a number of digits",
-            Expected::Case => "expected `\"lower\"` or `\"upper\"`",
-            Expected::Separator => "expected `\"\"` or `\"_\"`",
-        }
-    }
-}
-
-impl StyleErrorKind {
-    /// Returns the error message, for example `repeated name`.
-    pub fn message(self) -> &'static str {
-        match self {
-            StyleErrorKind::Syntax(kind) => kind.message(),
-            StyleErrorKind::Unknown => "no rule has this name",
-            StyleErrorKind::Repeated => "repeated name",
-            StyleErrorKind::Expected(expected) => expected.message(),
-        }
-    }
-}
-
-impl fmt::Display for StyleErrorKind {
-    fn fmt(&self, f: &mut fmt::Formatter<'_>) -> fmt::Result {
-        f.pad(self.message())
-    }
-}
-
-impl crate::rattle_std::error::Error for StyleErrorKind {}

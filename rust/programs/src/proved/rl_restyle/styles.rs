@@ -5,9 +5,10 @@ use crate::rl_restyle::rule::{expected_of, rule_of};
 use crate::rl_restyle::style_error::{StyleError, StyleErrorKind};
 use crate::rl_restyle::value::value_of;
 use crate::rl_restyle::values::Values;
-use crate::rl_cursors::NextLiteral;
+use crate::rl_cursors::{
+    DottedName, EntryRejection, EntryStep, NextEntry, NextLiteral, next_config_entry,
+};
 use crate::rl_lexer::Tokens;
-use crate::rl_settings::{DottedName, EntryRejection, EntryStep, NextEntry, next_config_entry};
 use crate::rl_style::{Case, Style};
 
 /// Creates an error of the kind `kind` whose range is the entry's name.
@@ -85,7 +86,7 @@ fn rejection_error<'t>(values: &Values, rejection: EntryRejection<'t>) -> StyleE
 /// Parses the configuration of a style.
 ///
 /// A configuration is a list of entries `name = literal`, each on its own line or with a comma after it, as
-/// [`crate::rl_settings::next_config_entry`] parses them. Each name is that of a rule, and occurs at most once. A rule without an entry
+/// [`crate::rl_cursors::next_config_entry`] parses them. Each name is that of a rule, and occurs at most once. A rule without an entry
 /// changes nothing.
 ///
 /// These are the names and values. A string's body must be exactly the given text, without escapes.

@@ -5,9 +5,8 @@ use crate::rattle_std::prelude::{String, vec};
 use crate::rl_restyle::edit::{Choice, Macros};
 use crate::rl_restyle::slices::between;
 use crate::rl_lenient::parse_literal;
-use crate::rl_output::list_contains;
-use crate::rl_program::label_of;
 use crate::rl_style::{Restylable, Style, rewrite_into};
+use crate::rl_syntax::Kind;
 use crate::rattle_std::alloc::{AllocError, Allocator};
 
 /// Returns the size in bytes of the buffer that [`rewrite_into`] needs for a literal with the text `text`.
@@ -59,18 +58,18 @@ fn is_rewritable(macros: Macros, literal: Restylable<'_>) -> bool {
     }
 }
 
-/// Returns the name of the kind of the literal `text`, or `Verbatim` if `text` isn't a literal by `syn`'s grammar.
-fn label_in(text: &str) -> &'static str {
+/// Returns the kind of the literal `text` by `syn`'s grammar, or `None` if this grammar doesn't accept `text`.
+fn kind_of(text: &str) -> Option<Kind> {
     match parse_literal(text) {
-        Some(found) => label_of(Some(found.kind)),
-        None => label_of(None),
+        Some(found) => Some(found.kind),
+        None => None,
     }
 }
 
-/// Whether the literal `text` is of one of the kinds in a list. If `kinds` is `None`, the result is `true`.
-fn is_of_kinds(kinds: Option<&str>, text: &str) -> bool {
+/// Whether the literal `text` is of one of the kinds. If `kinds` is `None`, the result is `true`.
+fn is_of_kinds(kinds: Option<&[Option<Kind>]>, text: &str) -> bool {
     match kinds {
-        Some(list) => list_contains(list, label_in(text)),
+        Some(kinds) => kinds.contains(&kind_of(text)),
         None => true,
     }
 }

@@ -8,13 +8,19 @@ use crate::rl_restyle::slices::between;
 use crate::rl_style::{Restylables, Style, is_safe_to_restyle};
 use crate::rattle_std::alloc::{AllocError, Allocator};
 
-/// Returns the complete new text: the draft, with the rest of the source appended.
-fn finished<A: Allocator>(source: &str, draft: Draft<A>) -> Result<Restyled<A>, RestyleError> {
+/// Returns the complete new text: the draft, with the rest of the source appended. `has_stray` tells whether the source has a stray
+/// character.
+fn finished<A: Allocator>(
+    source: &str,
+    draft: Draft<A>,
+    has_stray: bool,
+) -> Result<Restyled<A>, RestyleError> {
     let mut text = draft.text;
     match text.push_str(between(source, draft.at, source.len())) {
         Ok(()) => Ok(Restyled {
             text,
             edits: draft.edits,
+            is_clean: draft.is_clean && !has_stray,
         }),
         Err(_) => Err(RestyleError::Memory),
     }
@@ -43,6 +49,7 @@ pub fn rewrite_source<A: Allocator + Copy>(
         text: String::new(alloc),
         edits: Vec::new(alloc),
         at: 0,
+        is_clean: true,
     };
     while let Some(literal) = literals.next() {
         match put_literal(alloc, style, choice, text, literal, &mut draft) {
@@ -52,6 +59,6 @@ pub fn rewrite_source<A: Allocator + Copy>(
     }
     match literals.error() {
         Some(error) => Err(RestyleError::Source(error)),
-        None => finished(text, draft),
+        None => finished(text, draft, literals.has_stray()),
     }
 }

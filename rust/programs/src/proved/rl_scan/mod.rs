@@ -3,33 +3,43 @@
 //! sources. It also rewrites the literals in a style, and prints the changes or a unified diff.
 
 use crate::rattle_std::prelude::{HostRuntime};
-mod change;
-mod changes;
-mod edit_rules;
-mod exit;
+mod args;
+mod checks;
+mod context;
+mod diff;
+mod errors;
+mod escapes;
+mod failure;
+mod finding;
+mod findings;
+mod generated;
+mod hidden;
 mod host;
-mod outcome;
-mod report;
-mod restyling;
-mod rule_counts;
-mod runs;
+mod ids;
+mod job;
+mod literal;
+mod modes;
+mod options;
+mod output;
+mod pages;
+mod paths;
+mod position;
+mod print;
+mod rewriting;
+mod run;
+mod search;
+mod selector_rows;
 mod stats;
-mod visit_report;
+mod style;
+mod width_rows;
+mod widths;
+mod words;
 
-pub use crate::rl_scan::change::push_change;
-pub use crate::rl_scan::changes::push_changes;
-pub use crate::rl_scan::exit::{CallError, out_of_memory_ending, run_with_arguments};
+pub use crate::rl_scan::failure::Failure;
 use crate::rl_scan::host::host_arguments;
-pub use crate::rl_scan::outcome::{Outcome, rewrite_outcome, source_check_options};
-pub use crate::rl_scan::report::Report;
-pub use crate::rl_scan::runs::{RunStop, Tally, run};
-pub use crate::rl_scan::visit_report::report_of;
+pub use crate::rl_scan::run::{Console, System, run_with_arguments};
 use crate::rl_files::Host;
-pub use crate::rl_options::{
-    Action, ArgumentError, Command, Console, LineError, Macros, Output, PlaceForm, Restyling,
-    VERSION, help_page,
-};
-use crate::rl_program::finish;
+use crate::rl_program::{Ending, finish};
 use crate::rattle_std::alloc::Global;
 use crate::rattle_std::env::VarError;
 use crate::rattle_std::io::IsTerminal;
@@ -75,16 +85,15 @@ fn console(rt: &HostRuntime) -> Console {
 
 pub fn main(rt: HostRuntime) -> ExitCode {
     let Ok(args) = host_arguments(&rt) else {
-        return finish(&rt, out_of_memory_ending::<Global>());
+        return finish(&rt, Ending::Failed(Failure::<Global>::Memory));
     };
-    let ending = run_with_arguments(
-        rt.alloc(),
-        args.as_slice(),
-        console(&rt),
-        &Host { rt: &rt },
-        &mut rt.stdout(),
-        &mut rt.stderr(),
-        &mut Host { rt: &rt },
-    );
+    let system = System {
+        console: console(&rt),
+        tree: &Host { rt: &rt },
+        out: &mut rt.stdout(),
+        err: &mut rt.stderr(),
+        files: &mut Host { rt: &rt },
+    };
+    let ending = run_with_arguments(rt.alloc(), args.as_slice(), system);
     finish(&rt, ending)
 }

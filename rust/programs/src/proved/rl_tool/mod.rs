@@ -2,8 +2,7 @@
 //! The program `rl_tool`. It reads literals or attributes, and prints the kind, the value and the suffix of each literal.
 
 use crate::rattle_std::prelude::{HostRuntime, Vec};
-use crate::rl_commands::run_with_arguments;
-use crate::rl_program::{arguments, finish};
+use crate::rl_program::{arguments, finish, run_with_arguments};
 use crate::rattle_std::process::ExitCode;
 
 pub fn main(rt: HostRuntime) -> ExitCode {

@@ -1,7 +1,7 @@
 -- Each iteration of the loop over the settings of a text reads one more setting. At the end of the text all settings
 -- have been read.
 use Rattle.rl_syntax.proofs.Common.{rules, ◌≡◌, ◌≢◌, ◌∷◌, [], ◌++◌, ◌∙◌, sym}
-use Rattle.rl_settings.proofs.SettingLemmas.{some_rest}
+use Rattle.rl_cursors.proofs.SettingLemmas.{some_rest}
 use Rattle.rust_literals.proofs.FlatLemmas.{empty_text}
 use Rattle.rl_attributes.proofs.FlatSettings.{takes_attribute}
 use Rattle.rl_attributes.proofs.FlatEntries.{flat_first, flat_next, flat_end}

@@ -9,7 +9,7 @@ pub returns-in-File : goal.returns-in-File
 returns-in-File g c = go_file c.args.selection _ _ _ _ _ c.loop.invariant.on (rw c.in-File.is at c.in-Some.ensures)
 
 pub returns-in-BadPath : goal.returns-in-BadPath
-returns-in-BadPath g c = go_bad_path c.args.selection _ _ _ _ _ c.loop.invariant.on
+returns-in-BadPath g c = go_bad_path c.args.selection _ _ _ _ _ _ c.loop.invariant.on
     (rw c.in-BadPath.is at c.in-Some.ensures)
 
 pub returns-in-Err-NotADirectory : goal.returns-in-Err-NotADirectory

@@ -4,7 +4,7 @@
 use crate::rattle_std::prelude::{String, Vec};
 use super::name::Name;
 use super::{Attrs, Entry};
-use crate::rl_settings::Part;
+use crate::rl_cursors::Part;
 use crate::rl_tokens::{Error, ErrorKind, Ident, Parse, ParseBuffer, Span, attempt};
 use crate::rust_literals::Lit;
 use crate::rattle_std::alloc::Allocator;

@@ -5,8 +5,7 @@
 use crate::rattle_std::prelude::{String, Vec};
 use super::name::Name;
 use super::{Attrs, Entry};
-use crate::rl_cursors::NextLiteral;
-use crate::rl_settings::{NextSetting, SettingStep, first_error, next_setting};
+use crate::rl_cursors::{NextLiteral, NextSetting, SettingStep, first_error, next_setting};
 use crate::rl_tokens::{Error, Literal, Span, Tokens, parse_all};
 use crate::rust_literals::Lit;
 use crate::rattle_std::alloc::{AllocError, Allocator};

@@ -1,6 +1,0 @@
-pub mod RunLemmas
-pub mod ListLemmas
-pub mod EntryLineLemmas
-pub mod LitLineLemmas
-pub mod TokenLines
-pub mod EndingLemmas

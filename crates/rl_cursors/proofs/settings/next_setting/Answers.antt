@@ -1,0 +1,13 @@
+use Rattle.rl_syntax.proofs.Common.{refl, subst}
+use Rattle.rl_lexer.specs.Cursors.{CursorState}
+use Rattle.rl_cursors.specs.SettingSteps.{RejectsNextSetting}
+use Rattle.rl_cursors.proofs.SettingLemmas.{some_rest}
+use Rattle.rl_cursors.proofs.settings.next_setting.Goals as goal
+
+pub returns-in-Err : goal.returns-in-Err
+returns-in-Err c = (
+  some_rest c.args.tokens.now.rest c.rest.result.now c.is_empty.result c.rest.ensures c.is_empty.ensures
+      c.if-is_empty.false,
+  subst (λ (t : CursorState). RejectsNextSetting t c.in-Err.rejection) c.fork-ahead.ensures c.in-Err.ensures.rejected,
+  refl,
+)

@@ -1,3 +1,0 @@
--- Executable models of the code, for the proofs of private functions only.
-
-pub mod Closing

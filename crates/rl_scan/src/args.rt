@@ -1,0 +1,315 @@
+//! Parses the arguments of a call.
+
+use crate::checks::{check_command_line, check_value};
+use crate::failure::Failure;
+use crate::modes::{Mode, SELECTING};
+use crate::options::{OPTIONS, OptionRow, row_lettered, row_named};
+use crate::style::{is_near, option_part};
+use rl_files::{push_visible, visible_text};
+use std::alloc::{AllocError, Allocator, Global};
+
+/// Groups of options, of which the last passed option counts.
+const RIVALS: [&[&str]; 4] = [
+    &["--count", "--files-with-matches", "--quiet"],
+    &["--lines", "--bytes"],
+    &FORMS,
+    &["--help", "--version", "--rules", "--generate", "--files"],
+];
+
+/// The options that select the format of findings.
+const FORMS: [&str; 2] = ["--json", "--format"];
+
+/// A passed option and its value, which is empty if the option has none.
+#[derive(Clone, Copy)]
+pub(crate) struct Given<'a> {
+    pub name: &'static str,
+    pub value: &'a str,
+}
+
+/// The options and paths of a command line.
+#[derive(Drop)]
+pub(crate) struct Args<'a, A: Allocator = Global> {
+    pub given: Vec<Given<'a>, A>,
+    pub paths: Vec<&'a str, A>,
+}
+
+/// The meaning of the next argument.
+#[derive(Clone, Copy)]
+enum Next {
+    /// An option or a path.
+    Word,
+    /// The value of this option.
+    Value(OptionRow),
+    /// A path, as all later arguments.
+    Path,
+}
+
+pub(crate) fn is_among(words: &[&str], word: &str) -> bool {
+    words.contains(&word)
+}
+
+/// Returns the text without the NUL that marks it as a path that isn't UTF-8.
+pub(crate) fn without_mark(text: &str) -> &str {
+    text.strip_suffix('\0').unwrap_or(text)
+}
+
+/// Returns the option that a word resembles. Names that are at most one byte longer come first.
+fn near_option(word: &str) -> Option<&'static str> {
+    let part = option_part(word);
+    let mut near: Option<&'static str> = None;
+    for row in &OPTIONS {
+        if row.name != "--" && is_near(part, row.name) {
+            if row.name.len().saturating_sub(1) <= part.len() {
+                return Some(row.name);
+            }
+            if near.is_none() {
+                near = Some(row.name);
+            }
+        }
+    }
+    near
+}
+
+/// Returns the end of the message about an unknown option.
+fn meant<A: Allocator + Copy>(alloc: A, word: &str) -> Result<String<A>, AllocError> {
+    match near_option(word) {
+        Some(name) => format!(in alloc; "did you mean '{name}'?"),
+        None => String::from_str(alloc, "rl_scan --help lists all options"),
+    }
+}
+
+/// Returns the error for a letter that isn't a short option, in a word of short options.
+fn unknown_letter<A: Allocator + Copy>(
+    alloc: A,
+    word: &str,
+    letter: char,
+) -> Result<Failure<A>, AllocError> {
+    let mut line = String::from_str(alloc, "unknown option '-")?;
+    let shown = format!(in alloc; "{letter}")?;
+    push_visible(&mut line, shown.as_str())?;
+    line.push_str("'")?;
+    if word.len() > 1usize.saturating_add(letter.len_utf8()) {
+        line.push_str(" in '")?;
+        push_visible(&mut line, word)?;
+        line.push_str("'")?;
+    }
+    line.push_str(": ")?;
+    if word.len() > 2 {
+        let doubled = format!(in alloc; "-{word}")?;
+        line.push_str(meant(alloc, doubled.as_str())?.as_str())?;
+    } else {
+        line.push_str("rl_scan --help lists all options")?;
+    }
+    Ok(Failure::Said(line))
+}
+
+/// Returns the error for a word that begins with a minus and isn't an option.
+fn unknown_word<A: Allocator + Copy>(alloc: A, word: &str) -> Result<Failure<A>, AllocError> {
+    let shown = visible_text(alloc, word)?;
+    let hint = meant(alloc, word)?;
+    Ok(Failure::Said(format!(in alloc; "unknown option '{shown}': {hint}")?))
+}
+
+/// Checks that an argument which isn't a path is UTF-8.
+fn check_text<A: Allocator + Copy>(alloc: A, word: &str) -> Result<(), Failure<A>> {
+    if word.ends_with('\0') {
+        let shown = visible_text(alloc, without_mark(word))?;
+        return Err(Failure::Said(format!(in alloc;
+            "the argument '{shown}' is neither UTF-8 nor a path"
+        )?));
+    }
+    Ok(())
+}
+
+/// Whether a word that begins with a minus consists of short options.
+fn is_word_of_letters(word: &str) -> bool {
+    if !word.starts_with("--") && !word.contains('=') {
+        return true;
+    }
+    let mut letters = word.chars();
+    let _minus = letters.next();
+    match letters.next() {
+        Some(letter) => match row_lettered(letter) {
+            Some(row) => row.has_value(),
+            None => false,
+        },
+        None => false,
+    }
+}
+
+impl<'a, A: Allocator + Copy> Args<'a, A> {
+    /// Returns the last passed option of these.
+    fn last_of(&self, names: &[&str]) -> Option<Given<'a>> {
+        let mut found = None;
+        for given in self.given.as_slice() {
+            if is_among(names, given.name) {
+                found = Some(*given);
+            }
+        }
+        found
+    }
+
+    /// Returns the last value of an option.
+    pub(crate) fn last(&self, name: &str) -> Option<&'a str> {
+        match self.last_of(&[name]) {
+            Some(given) => Some(given.value),
+            None => None,
+        }
+    }
+
+    pub(crate) fn has_any(&self, names: &[&str]) -> bool {
+        self.last_of(names).is_some()
+    }
+
+    /// Whether the option was passed, and no later option overrides it.
+    pub(crate) fn has(&self, name: &str) -> bool {
+        for rivals in &RIVALS {
+            if is_among(rivals, name) {
+                return match self.last_of(rivals) {
+                    Some(given) => given.name == name,
+                    None => false,
+                };
+            }
+        }
+        self.has_any(&[name])
+    }
+
+    /// Returns all values of an option.
+    pub(crate) fn all(&self, alloc: A, name: &str) -> Result<Vec<&'a str, A>, AllocError> {
+        let mut values = Vec::new(alloc);
+        for given in self.given.as_slice() {
+            if given.name == name {
+                values.push(given.value)?;
+            }
+        }
+        Ok(values)
+    }
+
+    /// Returns the format of findings, as `--format` names it.
+    pub(crate) fn form(&self) -> &'a str {
+        match self.last_of(&FORMS) {
+            Some(given) if given.name == "--json" => "json",
+            Some(given) => given.value,
+            None => "text",
+        }
+    }
+
+    pub(crate) fn mode(&self) -> Mode {
+        for row in &SELECTING {
+            if self.has(row.0) {
+                return row.1;
+            }
+        }
+        Mode::List
+    }
+
+    /// Returns the error if an option contradicts earlier ones.
+    fn conflict(&self, name: &str) -> Option<&'static str> {
+        let exclusive = ["--bad", "--invisible", "--only"];
+        let rewriting = ["--fix", "--check", "--diff"];
+        if is_among(&exclusive, name) && self.has_any(&exclusive) {
+            return Some("--bad, --invisible and --only can't be combined or repeated");
+        }
+        let finds = is_among(&["--bad", "--invisible"], name) && self.has_any(&["--find"])
+            || name == "--find" && self.has_any(&["--bad", "--invisible"]);
+        if finds {
+            return Some("--bad and --invisible can't be used with -e, --find");
+        }
+        if is_among(&rewriting, name) && self.has_any(&rewriting) {
+            return Some("--fix, --check and --diff can't be combined or repeated");
+        }
+        None
+    }
+
+    /// Adds an option, unless it contradicts earlier ones or doesn't accept the value.
+    fn add(&mut self, alloc: A, row: &OptionRow, value: &'a str) -> Result<(), Failure<A>> {
+        if let Some(words) = self.conflict(row.name) {
+            return Err(Failure::said(alloc, words));
+        }
+        check_value(alloc, row, value)?;
+        let name = row.name;
+        self.given.push(Given { name, value })?;
+        Ok(())
+    }
+
+    /// Adds the options of a word of letters.
+    fn add_letters(&mut self, alloc: A, word: &'a str) -> Result<Next, Failure<A>> {
+        let mut letters = word.get(1..).unwrap_or("").chars();
+        while let Some(letter) = letters.next() {
+            let Some(row) = row_lettered(letter) else {
+                return Err(unknown_letter(alloc, word, letter)?);
+            };
+            if row.has_value() {
+                let joined = letters.as_str();
+                if joined.is_empty() {
+                    return Ok(Next::Value(row));
+                }
+                self.add(alloc, &row, joined)?;
+                return Ok(Next::Word);
+            }
+            self.add(alloc, &row, "")?;
+        }
+        Ok(Next::Word)
+    }
+
+    /// Adds a word that begins with a minus.
+    fn add_option(&mut self, alloc: A, word: &'a str) -> Result<Next, Failure<A>> {
+        check_text(alloc, word)?;
+        if word == "--" {
+            return Ok(Next::Path);
+        }
+        if let Some(row) = row_named(word) {
+            if row.has_value() {
+                return Ok(Next::Value(row));
+            }
+            self.add(alloc, &row, "")?;
+            return Ok(Next::Word);
+        }
+        if let Some((name, value)) = word.split_once('=') {
+            if let Some(row) = row_named(name) {
+                if !row.has_value() {
+                    return Err(Failure::Said(format!(in alloc; "{name} takes no value")?));
+                }
+                self.add(alloc, &row, value)?;
+                return Ok(Next::Word);
+            }
+        }
+        if is_word_of_letters(word) {
+            return self.add_letters(alloc, word);
+        }
+        Err(unknown_word(alloc, word)?)
+    }
+
+    /// Parses the arguments after the program's name, and checks them.
+    ///
+    /// # Errors
+    ///
+    /// Returns an error if an argument is invalid, if the arguments contradict each other, or if an allocation fails.
+    pub(crate) fn parse(alloc: A, words: &'a [String<A>]) -> Result<Args<'a, A>, Failure<A>> {
+        let mut args = Args {
+            given: Vec::new(alloc),
+            paths: Vec::new(alloc),
+        };
+        let mut next = Next::Word;
+        for it in words {
+            let word = it.as_str();
+            match next {
+                Next::Value(row) => {
+                    check_text(alloc, word)?;
+                    args.add(alloc, &row, word)?;
+                    next = Next::Word;
+                }
+                Next::Word if word != "-" && word.starts_with('-') => {
+                    next = args.add_option(alloc, word)?;
+                }
+                Next::Word | Next::Path => args.paths.push(word)?,
+            }
+        }
+        if let Next::Value(row) = next {
+            let (name, expected) = (row.name, row.expected());
+            return Err(Failure::Said(format!(in alloc; "{name} needs a value: {expected}")?));
+        }
+        check_command_line(alloc, &args)?;
+        Ok(args)
+    }
+}

@@ -1,0 +1,143 @@
+//! The modes of `rl_scan`, and the sets of modes in which options have an effect.
+
+/// The task of a call.
+#[derive(Clone, Copy, PartialEq, Eq, Debug)]
+pub(crate) enum Mode {
+    /// Prints a page, such as `--help`.
+    Page,
+    /// Lists all literals: no option selects another mode.
+    List,
+    Only,
+    Find,
+    Bad,
+    Invisible,
+    Fix,
+    Check,
+    Diff,
+}
+
+/// The options that select a mode. Of several passed options, the first row counts.
+pub(crate) const SELECTING: [(&str, Mode); 12] = [
+    ("--help", Mode::Page),
+    ("--version", Mode::Page),
+    ("--rules", Mode::Page),
+    ("--generate", Mode::Page),
+    ("--fix", Mode::Fix),
+    ("--check", Mode::Check),
+    ("--diff", Mode::Diff),
+    ("--bad", Mode::Bad),
+    ("--invisible", Mode::Invisible),
+    ("--find", Mode::Find),
+    ("--number", Mode::Find),
+    ("--only", Mode::Only),
+];
+
+/// A set of modes, and the message's end that names them to a user who passed an option without an effect.
+#[derive(Clone, Copy)]
+pub(crate) struct Modes {
+    members: &'static [Mode],
+    pub hint: &'static str,
+}
+
+/// The modes in which an option for all modes has an effect.
+pub(crate) const ALL: Modes = Modes {
+    members: &[
+        Mode::List,
+        Mode::Only,
+        Mode::Find,
+        Mode::Bad,
+        Mode::Invisible,
+        Mode::Fix,
+        Mode::Check,
+        Mode::Diff,
+    ],
+    hint: "",
+};
+
+pub(crate) const FIND: Modes = Modes {
+    members: &[Mode::Find],
+    hint: "use --find",
+};
+
+pub(crate) const NUMBER: Modes = Modes {
+    members: &[Mode::Find],
+    hint: "use only one of them",
+};
+
+pub(crate) const BAD: Modes = Modes {
+    members: &[Mode::Bad],
+    hint: "use --bad",
+};
+
+/// The modes that print literals.
+pub(crate) const LITERALS: Modes = Modes {
+    members: &[Mode::List, Mode::Only, Mode::Find],
+    hint: "use --only, --find or no mode",
+};
+
+/// The modes that lex a source, and accept stray characters.
+pub(crate) const TOKENS: Modes = Modes {
+    members: &[Mode::List, Mode::Only, Mode::Find, Mode::Bad],
+    hint: "use --bad, --only, --find or no mode",
+};
+
+/// The modes that `--fix`, `--check` and `--diff` exclude.
+pub(crate) const READING: Modes = Modes {
+    members: &[
+        Mode::List,
+        Mode::Only,
+        Mode::Find,
+        Mode::Bad,
+        Mode::Invisible,
+    ],
+    hint: "use only one of them",
+};
+
+/// The modes that print a line for each finding.
+pub(crate) const LISTING: Modes = Modes {
+    members: &[
+        Mode::List,
+        Mode::Only,
+        Mode::Find,
+        Mode::Bad,
+        Mode::Invisible,
+        Mode::Check,
+    ],
+    hint: "use a mode other than --fix and --diff",
+};
+
+pub(crate) const REWRITING: Modes = Modes {
+    members: &[Mode::Fix, Mode::Check, Mode::Diff],
+    hint: "use --fix, --check or --diff",
+};
+
+pub(crate) const BAD_OR_REWRITING: Modes = Modes {
+    members: &[Mode::Bad, Mode::Fix, Mode::Check, Mode::Diff],
+    hint: "use --bad, --fix, --check or --diff",
+};
+
+pub(crate) const BAD_OR_INVISIBLE: Modes = Modes {
+    members: &[Mode::Bad, Mode::Invisible],
+    hint: "use --bad or --invisible",
+};
+
+impl Mode {
+    /// Returns the words for the mode in a message.
+    pub(crate) fn words(self) -> &'static str {
+        match self {
+            Mode::Page => "with --help, --version, --rules or --generate",
+            Mode::List => "without a mode",
+            Mode::Only => "with --only",
+            Mode::Find => "with --find",
+            Mode::Bad => "with --bad",
+            Mode::Invisible => "with --invisible",
+            Mode::Fix => "with --fix",
+            Mode::Check => "with --check",
+            Mode::Diff => "with --diff",
+        }
+    }
+
+    pub(crate) fn is_among(self, modes: Modes) -> bool {
+        modes.members.contains(&self)
+    }
+}

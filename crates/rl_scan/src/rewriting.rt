@@ -1,0 +1,168 @@
+//! Rewrites files, or prints the changes that would be made.
+
+use crate::diff::print_diff;
+use crate::errors::{Checks, report_errors};
+use crate::failure::Failure;
+use crate::finding::{Finding, Place};
+use crate::modes::Mode;
+use crate::output::Output;
+use crate::print::Page;
+use crate::run::Call;
+use rl_files::{PathError, Replace, Tree};
+use rl_lexer::{SourceToken, Sources};
+use rl_program::write_bytes;
+use rl_restyle::{RULES, RestyleError, changing_rules, number_of, rewrite_source};
+use std::alloc::Allocator;
+use std::io::Write;
+
+/// Reports the change of a literal, and counts the rules that change it.
+fn report_change<A: Allocator + Copy, W: Write>(
+    page: &mut Page<'_, '_, A, W>,
+    rules: &mut [u64; RULES],
+    old: SourceToken<'_>,
+    new: &str,
+) -> Result<(), Failure<A>> {
+    if !page.job.shows && !page.job.stats {
+        page.count = page.count.saturating_add(1);
+        return Ok(());
+    }
+    let before = page.source.get(..old.lo).unwrap_or("");
+    let changing = changing_rules(page.alloc, page.job.style, before, old.text)?;
+    for rule in changing.as_slice() {
+        if let Some(count) = rules.get_mut(number_of(*rule)) {
+            *count = count.saturating_add(1);
+        }
+    }
+    let place = Place {
+        lo: old.lo,
+        hi: old.hi,
+    };
+    page.report_finding(
+        place,
+        Finding::Change {
+            old: old.text,
+            new,
+            rules: changing.as_slice(),
+        },
+    )
+}
+
+/// Reports the literals that differ between a source and its new text, which has the same tokens but for the rewritten literals.
+fn report_changes<A: Allocator + Copy, W: Write>(
+    page: &mut Page<'_, '_, A, W>,
+    rules: &mut [u64; RULES],
+    new: &str,
+) -> Result<(), Failure<A>> {
+    let mut tokens = Sources::new(page.source);
+    let mut new_tokens = Sources::new(new);
+    for _ in 0..u64::MAX {
+        let (Some(old), Some(rewritten)) = (tokens.next_literal(), new_tokens.next_literal()) else {
+            break;
+        };
+        if old.text != rewritten.text {
+            report_change(page, rules, old, rewritten.text)?;
+        }
+    }
+    page.close()
+}
+
+impl<'s, 'a, A: Allocator + Copy, T: Tree, W: Write, E: Write, F: Replace> Call<
+    's,
+    'a,
+    A,
+    T,
+    W,
+    E,
+    F,
+> {
+    /// Prints the errors because of which a source isn't rewritten. Returns whether there are any.
+    fn explains<'t>(&mut self, path: &'t str, source: &'t str) -> Result<bool, Failure<A>> {
+        let job = self.job;
+        let job = job.for_errors();
+        let mut page = Page::new(self.alloc, &job, path, source, self.err);
+        report_errors(
+            &mut page,
+            Checks {
+                types: false,
+                strays: true,
+            },
+        )?;
+        page.close()?;
+        Ok(page.count > 0)
+    }
+
+    /// Replaces a file. Returns whether it was replaced.
+    fn replaces(&mut self, path: &str, old: &str, new: &str) -> Result<bool, Failure<A>> {
+        match self
+            .files
+            .replace(self.alloc, path, old.as_bytes(), new.as_bytes())
+        {
+            Ok(()) => Ok(true),
+            Err(PathError::OutOfMemory) => Err(Failure::Memory),
+            Err(why) => {
+                self.complain_why(path, why)?;
+                self.tally.errors = self.tally.errors.saturating_add(1);
+                self.tally.read = self.tally.read.saturating_sub(1);
+                Ok(false)
+            }
+        }
+    }
+
+    /// Prints the changes of a source, or replaces it by its new text. Returns the number of changes.
+    fn print_changes<'t>(
+        &mut self,
+        path: &'t str,
+        source: &'t str,
+        new: &str,
+    ) -> Result<u64, Failure<A>> {
+        let is_input = path == "-";
+        if self.job.mode == Mode::Fix && is_input {
+            write_bytes(self.out, new.as_bytes())?;
+            self.tally.prints_source = true;
+        }
+        if new == source
+            || self.job.mode == Mode::Fix && !is_input && !self.replaces(path, source, new)?
+        {
+            return Ok(0);
+        }
+        let mut page = Page::new(self.alloc, &self.job, path, source, self.out);
+        report_changes(&mut page, &mut self.tally.rules, new)?;
+        let count = page.count;
+        drop(page);
+        if self.job.mode == Mode::Diff && !self.job.quiet {
+            let mut output = Output::new(self.alloc, self.out);
+            print_diff(&mut output, path, source, new)?;
+        }
+        Ok(count)
+    }
+
+    /// Rewrites a source. Returns the number of changes.
+    pub(crate) fn rewrite<'t>(
+        &mut self,
+        path: &'t str,
+        source: &'t str,
+    ) -> Result<u64, Failure<A>> {
+        let job = self.job;
+        let rewritten = rewrite_source(self.alloc, job.style, job.choice(), source);
+        let is_clean = match &rewritten {
+            Ok(new) => new.is_clean,
+            Err(_) => false,
+        };
+        if !is_clean && self.explains(path, source)? {
+            self.tally.errors = self.tally.errors.saturating_add(1);
+            return Ok(0);
+        }
+        match rewritten {
+            Ok(new) => self.print_changes(path, source, new.text.as_str()),
+            Err(RestyleError::Script) => {
+                self.complain(path, "left alone: its first line begins with #!")?;
+                if self.job.mode == Mode::Fix && path == "-" {
+                    write_bytes(self.out, source.as_bytes())?;
+                    self.tally.prints_source = true;
+                }
+                Ok(0)
+            }
+            Err(_) => Err(Failure::Memory),
+        }
+    }
+}

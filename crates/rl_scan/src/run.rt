@@ -1,0 +1,328 @@
+//! Runs `rl_scan`: visits files, prints their findings, and determines the exit status.
+
+use crate::args::{Args, without_mark};
+use crate::errors::report_end;
+use crate::escapes::{Before, Escapes, push_text};
+use crate::failure::Failure;
+use crate::findings::report_findings;
+use crate::job::{Job, Lists};
+use crate::literal::integers_of;
+use crate::modes::Mode;
+use crate::options::row_named;
+use crate::pages::page_of;
+use crate::paths::{extensions_of, paths_of};
+use crate::print::Page;
+use crate::stats::Tally;
+use crate::style::{kinds_of, style_of};
+use rl_files::{PathError, Replace, Selection, Tree, Visit, Walk, WalkError};
+use rl_program::{Ending, write_bytes};
+use std::alloc::{AllocError, Allocator};
+use std::io::Write;
+
+/// The properties of standard input and output that a call depends on.
+#[derive(Clone, Copy)]
+pub struct Console {
+    /// Whether standard input isn't a file, a pipe or a socket.
+    pub lacks_input: bool,
+    /// Whether standard output displays colours.
+    pub has_colors: bool,
+}
+
+/// The files and streams that a call uses.
+#[derive(Drop)]
+pub struct System<'s, T, W, E, F> {
+    pub console: Console,
+    /// The files that are read.
+    pub tree: &'s T,
+    /// Standard output.
+    pub out: &'s mut W,
+    /// Standard error.
+    pub err: &'s mut E,
+    /// Replaces files.
+    pub files: &'s mut F,
+}
+
+/// A call that is being run: its job, its files and streams, and its counts.
+#[derive(Drop)]
+pub(crate) struct Call<'s, 'a, A: Allocator, T, W, E, F> {
+    pub alloc: A,
+    pub job: Job<'a>,
+    pub tree: &'s T,
+    pub out: &'s mut W,
+    pub err: &'s mut E,
+    pub files: &'s mut F,
+    pub tally: Tally,
+}
+
+impl<'s, 'a, A: Allocator + Copy, T: Tree, W: Write, E: Write, F: Replace> Call<
+    's,
+    'a,
+    A,
+    T,
+    W,
+    E,
+    F,
+> {
+    // ---- errors of paths
+
+    /// Prints a line about a file on standard error, after the program's name and the file's path.
+    pub(crate) fn complain(&mut self, path: &str, words: &str) -> Result<(), Failure<A>> {
+        if !self.job.messages {
+            return Ok(());
+        }
+        let mut line = String::from_str(self.alloc, "rl_scan: ")?;
+        push_text(&mut line, Escapes::Literal, Before::Other, path)?;
+        line.push_str(": ")?;
+        line.push_str(words)?;
+        line.push('\n')?;
+        write_bytes(self.err, line.as_bytes())?;
+        Ok(())
+    }
+
+    /// Prints that a path can't be read or written.
+    pub(crate) fn complain_why(&mut self, path: &str, why: PathError) -> Result<(), Failure<A>> {
+        let mut words = format!(in self.alloc; "{why}")?;
+        if matches!(why, PathError::NotFound) && !path.is_empty() {
+            let option = format!(in self.alloc; "--{path}")?;
+            if row_named(option.as_str()).is_some() {
+                write!(words, ": did you mean --{path}?")?;
+            } else if self.job.may_be_text && !path.contains('/') && !path.contains('.') {
+                words.push_str(": to search for a text, use --find TEXT")?;
+            }
+        }
+        self.complain(without_mark(path), words.as_str())
+    }
+
+    /// Prints that a path can't be read, and counts it. A path that isn't UTF-8 is only skipped.
+    fn report_unread(&mut self, path: &str, why: PathError) -> Result<(), Failure<A>> {
+        self.complain_why(path, why)?;
+        if !matches!(why, PathError::PathNotUtf8) {
+            self.tally.visited = self.tally.visited.saturating_add(1);
+            self.tally.errors = self.tally.errors.saturating_add(1);
+        }
+        Ok(())
+    }
+
+    // ---- sources
+
+    /// Appends a path of `--files`, `-l` or `-c`, with a mark after it.
+    fn push_file(&self, out: &mut String<A>, path: &str, mark: char) -> Result<(), AllocError> {
+        self.job.push_color(out, "\x1b[35m")?;
+        if self.job.nul {
+            out.push_str(path)?;
+        } else {
+            push_text(out, Escapes::Literal, Before::Space, without_mark(path))?;
+        }
+        self.job.push_color(out, "\x1b[0m")?;
+        out.push(if self.job.nul { '\0' } else { mark })
+    }
+
+    /// Prints the path of a file, or the number of its findings.
+    fn print_count(&mut self, path: &str, count: u64) -> Result<(), Failure<A>> {
+        let mut line = String::new(self.alloc);
+        let is_input = path == "-";
+        let is_fix = self.job.mode == Mode::Fix && !is_input && !self.job.quiet;
+        if self.job.counts || is_fix {
+            if !is_input {
+                self.push_file(&mut line, path, ':')?;
+            }
+            writeln!(line, "{count}")?;
+        } else if self.job.names {
+            self.push_file(&mut line, path, '\n')?;
+        }
+        write_bytes(self.out, line.as_bytes())?;
+        Ok(())
+    }
+
+    /// Prints the findings of a source. Returns their number.
+    fn print_findings<'t>(&mut self, path: &'t str, source: &'t str) -> Result<u64, Failure<A>> {
+        let job = self.job;
+        let mut page = Page::new(self.alloc, &job, path, source, self.out);
+        let end = report_findings(&mut page)?;
+        page.close()?;
+        let count = page.count;
+        drop(page);
+        if let Some(error) = end {
+            let job = job.for_errors();
+            let mut errors = Page::new(self.alloc, &job, path, source, self.err);
+            report_end(&mut errors, error)?;
+            errors.close()?;
+            drop(errors);
+            self.tally.errors = self.tally.errors.saturating_add(1);
+        }
+        Ok(count)
+    }
+
+    /// Reads a source, prints its findings, and counts them.
+    fn report_source<'t>(&mut self, path: &'t str, source: &'t str) -> Result<(), Failure<A>> {
+        self.tally.visited = self.tally.visited.saturating_add(1);
+        self.tally.read = self.tally.read.saturating_add(1);
+        let job = self.job;
+        let count = if job.rewrites() {
+            self.rewrite(path, source)?
+        } else {
+            self.print_findings(path, source)?
+        };
+        if count == 0 {
+            return Ok(());
+        }
+        self.tally.with_findings = self.tally.with_findings.saturating_add(1);
+        self.tally.findings = self.tally.findings.saturating_add(count);
+        self.print_count(path, count)
+    }
+
+    /// Reads a file, prints its findings, and counts them. With `--files`, it prints only the path.
+    fn report_file(&mut self, path: &str) -> Result<(), Failure<A>> {
+        if self.job.lists_files {
+            self.tally.visited = self.tally.visited.saturating_add(1);
+            if self.job.quiet {
+                return Ok(());
+            }
+            let mut line = String::new(self.alloc);
+            self.push_file(&mut line, path, '\n')?;
+            write_bytes(self.out, line.as_bytes())?;
+            return Ok(());
+        }
+        let bytes = match self.tree.bytes(self.alloc, path) {
+            Ok(bytes) => bytes,
+            Err(why) => return self.report_unread(path, why),
+        };
+        match std::str::from_utf8(bytes.as_slice()) {
+            Ok(source) => self.report_source(path, source),
+            Err(error) => self.report_unread(path, PathError::NotUtf8(error.valid_up_to())),
+        }
+    }
+
+    /// Prints the findings of all files of a walk, and counts them.
+    fn report_files(
+        &mut self,
+        walk: &mut Walk<A>,
+        selection: Selection<'_>,
+    ) -> Result<(), Failure<A>> {
+        for _ in 0..u64::MAX {
+            match walk.next(self.alloc, selection, self.tree) {
+                Ok(None) => return Ok(()),
+                Ok(Some(Visit::File(path))) => self.report_file(path.as_str())?,
+                Ok(Some(Visit::Failed(path, why))) => self.report_unread(path.as_str(), why)?,
+                Err(WalkError::OutOfMemory) => return Err(Failure::Memory),
+                Err(WalkError::TooManyDirectories) => break,
+            }
+        }
+        Err(Failure::TooManyDirectories)
+    }
+}
+
+// ---- calls
+
+/// Returns the description of the files that a walk visits.
+fn selection_of<'x>(
+    all: bool,
+    extensions: &'x [&'x str],
+    excludes: &'x [&'x str],
+) -> Selection<'x> {
+    Selection {
+        all,
+        extensions,
+        excludes,
+    }
+}
+
+/// Prints the findings of the files of a call, and its totals. Returns its exit status.
+fn run_call<A: Allocator + Copy, T: Tree, W: Write, E: Write, F: Replace>(
+    call: &mut Call<'_, '_, A, T, W, E, F>,
+    args: &Args<'_, A>,
+    paths: &mut Vec<String<A>, A>,
+) -> Result<u8, Failure<A>> {
+    let (alloc, has_paths) = (call.alloc, !paths.is_empty());
+    let extensions = extensions_of(alloc, args)?;
+    let excludes = args.all(alloc, "--exclude")?;
+    let selection = selection_of(
+        args.has("--all"),
+        extensions.as_slice(),
+        excludes.as_slice(),
+    );
+    let mut walk = Walk::of_paths(alloc, paths)?;
+    match call.report_files(&mut walk, selection) {
+        Ok(()) => {}
+        Err(Failure::Closed) if call.job.mode == Mode::Fix => return Err(Failure::Write),
+        Err(failure) => return Err(failure),
+    }
+    if call.job.stats {
+        call.print_totals()?;
+    }
+    if has_paths && call.tally.visited == 0 {
+        return Err(Failure::said(alloc, "there was no file to read"));
+    }
+    if call.tally.errors > 0 {
+        return Ok(2);
+    }
+    let job = call.job;
+    Ok(job.status(call.tally.findings))
+}
+
+/// Runs a call that has a job. Returns its exit status.
+fn run_job<A: Allocator + Copy, T: Tree, W: Write, E: Write, F: Replace>(
+    alloc: A,
+    args: &Args<'_, A>,
+    job: Job<'_>,
+    system: System<'_, T, W, E, F>,
+) -> Result<u8, Failure<A>> {
+    let reads_here = system.console.lacks_input || job.lists_files;
+    let mut paths = paths_of(alloc, args, system.tree, reads_here)?;
+    let mut call = Call {
+        alloc,
+        job,
+        tree: system.tree,
+        out: system.out,
+        err: system.err,
+        files: system.files,
+        tally: Tally::none(),
+    };
+    run_call(&mut call, args, &mut paths)
+}
+
+/// Parses the arguments and runs the call. Returns its exit status.
+fn parse_and_run<A: Allocator + Copy, T: Tree, W: Write, E: Write, F: Replace>(
+    alloc: A,
+    words: &[String<A>],
+    system: System<'_, T, W, E, F>,
+) -> Result<u8, Failure<A>> {
+    let args = Args::parse(alloc, words)?;
+    if args.mode() == Mode::Page {
+        write_bytes(system.out, page_of(alloc, &args)?.as_bytes())?;
+        return Ok(0);
+    }
+    let style = style_of(alloc, &args, system.tree)?;
+    let finds = args.all(alloc, "--find")?;
+    let allowed = args.all(alloc, "--allow")?;
+    let integers = args.all(alloc, "--number")?;
+    let numbers = integers_of(alloc, integers.as_slice())?;
+    let kinds = kinds_of(alloc, args.last("--only").unwrap_or(""))?;
+    let lists = Lists::new(
+        finds.as_slice(),
+        allowed.as_slice(),
+        numbers.as_slice(),
+        kinds.as_slice(),
+    );
+    let job = Job::of(&args, lists, style, system.console.has_colors);
+    run_job(alloc, &args, job, system)
+}
+
+/// Runs `rl_scan` with the arguments `args`, of which the first is the program's name, and returns the result of the call.
+pub fn run_with_arguments<A: Allocator + Copy, T: Tree, W: Write, E: Write, F: Replace>(
+    alloc: A,
+    args: &[String<A>],
+    system: System<'_, T, W, E, F>,
+) -> Ending<Failure<A>> {
+    let words = match args {
+        [_, words @ ..] => words,
+        [] => return Ending::Failed(Failure::NoArguments),
+    };
+    match parse_and_run(alloc, words, system) {
+        Ok(0) => Ending::Done,
+        Ok(1) => Ending::FoundBad,
+        Ok(_) => Ending::Reported,
+        Err(Failure::Closed) => Ending::Closed,
+        Err(failure) => Ending::Failed(failure),
+    }
+}

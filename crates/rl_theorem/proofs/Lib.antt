@@ -1,0 +1,2 @@
+mod HeadlineLemmas
+mod StepLemmas

@@ -1,0 +1,9 @@
+use Rattle.rl_theorem.proofs.StepLemmas.{same_at}
+use Rattle.rl_theorem.proofs.both_ways.Goals as goal
+
+pub returns-in-Ok : goal.returns-in-Ok
+returns-in-Ok g c = record {
+  same = λ entries last printed.
+      same_at c.args.file 0 entries c.in-Ok.literals.items c.args.n c.literal_at.result
+      (c.in-Ok.ensures entries last printed) (c.literal_at.ensures entries last printed);
+}

@@ -1,0 +1,63 @@
+// Rendered from crates/rl_program/src/lit_line.rt by tools/render, which erases contracts: change that file, and render again.
+//! Writes the output line of a `Lit`.
+
+use crate::rattle_std::prelude::{String};
+use crate::rl_program::found_line::{bool_word, push_found_line};
+use crate::rl_program::line::{push_line_of_kind, push_verbatim_line};
+use crate::rl_quoted::{Quoted, QuotedKind};
+use crate::rl_tokens::Kind;
+use crate::rust_literals::Lit;
+use crate::rattle_std::alloc::{AllocError, Allocator};
+
+/// Appends the output line of a quoted literal, from the parse result that it stores.
+fn push_quoted_literal<K: QuotedKind, A: Allocator + Copy>(
+    alloc: A,
+    out: &mut String<A>,
+    literal: &Quoted<K, A>,
+) -> Result<(), AllocError> {
+    push_found_line(alloc, out, literal.text(), Some(literal.found()))
+}
+
+/// Appends the output line of a literal.
+///
+/// # Errors
+///
+/// Returns an error if an allocation fails. The error is the standard library's. A part of the line may have been appended then.
+pub fn push_literal_line<A: Allocator + Copy>(
+    alloc: A,
+    out: &mut String<A>,
+    literal: &Lit<A>,
+) -> Result<(), AllocError> {
+    match literal {
+        Lit::Str(literal) => push_quoted_literal(alloc, out, literal),
+        Lit::ByteStr(literal) => push_quoted_literal(alloc, out, literal),
+        Lit::CStr(literal) => push_quoted_literal(alloc, out, literal),
+        Lit::Byte(literal) => push_quoted_literal(alloc, out, literal),
+        Lit::Char(literal) => push_quoted_literal(alloc, out, literal),
+        Lit::Int(number) => push_line_of_kind(
+            out,
+            Kind::Int,
+            number.base10_digits(),
+            number.suffix(),
+        ),
+        Lit::Float(number) => push_line_of_kind(
+            out,
+            Kind::Float,
+            number.base10_digits(),
+            number.suffix(),
+        ),
+        Lit::Bool(truth) => push_line_of_kind(out, Kind::Bool, bool_word(truth.value()), ""),
+        Lit::Verbatim(token) => push_verbatim_line(out, token.text()),
+    }
+}
+
+/// Returns the output line of a literal: its kind, its value as a newly written literal, and its suffix, with an LF at the end.
+///
+/// # Errors
+///
+/// Returns an error if an allocation fails. The error is the standard library's and has no position.
+pub fn output_line<A: Allocator + Copy>(alloc: A, literal: &Lit<A>) -> Result<String<A>, AllocError> {
+    let mut line = String::new(alloc);
+    push_literal_line(alloc, &mut line, literal)?;
+    Ok(line)
+}

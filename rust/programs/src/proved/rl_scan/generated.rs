@@ -1,0 +1,409 @@
+// Rendered from crates/rl_scan/src/generated.rt by tools/render, which erases contracts: change that file, and render again.
+//! The texts that `rl_scan --generate` prints. `tools/manual` writes this file.
+
+/// The manual page of `rl_scan`.
+const MAN: &str = r".TH RL_SCAN 1 2026-12-01
+.SH NAME
+rl_scan \- prints the literals of Rust source files, or the errors in them
+.SH SYNOPSIS
+rl_scan [OPTIONS] [PATH..]
+.SH DESCRIPTION
+Prints the literals of Rust source files, or the errors in them.
+.PP
+A PATH is a file or a directory. In a directory, rl_scan reads the *.rs files, sorted by their paths. It skips hidden files and directories, and `target` beside a Cargo.toml, and doesn't follow symbolic links. `\-` is standard input. Without a PATH and \-\-files\-from, rl_scan reads standard input if that is a file, a pipe or a socket. Otherwise, or with \-\-files, it reads the current directory.
+.SH OPTIONS
+.SS Modes
+One at most, except \-\-only with \-\-find, \-\-fix, \-\-check or \-\-diff.
+.TP
+.B \-\-bad
+Print the literals that Rust rejects, and unclosed quotes and comments.
+.TP
+.B \-\-invisible
+Print invisible and bidirectional characters, anywhere in a file.
+.TP
+.B \-\-only KIND,..
+Print the literals of these kinds: Str ByteStr CStr Byte Char Int Float Bool Verbatim, in any case.
+.TP
+.B \-e, \-\-find TEXT
+Print the string, character and byte literals whose value contains TEXT; may be repeated.
+.TP
+.B \-\-number N
+Print the integers that represent the number N, written in any base; may be repeated, also with \-\-find.
+.TP
+.B \-\-fix
+Rewrite files in a style, and print how many literals of each file changed; for standard input, print the rewritten source.
+.TP
+.B \-\-check
+Print the changes that \-\-fix would make.
+.TP
+.B \-\-diff
+Print these changes as a unified diff.
+.SS Options of these modes
+\-\-check and \-\-diff take those of \-\-fix.
+.TP
+.B \-\-any\-suffix
+For \-\-bad: accept any suffix, and numbers out of range, as macros do.
+.TP
+.B \-\-no\-stray
+For \-\-bad, \-\-only, \-\-find and without a mode: a stray character, at which no token begins, is an error.
+.TP
+.B \-\-edition YEAR
+For \-\-bad and \-\-fix: the edition whose reserved prefixes are errors: 2015, 2018, 2021 (default) or 2024.
+.TP
+.B \-\-allow ID
+For \-\-bad and \-\-invisible: print no findings with the id ID, which \-\-json prints; for \-\-invisible, ID may also be a character, such as U+200B; may be repeated.
+.TP
+.B \-i, \-\-ignore\-case
+For \-\-find: ignore the case of ASCII letters.
+.TP
+.B \-w, \-\-word
+For \-\-find: match only whole words.
+.TP
+.B \-\-style FILE
+For \-\-fix: rewrite by the rules in FILE; without it, drop needless escapes of quotes and needless hashes, and write 1e5 for 1E5.
+.TP
+.B \-\-rule RULE
+For \-\-fix: rewrite by this rule of \-\-rules; RULE is NAME=VALUE, or NAME for NAME=true; may be repeated.
+.TP
+.B \-\-macros WHICH
+skip or all: with skip, the default, \-\-fix leaves literals in macro calls, macro_rules! and attributes unchanged, and \-\-bad doesn't check their suffixes and ranges.
+.SS Files
+.TP
+.B \-\-all
+Also read hidden files and directories, and `target`.
+.TP
+.B \-\-extension EXT
+In directories, read *.EXT instead of *.rs; may be repeated.
+.TP
+.B \-\-exclude GLOB
+In directories, skip what GLOB matches, as in .gitignore, with *, ?, ** and / only; may be repeated.
+.TP
+.B \-\-files\-from FILE
+Also read the paths in FILE, which end with line ends, or with NUL; `\-` is standard input; may be repeated.
+.TP
+.B \-\-files
+Print the paths of the files that would be read, and read none.
+.SS Output
+.TP
+.B \-\-lines
+Print positions as LINE:COLUMN, the default for files.
+.TP
+.B \-\-bytes
+Print byte ranges LO..HI, the default for standard input.
+.TP
+.B \-\-columns UNIT
+characters or bytes: count columns in characters, which is the default, or in bytes, as vim's %c does.
+.TP
+.B \-\-text
+Print literals as written.
+.TP
+.B \-\-json
+Print one JSON object per finding.
+.TP
+.B \-\-format FORM
+text; json, as \-\-json; or github, for annotations.
+.TP
+.B \-C, \-\-context NUM
+Show the source line, and NUM lines before and after it.
+.TP
+.B \-B, \-\-before\-context NUM
+Show the source line, and NUM lines before it.
+.TP
+.B \-A, \-\-after\-context NUM
+Show the source line, and NUM lines after it.
+.TP
+.B \-\-color WHEN
+auto, always or never; auto means on a terminal, unless NO_COLOR is set and not empty, or TERM is dumb.
+.TP
+.B \-c, \-\-count
+Print the number of findings of each file that has some.
+.TP
+.B \-l, \-\-files\-with\-matches
+Print the path of each file that has findings.
+.TP
+.B \-Z, \-\-null
+End the paths of \-c, \-l and \-\-files with NUL.
+.TP
+.B \-q, \-\-quiet
+Print no findings; errors, totals and the output of \-\-fix for standard input are still printed.
+.TP
+.B \-\-no\-messages
+Print no errors and no warnings of files; the exit status stays the same.
+.TP
+.B \-\-stats
+Print totals at the end: files read, files with findings, findings, and files with an error; for \-\-fix, also how many literals each rule changes.
+.TP
+.B \-\-
+Every argument that follows is a PATH.
+.TP
+.B \-\-rules
+Print the rules of a style, with values and examples.
+.TP
+.B \-\-generate WHAT
+man, bash, zsh, fish, sarif\-jq or problem\-matcher: print the manual page, the completions for this shell, a jq program that makes SARIF of \-\-json, or a file with problem matchers for GitHub.
+.TP
+.B \-h, \-\-help
+Print this help.
+.TP
+.B \-V, \-\-version
+Print the version.
+.SH OUTPUT
+.nf
+  PATH:LINE:COLUMN: KIND VALUE SUFFIX
+  PATH:LINE:COLUMN: error: MESSAGE: PIECE
+  PATH:LINE:COLUMN: U+202E RIGHT\-TO\-LEFT OVERRIDE
+  PATH:LINE:COLUMN: OLD \-> NEW [RULE, ..]
+  LO..HI KIND VALUE SUFFIX
+.fi
+.SH EXIT STATUS
+.nf
+  0  success
+  1  \-\-bad or \-\-invisible found something; \-\-find found nothing; \-\-check or
+     \-\-diff found a change
+  2  an error: invalid arguments, no file to read, or an error of a file: it
+     can't be read, it has an unclosed quote or comment (except with \-\-bad and
+     \-\-invisible), or \-\-fix, \-\-check or \-\-diff rejects it; the other files are
+     still read
+.fi
+.SH EXAMPLES
+.nf
+  rl_scan \-\-bad src
+  rl_scan \-wie todo src tests
+  rl_scan \-\-check src
+  git ls\-files \-z '*.rs' | rl_scan \-\-invisible \-\-files\-from \-
+.fi
+";
+
+/// The completions for bash.
+const BASH: &str = r#"_rl_scan() {
+    local word=${COMP_WORDS[COMP_CWORD]} before=${COMP_WORDS[COMP_CWORD - 1]} at
+    # bash cuts --option=word in three
+    if [[ $word == "=" ]]; then
+        word=
+    elif [[ $before == "=" ]]; then
+        before=${COMP_WORDS[COMP_CWORD - 2]}
+    fi
+    for ((at = 1; at < COMP_CWORD; at++)); do
+        if [[ ${COMP_WORDS[at]} == -- ]]; then
+            mapfile -t COMPREPLY < <(compgen -f -- "$word")
+            return
+        fi
+    done
+    case $before in
+    --only) at=; [[ $word == *,* ]] && at=${word%,*},; mapfile -t COMPREPLY < <(compgen -W "Str ByteStr CStr Byte Char Int Float Bool Verbatim" -P "$at" -- "${word##*,}"); return ;;
+    -e|--find) mapfile -t COMPREPLY < <(compgen -W "" -- "$word"); return ;;
+    --number) mapfile -t COMPREPLY < <(compgen -W "" -- "$word"); return ;;
+    --edition) mapfile -t COMPREPLY < <(compgen -W "2015 2018 2021 2024" -- "$word"); return ;;
+    --allow) mapfile -t COMPREPLY < <(compgen -W "empty no-literal unfinished no-quote no-number unknown-escape unicode-escape-in-bytes no-hexadecimal-digit no-brace empty-braces too-many-digits past-ascii past-unicode surrogate nul not-ascii must-escape no-character two-characters no-exponent-digit bad-suffix integer-too-large minus too-many-hashes carriage-return early-quote extra-hash underscore-suffix no-digits digit-of-base based-float no-fraction-digit reserved-prefix quoted-suffix unknown-suffix float-suffix out-of-range stray-character bidirectional-character joiner variation-selector control-character invisible-character" -- "$word"); return ;;
+    --style) mapfile -t COMPREPLY < <(compgen -f -- "$word"); return ;;
+    --rule) mapfile -t COMPREPLY < <(compgen -W "hex_digits drop_underscores drop_leading_zeros suffix_separator binary_groups octal_groups decimal_groups hexadecimal_groups min_digits float_zero exponent_letter drop_exponent_plus escape_digits fewest_escape_digits drop_ascii_escapes named_escapes drop_quote_escapes fewest_hashes drop_raw escape_invisible" -- "$word"); return ;;
+    --macros) mapfile -t COMPREPLY < <(compgen -W "skip all" -- "$word"); return ;;
+    --extension) mapfile -t COMPREPLY < <(compgen -W "" -- "$word"); return ;;
+    --exclude) mapfile -t COMPREPLY < <(compgen -W "" -- "$word"); return ;;
+    --files-from) mapfile -t COMPREPLY < <(compgen -f -- "$word"); return ;;
+    --columns) mapfile -t COMPREPLY < <(compgen -W "characters bytes" -- "$word"); return ;;
+    --format) mapfile -t COMPREPLY < <(compgen -W "text json github" -- "$word"); return ;;
+    -C|--context) mapfile -t COMPREPLY < <(compgen -W "" -- "$word"); return ;;
+    -B|--before-context) mapfile -t COMPREPLY < <(compgen -W "" -- "$word"); return ;;
+    -A|--after-context) mapfile -t COMPREPLY < <(compgen -W "" -- "$word"); return ;;
+    --color) mapfile -t COMPREPLY < <(compgen -W "auto always never" -- "$word"); return ;;
+    --generate) mapfile -t COMPREPLY < <(compgen -W "man bash zsh fish sarif-jq problem-matcher" -- "$word"); return ;;
+    esac
+    if [[ $word == -* ]]; then
+        mapfile -t COMPREPLY < <(compgen -W "--bad --invisible --only -e --find --number --fix --check --diff --any-suffix --no-stray --edition --allow -i --ignore-case -w --word --style --rule --macros --all --extension --exclude --files-from --files --lines --bytes --columns --text --json --format -C --context -B --before-context -A --after-context --color -c --count -l --files-with-matches -Z --null -q --quiet --no-messages --stats -- --rules --generate -h --help -V --version" -- "$word")
+    else
+        mapfile -t COMPREPLY < <(compgen -f -- "$word")
+    fi
+}
+complete -o filenames -F _rl_scan rl_scan
+"#;
+
+/// The completions for zsh.
+const ZSH: &str = r"#compdef rl_scan
+_arguments -s -S \
+    '--bad[print the literals that Rust rejects, and unclosed quotes and comments]' \
+    '--invisible[print invisible and bidirectional characters, anywhere in a file]' \
+    '--only=[print the literals of these kinds: Str ByteStr CStr Byte Char Int Float Bool Verbatim, in any case]:KIND,..:_values -s , KIND Str ByteStr CStr Byte Char Int Float Bool Verbatim' \
+    '*-e+[print the string, character and byte literals whose value contains TEXT; may be repeated]:TEXT: ' \
+    '*--find=[print the string, character and byte literals whose value contains TEXT; may be repeated]:TEXT: ' \
+    '*--number=[print the integers that represent the number N, written in any base; may be repeated, also with --find]:N: ' \
+    '--fix[rewrite files in a style, and print how many literals of each file changed; for standard input, print the rewritten source]' \
+    '--check[print the changes that --fix would make]' \
+    '--diff[print these changes as a unified diff]' \
+    '--any-suffix[for --bad: accept any suffix, and numbers out of range, as macros do]' \
+    '--no-stray[for --bad, --only, --find and without a mode: a stray character, at which no token begins, is an error]' \
+    '--edition=[for --bad and --fix: the edition whose reserved prefixes are errors: 2015, 2018, 2021 (default) or 2024]:YEAR:(2015 2018 2021 2024)' \
+    '*--allow=[for --bad and --invisible: print no findings with the id ID, which --json prints; for --invisible, ID may also be a character, such as U+200B; may be repeated]:ID:(empty no-literal unfinished no-quote no-number unknown-escape unicode-escape-in-bytes no-hexadecimal-digit no-brace empty-braces too-many-digits past-ascii past-unicode surrogate nul not-ascii must-escape no-character two-characters no-exponent-digit bad-suffix integer-too-large minus too-many-hashes carriage-return early-quote extra-hash underscore-suffix no-digits digit-of-base based-float no-fraction-digit reserved-prefix quoted-suffix unknown-suffix float-suffix out-of-range stray-character bidirectional-character joiner variation-selector control-character invisible-character)' \
+    '-i[for --find: ignore the case of ASCII letters]' \
+    '--ignore-case[for --find: ignore the case of ASCII letters]' \
+    '-w[for --find: match only whole words]' \
+    '--word[for --find: match only whole words]' \
+    '--style=[for --fix: rewrite by the rules in FILE; without it, drop needless escapes of quotes and needless hashes, and write 1e5 for 1E5]:FILE:_files' \
+    '*--rule=[for --fix: rewrite by this rule of --rules; RULE is NAME=VALUE, or NAME for NAME=true; may be repeated]:RULE:(hex_digits drop_underscores drop_leading_zeros suffix_separator binary_groups octal_groups decimal_groups hexadecimal_groups min_digits float_zero exponent_letter drop_exponent_plus escape_digits fewest_escape_digits drop_ascii_escapes named_escapes drop_quote_escapes fewest_hashes drop_raw escape_invisible)' \
+    '--macros=[skip or all: with skip, the default, --fix leaves literals in macro calls, macro_rules! and attributes unchanged, and --bad doesn'\''t check their suffixes and ranges]:WHICH:(skip all)' \
+    '--all[also read hidden files and directories, and `target`]' \
+    '*--extension=[in directories, read *.EXT instead of *.rs; may be repeated]:EXT: ' \
+    '*--exclude=[in directories, skip what GLOB matches, as in .gitignore, with *, ?, ** and / only; may be repeated]:GLOB: ' \
+    '*--files-from=[also read the paths in FILE, which end with line ends, or with NUL; `-` is standard input; may be repeated]:FILE:_files' \
+    '--files[print the paths of the files that would be read, and read none]' \
+    '--lines[print positions as LINE:COLUMN, the default for files]' \
+    '--bytes[print byte ranges LO..HI, the default for standard input]' \
+    '--columns=[characters or bytes: count columns in characters, which is the default, or in bytes, as vim'\''s %c does]:UNIT:(characters bytes)' \
+    '--text[print literals as written]' \
+    '--json[print one JSON object per finding]' \
+    '--format=[text; json, as --json; or github, for annotations]:FORM:(text json github)' \
+    '-C+[show the source line, and NUM lines before and after it]:NUM: ' \
+    '--context=[show the source line, and NUM lines before and after it]:NUM: ' \
+    '-B+[show the source line, and NUM lines before it]:NUM: ' \
+    '--before-context=[show the source line, and NUM lines before it]:NUM: ' \
+    '-A+[show the source line, and NUM lines after it]:NUM: ' \
+    '--after-context=[show the source line, and NUM lines after it]:NUM: ' \
+    '--color=[auto, always or never; auto means on a terminal, unless NO_COLOR is set and not empty, or TERM is dumb]:WHEN:(auto always never)' \
+    '-c[print the number of findings of each file that has some]' \
+    '--count[print the number of findings of each file that has some]' \
+    '-l[print the path of each file that has findings]' \
+    '--files-with-matches[print the path of each file that has findings]' \
+    '-Z[end the paths of -c, -l and --files with NUL]' \
+    '--null[end the paths of -c, -l and --files with NUL]' \
+    '-q[print no findings; errors, totals and the output of --fix for standard input are still printed]' \
+    '--quiet[print no findings; errors, totals and the output of --fix for standard input are still printed]' \
+    '--no-messages[print no errors and no warnings of files; the exit status stays the same]' \
+    '--stats[print totals at the end: files read, files with findings, findings, and files with an error; for --fix, also how many literals each rule changes]' \
+    '--rules[print the rules of a style, with values and examples]' \
+    '--generate=[man, bash, zsh, fish, sarif-jq or problem-matcher: print the manual page, the completions for this shell, a jq program that makes SARIF of --json, or a file with problem matchers for GitHub]:WHAT:(man bash zsh fish sarif-jq problem-matcher)' \
+    '-h[print this help]' \
+    '--help[print this help]' \
+    '-V[print the version]' \
+    '--version[print the version]' \
+    '*:PATH:_files'
+";
+
+/// The completions for fish.
+const FISH: &str =
+    r#"complete -c rl_scan -l bad -d 'print the literals that Rust rejects, and unclosed quotes and comments'
+complete -c rl_scan -l invisible -d 'print invisible and bidirectional characters, anywhere in a file'
+complete -c rl_scan -l only -x -a '(__fish_complete_list , "string split \" \" \"Str ByteStr CStr Byte Char Int Float Bool Verbatim\"")' -d 'print the literals of these kinds: Str ByteStr CStr Byte Char Int Float Bool Verbatim, in any case'
+complete -c rl_scan -s e -l find -x -d 'print the string, character and byte literals whose value contains TEXT; may be repeated'
+complete -c rl_scan -l number -x -d 'print the integers that represent the number N, written in any base; may be repeated, also with --find'
+complete -c rl_scan -l fix -d 'rewrite files in a style, and print how many literals of each file changed; for standard input, print the rewritten source'
+complete -c rl_scan -l check -d 'print the changes that --fix would make'
+complete -c rl_scan -l diff -d 'print these changes as a unified diff'
+complete -c rl_scan -l any-suffix -d 'for --bad: accept any suffix, and numbers out of range, as macros do'
+complete -c rl_scan -l no-stray -d 'for --bad, --only, --find and without a mode: a stray character, at which no token begins, is an error'
+complete -c rl_scan -l edition -x -a '2015 2018 2021 2024' -d 'for --bad and --fix: the edition whose reserved prefixes are errors: 2015, 2018, 2021 (default) or 2024'
+complete -c rl_scan -l allow -x -a 'empty no-literal unfinished no-quote no-number unknown-escape unicode-escape-in-bytes no-hexadecimal-digit no-brace empty-braces too-many-digits past-ascii past-unicode surrogate nul not-ascii must-escape no-character two-characters no-exponent-digit bad-suffix integer-too-large minus too-many-hashes carriage-return early-quote extra-hash underscore-suffix no-digits digit-of-base based-float no-fraction-digit reserved-prefix quoted-suffix unknown-suffix float-suffix out-of-range stray-character bidirectional-character joiner variation-selector control-character invisible-character' -d 'for --bad and --invisible: print no findings with the id ID, which --json prints; for --invisible, ID may also be a character, such as U+200B; may be repeated'
+complete -c rl_scan -s i -l ignore-case -d 'for --find: ignore the case of ASCII letters'
+complete -c rl_scan -s w -l word -d 'for --find: match only whole words'
+complete -c rl_scan -l style -r -d 'for --fix: rewrite by the rules in FILE; without it, drop needless escapes of quotes and needless hashes, and write 1e5 for 1E5'
+complete -c rl_scan -l rule -x -a 'hex_digits drop_underscores drop_leading_zeros suffix_separator binary_groups octal_groups decimal_groups hexadecimal_groups min_digits float_zero exponent_letter drop_exponent_plus escape_digits fewest_escape_digits drop_ascii_escapes named_escapes drop_quote_escapes fewest_hashes drop_raw escape_invisible' -d 'for --fix: rewrite by this rule of --rules; RULE is NAME=VALUE, or NAME for NAME=true; may be repeated'
+complete -c rl_scan -l macros -x -a 'skip all' -d 'skip or all: with skip, the default, --fix leaves literals in macro calls, macro_rules! and attributes unchanged, and --bad doesn\'t check their suffixes and ranges'
+complete -c rl_scan -l all -d 'also read hidden files and directories, and `target`'
+complete -c rl_scan -l extension -x -d 'in directories, read *.EXT instead of *.rs; may be repeated'
+complete -c rl_scan -l exclude -x -d 'in directories, skip what GLOB matches, as in .gitignore, with *, ?, ** and / only; may be repeated'
+complete -c rl_scan -l files-from -r -d 'also read the paths in FILE, which end with line ends, or with NUL; `-` is standard input; may be repeated'
+complete -c rl_scan -l files -d 'print the paths of the files that would be read, and read none'
+complete -c rl_scan -l lines -d 'print positions as LINE:COLUMN, the default for files'
+complete -c rl_scan -l bytes -d 'print byte ranges LO..HI, the default for standard input'
+complete -c rl_scan -l columns -x -a 'characters bytes' -d 'characters or bytes: count columns in characters, which is the default, or in bytes, as vim\'s %c does'
+complete -c rl_scan -l text -d 'print literals as written'
+complete -c rl_scan -l json -d 'print one JSON object per finding'
+complete -c rl_scan -l format -x -a 'text json github' -d 'text; json, as --json; or github, for annotations'
+complete -c rl_scan -s C -l context -x -d 'show the source line, and NUM lines before and after it'
+complete -c rl_scan -s B -l before-context -x -d 'show the source line, and NUM lines before it'
+complete -c rl_scan -s A -l after-context -x -d 'show the source line, and NUM lines after it'
+complete -c rl_scan -l color -x -a 'auto always never' -d 'auto, always or never; auto means on a terminal, unless NO_COLOR is set and not empty, or TERM is dumb'
+complete -c rl_scan -s c -l count -d 'print the number of findings of each file that has some'
+complete -c rl_scan -s l -l files-with-matches -d 'print the path of each file that has findings'
+complete -c rl_scan -s Z -l null -d 'end the paths of -c, -l and --files with NUL'
+complete -c rl_scan -s q -l quiet -d 'print no findings; errors, totals and the output of --fix for standard input are still printed'
+complete -c rl_scan -l no-messages -d 'print no errors and no warnings of files; the exit status stays the same'
+complete -c rl_scan -l stats -d 'print totals at the end: files read, files with findings, findings, and files with an error; for --fix, also how many literals each rule changes'
+complete -c rl_scan -l rules -d 'print the rules of a style, with values and examples'
+complete -c rl_scan -l generate -x -a 'man bash zsh fish sarif-jq problem-matcher' -d 'man, bash, zsh, fish, sarif-jq or problem-matcher: print the manual page, the completions for this shell, a jq program that makes SARIF of --json, or a file with problem matchers for GitHub'
+complete -c rl_scan -s h -l help -d 'print this help'
+complete -c rl_scan -s V -l version -d 'print the version'
+"#;
+
+/// The program for `jq` that makes SARIF of JSON objects.
+const SARIF_JQ: &str =
+    r#"# Makes one document of SARIF 2.1.0 from the objects that `rl_scan --json` prints with `--bad`, `--invisible` or `--check`:
+#
+#     rl_scan --generate sarif-jq > sarif.jq
+#     rl_scan --json --bad src | jq -s -f sarif.jq
+#
+# Columns are counted in characters. The object of `--stats` is left out. For standard input the path is `-`.
+#
+# Two arguments add what the objects don't contain. `--arg version "$(rl_scan -V)"` is the program's version. `--arg status N` is its exit
+# status; without it the document has no invocation:
+#
+#     rl_scan --json --bad src > found; jq -s --arg status $? --arg version "$(rl_scan -V)" -f sarif.jq found
+def uri:
+  sub("^(\\./+)+"; "") | split("/") | map(@uri) | join("/") | if startswith("/") then "file://" + . else . end;
+def rule: if has("new") then .rules[0] // "style" else .id end;
+def description: if has("hidden") then (.id | gsub("-"; " ")) elif has("new") then "rule of a style: \(rule)" else .error end;
+def message:
+  if has("hidden") then .hidden
+  elif has("new") then "\(.text) -> \(.new)"
+  elif has("piece") and .piece != "" then "\(.error): \(.piece)"
+  elif has("error") then .error
+  else error("an object of none of --bad, --invisible and --check") end;
+def result:
+  {
+    ruleId: rule,
+    level: "error",
+    message: {text: message},
+    locations: [{
+      physicalLocation: {
+        artifactLocation: {uri: ((.path // "-") | uri)},
+        region: {startLine: .line, startColumn: .column, endLine: .end_line, endColumn: .end_column}
+      }
+    }]
+  };
+def rules: group_by(rule) | map({id: (.[0] | rule), shortDescription: {text: (.[0] | description)}});
+def driver: {name: "rl_scan"} + ($ARGS.named.version | if . then {version: split(" ")[-1]} else {} end);
+def invocations:
+  $ARGS.named.status | if . then {invocations: [tonumber | {executionSuccessful: (. < 2), exitCode: .}]} else {} end;
+map(select(has("files_with_findings") | not))
+| {
+  version: "2.1.0",
+  "$schema": "https://json.schemastore.org/sarif-2.1.0.json",
+  runs: [{
+    tool: {driver: (driver + {rules: rules})},
+    columnKind: "unicodeCodePoints",
+    results: map(result)
+  } + invocations]
+}
+"#;
+
+/// The problem matchers for GitHub.
+const PROBLEM_MATCHER: &str = r#"{
+  "problemMatcher": [
+    {
+      "owner": "rl_scan-bad",
+      "pattern": [{ "regexp": "^(.+?):(\\d+):(\\d+): (error): (.+)$", "file": 1, "line": 2, "column": 3, "severity": 4, "message": 5 }]
+    },
+    {
+      "owner": "rl_scan-invisible",
+      "severity": "error",
+      "pattern": [{ "regexp": "^(.+?):(\\d+):(\\d+): (U\\+[0-9A-F]{4,6}(?: .+)?)$", "file": 1, "line": 2, "column": 3, "message": 4 }]
+    },
+    {
+      "owner": "rl_scan-check",
+      "severity": "error",
+      "pattern": [{ "regexp": "^(.+?):(\\d+):(\\d+): (?!error: )(.+ -> .+ \\[[a-z_, ]*\\])$", "file": 1, "line": 2, "column": 3, "message": 4 }]
+    }
+  ]
+}
+"#;
+
+/// Returns the text that `--generate` prints for the value `what`.
+pub(crate) fn generated_text(what: &str) -> &'static str {
+    match what {
+        "man" => MAN,
+        "bash" => BASH,
+        "zsh" => ZSH,
+        "fish" => FISH,
+        "sarif-jq" => SARIF_JQ,
+        _ => PROBLEM_MATCHER,
+    }
+}

@@ -1,0 +1,268 @@
+// Rendered from crates/rl_scan/src/job.rt by tools/render, which erases contracts: change that file, and render again.
+//! What a call of `rl_scan` has to do with each file.
+
+use crate::rattle_std::prelude::{String};
+use crate::rl_scan::args::{Args, is_among};
+use crate::rl_scan::checks::number_in;
+use crate::rl_scan::context::Around;
+use crate::rl_scan::finding::Finding;
+use crate::rl_scan::ids::character_of;
+use crate::rl_scan::modes::{Mode, REWRITING};
+use crate::rl_scan::position::Position;
+use crate::rl_flaws::Edition;
+use crate::rl_restyle::{Choice, Macros};
+use crate::rl_style::Style;
+use crate::rl_syntax::Kind;
+use crate::rattle_std::alloc::{AllocError, Allocator};
+
+/// The format of findings.
+#[derive(Clone, Copy)]
+pub(crate) enum Form {
+    Text,
+    Json,
+    Github,
+}
+
+/// The values of options that may be repeated.
+#[derive(Clone, Copy)]
+pub(crate) struct Lists<'a> {
+    /// The texts to search for.
+    pub finds: &'a [&'a str],
+    /// The integers to search for.
+    pub numbers: &'a [u128],
+    /// The identifiers of findings that don't count.
+    pub allowed: &'a [&'a str],
+    /// The kinds of the literals that count if `--only` is passed. `None` stands for a literal without a value.
+    pub kinds: &'a [Option<Kind>],
+}
+
+impl<'a> Lists<'a> {
+    pub(crate) fn new(
+        finds: &'a [&'a str],
+        allowed: &'a [&'a str],
+        numbers: &'a [u128],
+        kinds: &'a [Option<Kind>],
+    ) -> Lists<'a> {
+        Lists {
+            finds,
+            allowed,
+            numbers,
+            kinds,
+        }
+    }
+}
+
+/// What a call of `rl_scan` has to do with each file.
+#[derive(Clone, Copy)]
+pub(crate) struct Job<'a> {
+    pub mode: Mode,
+    pub lists: Lists<'a>,
+    /// Whether only literals of some kinds count.
+    pub has_kinds: bool,
+    /// Whether any suffix and any value is accepted.
+    pub any_suffix: bool,
+    /// Whether stray characters are errors.
+    pub strays: bool,
+    /// Whether any suffix and any value is accepted in macro calls.
+    pub follows: bool,
+    pub edition: Edition,
+    /// Whether a search ignores the case of ASCII letters.
+    pub ignores_case: bool,
+    pub whole_words: bool,
+    /// Whether literals are printed as written.
+    pub as_written: bool,
+    pub form: Form,
+    pub color: bool,
+    /// The numbers of lines around each finding, if its line is printed.
+    pub around: Option<Around>,
+    pub lines: bool,
+    pub bytes: bool,
+    /// Whether columns are counted in bytes.
+    pub byte_columns: bool,
+    /// Whether findings are printed.
+    pub shows: bool,
+    pub quiet: bool,
+    pub counts: bool,
+    pub names: bool,
+    pub nul: bool,
+    pub lists_files: bool,
+    pub messages: bool,
+    pub stats: bool,
+    /// Whether a text may have been passed as a path.
+    pub may_be_text: bool,
+    pub style: Style,
+    pub macros: Macros,
+}
+
+fn edition_of(year: Option<&str>) -> Edition {
+    match year {
+        Some("2015") => Edition::E2015,
+        Some("2018") => Edition::E2018,
+        Some("2024") => Edition::E2024,
+        _ => Edition::E2021,
+    }
+}
+
+fn lines_of(value: Option<&str>, other: Option<usize>) -> Option<usize> {
+    match value {
+        Some(value) => number_in(value),
+        None => other,
+    }
+}
+
+/// Returns the numbers of lines around findings that a call requests.
+fn around_of<A: Allocator + Copy>(args: &Args<'_, A>) -> Option<Around> {
+    let both = lines_of(args.last("--context"), None);
+    let before = lines_of(args.last("--before-context"), both);
+    let after = lines_of(args.last("--after-context"), both);
+    if before.is_none() && after.is_none() {
+        return None;
+    }
+    Some(Around {
+        before: before.unwrap_or(0),
+        after: after.unwrap_or(0),
+    })
+}
+
+impl<'a> Job<'a> {
+    /// Reads the options of a call.
+    pub(crate) fn of<A: Allocator + Copy>(
+        args: &Args<'_, A>,
+        lists: Lists<'a>,
+        style: Style,
+        has_colors: bool,
+    ) -> Job<'a> {
+        let mode = args.mode();
+        let follows_all = args.last("--macros") == Some("all");
+        let any_suffix = args.has("--any-suffix");
+        let (quiet, counts, names) = (
+            args.has("--quiet"),
+            args.has("--count"),
+            args.has("--files-with-matches"),
+        );
+        Job {
+            mode,
+            lists,
+            has_kinds: args.has("--only"),
+            any_suffix,
+            strays: args.has("--no-stray"),
+            follows: mode == Mode::Bad && !follows_all,
+            edition: edition_of(args.last("--edition")),
+            ignores_case: args.has("--ignore-case"),
+            whole_words: args.has("--word"),
+            as_written: args.has("--text"),
+            form: match args.form() {
+                "json" => Form::Json,
+                "github" => Form::Github,
+                _ => Form::Text,
+            },
+            color: match args.last("--color") {
+                Some("always") => true,
+                Some("never") => false,
+                _ => has_colors,
+            },
+            around: around_of(args),
+            lines: args.has("--lines"),
+            bytes: args.has("--bytes"),
+            byte_columns: args.last("--columns") == Some("bytes"),
+            shows: !(quiet || counts || names || mode == Mode::Fix || mode == Mode::Diff),
+            quiet,
+            counts,
+            names,
+            nul: args.has("--null"),
+            lists_files: args.has("--files"),
+            messages: !args.has("--no-messages"),
+            stats: args.has("--stats"),
+            may_be_text: mode == Mode::List && args.last("--files-from").is_none(),
+            style,
+            macros: if follows_all {
+                Macros::All
+            } else {
+                Macros::Skip
+            },
+        }
+    }
+
+    /// Whether literals are rewritten.
+    pub(crate) fn rewrites(&self) -> bool {
+        self.mode.is_among(REWRITING)
+    }
+
+    /// Returns the choice of the literals that are rewritten.
+    pub(crate) fn choice(&self) -> Choice<'a> {
+        let kinds = self.lists.kinds;
+        Choice {
+            macros: self.macros,
+            kinds: if self.has_kinds { Some(kinds) } else { None },
+        }
+    }
+
+    /// Whether the positions in a file, or else in standard input, are lines and columns.
+    pub(crate) fn shows_lines(&self, is_file: bool) -> bool {
+        !self.bytes && (self.lines || is_file)
+    }
+
+    /// Returns the column of a position, in characters or in bytes.
+    pub(crate) fn column(&self, position: Position) -> usize {
+        if self.byte_columns {
+            position.byte_column()
+        } else {
+            position.column
+        }
+    }
+
+    /// Appends the code of a colour, if the output has colours.
+    pub(crate) fn push_color<A: Allocator>(
+        &self,
+        out: &mut String<A>,
+        code: &str,
+    ) -> Result<(), AllocError> {
+        if self.color {
+            out.push_str(code)
+        } else {
+            Ok(())
+        }
+    }
+
+    /// Whether a finding doesn't count.
+    pub(crate) fn allows(&self, finding: &Finding<'_>) -> bool {
+        let allowed = self.lists.allowed;
+        if allowed.is_empty() {
+            return false;
+        }
+        match finding {
+            Finding::Hidden { character, .. } => {
+                is_among(allowed, finding.id())
+                    || allowed
+                        .iter()
+                        .any(|id| character_of(id) == Some(*character))
+            }
+            _ => is_among(allowed, finding.id()),
+        }
+    }
+
+    /// Whether literals of a kind count.
+    pub(crate) fn wants(&self, kind: Option<Kind>) -> bool {
+        !self.has_kinds || self.lists.kinds.iter().any(|wanted| *wanted == kind)
+    }
+
+    /// Returns the job for errors of a file, which are lines of text.
+    pub(crate) fn for_errors(&self) -> Job<'a> {
+        let mut job = *self;
+        job.form = Form::Text;
+        job.color = false;
+        job.around = None;
+        job.shows = self.messages;
+        job
+    }
+
+    /// Returns the exit status of a run without errors.
+    pub(crate) fn status(&self, findings: u64) -> u8 {
+        let fails = match self.mode {
+            Mode::Bad | Mode::Invisible | Mode::Check | Mode::Diff => findings > 0,
+            Mode::Find => findings == 0,
+            _ => false,
+        };
+        if fails && !self.lists_files { 1 } else { 0 }
+    }
+}
