@@ -1,0 +1,5 @@
+mod WhiteLemmas
+mod SuffixBridge
+mod BoolBridge
+mod CharBridge
+mod ByteBridge
