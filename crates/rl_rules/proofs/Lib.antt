@@ -1,5 +1,4 @@
+mod RuleParts
 mod WhiteLemmas
-mod SuffixBridge
-mod BoolBridge
-mod CharBridge
-mod ByteBridge
+mod SuffixRule
+mod TruthRule

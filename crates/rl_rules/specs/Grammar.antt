@@ -1,226 +1,214 @@
--- The literals of the Rust Reference, chapter Tokens, and those of `syn` 3.0.9, src/lit.rs. Each rule has its name there.
-use Rattle.std.specs.Prelude.{ℕ, suc, Bool, false, not, ◌&&◌, ◌==◌, nat_lt, nat_le, List, [], ◌∷◌, ◌++◌, codes, length, filter, map, replicate, drop, encode_utf8_all, if◌then◌else◌}
-use Rattle.std.specs.List.{list_any}
-use Rattle.std.specs.Char.{digit_value, is_ascii, is_ascii_digit, is_ascii_hexdigit}
+-- The literals of the Rust Reference, chapter Tokens. There is one rule for each production, under the production's name.
+use Rattle.std.specs.Prelude.{◌≡◌, ◌↔◌, ℕ, Bool, true, false, not, ◌&&◌, ◌==◌, nat_lt, nat_le, List, [], ◌∷◌, ◌++◌, codes, length, replicate, encode_utf8_all}
+use Rattle.std.specs.List.{list_any, list_all}
+use Rattle.std.specs.Char.{digit_value, is_ascii}
 use Rattle.std.specs.Str.{all_scalars}
-use Rattle.std.specs.Fmt.{digits_onto}
 use Rattle.unicode_ident.specs.Ident.{is_xid_start, is_xid_continue}
 use Prim.Native.Char.{code}
-use Rattle.rl_rules.specs.Notation.{Rule, Text, One, Many, As, If, Some, Unless, ◌⋅◌, ◌∣◌, ◌is◌, any_of, but, any, maybe, some, end, number}
+use Rattle.rl_syntax.specs.declared.kind.Kind.{Kind}
+use Rattle.rl_syntax.specs.declared.kind.Kind.TheVariants.{Str, ByteStr, CStr, Byte, Char, Int, Float, Bool as BoolKind}
+use Rattle.rl_syntax.specs.Spelling.{place_value}
+use Rattle.rl_syntax.specs.Reading.{Contents, Digits, Truth, quoted_contents}
+use Rattle.rl_syntax.specs.Strict.{Strict, dec}
+use Rattle.rl_rules.specs.Notation.{Rule, Text, One, Many, As, If, Some, Unless, ◌⋅◌, ◌∣◌, Means, maybe, any_of, but, end, ◌is◌, skip}
 
--- ---- characters, digits and suffixes
-abbrev pub digit : Rule
-digit = One is_ascii_digit
+-- ---- suffixes
 
-abbrev pub hex : Rule
-hex = One is_ascii_hexdigit
+-- IDENTIFIER_OR_KEYWORD: a character of XID_Start, or `_`, and then any number of characters of XID_Continue.
+abbrev pub identifier_or_keyword : Rule
+identifier_or_keyword = (any_of (codes "_") ∣ One is_xid_start) ⋅ Many (One is_xid_continue)
 
-abbrev pub of_base : ℕ → ℕ → Bool
-of_base base c = nat_lt (digit_value c) base
-
-abbrev pub no_underscores : List ℕ → List ℕ
-no_underscores t = filter (but (codes "_")) t
-
--- Digits of the base and underscores, with at least one digit.
-abbrev pub digits : ℕ → Rule
-digits base = If (list_any (of_base base)) (Many (One (of_base base) ∣ any_of (codes "_")))
-
--- A decimal digit, and digits and underscores.
-abbrev pub decimal : Rule
-decimal = digit ⋅ Many (digit ∣ any_of (codes "_"))
-
-abbrev pub in_base_ten : ℕ → List ℕ
-in_base_ten n = digits_onto (suc n) 10 false n []
-
--- IDENTIFIER_OR_KEYWORD. `xid_ok` of `syn` also accepts `_`.
-abbrev pub identifier : Rule
-identifier = One is_xid_start ⋅ Many (One is_xid_continue) ∣ any_of (codes "_") ⋅ some (One is_xid_continue)
-
+-- SUFFIX: an identifier or keyword other than `_`.
 abbrev pub suffix : Rule
-suffix = maybe identifier ⋅ end
+suffix = Unless (Text (codes "_") ⋅ end) ⋅ identifier_or_keyword
 
--- ---- escapes, with the character or byte that each represents
+-- ---- digits
+
+-- BIN_DIGIT, OCT_DIGIT, DEC_DIGIT, HEX_DIGIT: a digit of the base 2, 8, 10 or 16. Letters may have either case.
+abbrev pub digit : ℕ → Rule
+digit base = One (λ c. nat_lt (digit_value c) base)
+
+-- Any number of digits and underscores. Its value is the digits.
+abbrev pub digits : ℕ → Rule
+digits base = Many (digit base ∣ Text (codes "_"))
+
+-- ---- escapes
+
+-- QUOTE_ESCAPE: an escaped quote.
 abbrev pub quote_escape : Rule
 quote_escape = codes "\\'" is code "'" ∣ codes "\\\"" is code "\""
 
-abbrev pub plain_escape : Rule
-plain_escape =
+-- The escapes of a letter, a backslash or `0`, which ASCII_ESCAPE and BYTE_ESCAPE both list.
+abbrev pub letter_escape : Rule
+letter_escape =
     codes "\\n" is code "\n" ∣ codes "\\r" is code "\r" ∣ codes "\\t" is code "\t" ∣ codes "\\\\" is code "\\"
+    ∣ codes "\\0" is 0
 
-abbrev pub nul_escape : Rule
-nul_escape = codes "\\0" is 0
+-- `\x` and two hexadecimal digits. The first digit is below the limit.
+abbrev pub hex_escape : ℕ → Rule
+hex_escape below = Text (codes "\\x") ⋅ As (λ ds. place_value 16 ds ∷ []) (digit below ⋅ digit 16)
 
+-- ASCII_ESCAPE: `\x`, an octal and a hexadecimal digit; or the escape of a letter.
 abbrev pub ascii_escape : Rule
-ascii_escape = Text (codes "\\x") ⋅ As (λ t. number 16 t ∷ []) (One (of_base 8) ⋅ hex)
+ascii_escape = hex_escape 8 ∣ letter_escape
 
+-- BYTE_ESCAPE: `\x` and two hexadecimal digits; or the escape of a letter or of a quote.
 abbrev pub byte_escape : Rule
-byte_escape = Text (codes "\\x") ⋅ As (λ t. number 16 t ∷ []) (hex ⋅ hex)
+byte_escape = hex_escape 16 ∣ letter_escape ∣ quote_escape
 
--- `\u{..}`: one to six digits, underscores after the first one, a scalar value.
-abbrev pub unicode_escape : (List ℕ → List ℕ) → Rule
-unicode_escape encode =
+-- UNICODE_ESCAPE: `\u{`, one to six hexadecimal digits with any number of underscores after each, and `}`. The number is
+-- a Unicode scalar value.
+abbrev pub unicode_escape : Rule
+unicode_escape =
     Text (codes "\\u{")
-    ⋅ As (λ t. encode (number 16 (no_underscores t) ∷ []))
-    (If (λ t. nat_le (length (no_underscores t)) 6 && all_scalars (number 16 (no_underscores t) ∷ []))
-    (hex ⋅ Many (hex ∣ any_of (codes "_"))))
+    ⋅ As (λ ds. place_value 16 ds ∷ [])
+    (If (λ ds. nat_le 1 (length ds) && nat_le (length ds) 6 && all_scalars (place_value 16 ds ∷ []))
+    (Many (digit 16 ⋅ Many (Text (codes "_")))))
     ⋅ Text (codes "}")
 
-abbrev pub string_continue : List ℕ → List ℕ → Rule
-string_continue ends blanks =
-    As (λ t. []) (Text (codes "\\") ⋅ any_of ends ⋅ Many (any_of blanks)) ⋅ Unless (any_of blanks)
+-- STRING_CONTINUE: a backslash and an LF. Chapter Literal expressions drops all spaces, TABs and LFs after them too.
+abbrev pub string_continue : Rule
+string_continue = skip (Text (codes "\\\n") ⋅ Many (any_of (codes " \t\n"))) ⋅ Unless (any_of (codes " \t\n"))
 
-abbrev pub not_nul : Rule → Rule
-not_nul a = If (λ t. not (number 16 (filter is_ascii_hexdigit (drop 2 t)) == 0)) a
+-- ---- quoted literals
 
-abbrev pub itself : List ℕ → Rule
-itself cs = One (but cs)
-
-abbrev pub ascii_itself : List ℕ → Rule
-ascii_itself cs = One (λ c. is_ascii c && but cs c)
-
-abbrev pub same : List ℕ → List ℕ
-same t = t
-
-abbrev pub utf8 : Rule → Rule
-utf8 a = As encode_utf8_all a
-
--- ---- quoted literals of the Reference
-abbrev pub lf_continue : Rule
-lf_continue = string_continue (codes "\n") (codes " \t\n")
+-- CHAR_LITERAL: between single quotes, a character other than `'`, `\`, LF, CR and TAB, or an escape.
+abbrev pub char_content : Rule
+char_content = One (but (codes "'\\\n\r\t")) ∣ quote_escape ∣ ascii_escape ∣ unicode_escape
 
 abbrev pub char_literal : Rule
-char_literal =
-    Text (codes "'")
-    ⋅ (itself (codes "'\\\n\r\t") ∣ quote_escape ∣ plain_escape ∣ nul_escape ∣ ascii_escape ∣ unicode_escape same)
-    ⋅ Text (codes "'")
+char_literal = Text (codes "'") ⋅ char_content ⋅ Text (codes "'")
+
+-- STRING_LITERAL: between double quotes, any number of characters other than `"`, `\` and CR, and escapes.
+abbrev pub string_content : Rule
+string_content = One (but (codes "\"\\\r")) ∣ quote_escape ∣ ascii_escape ∣ unicode_escape ∣ string_continue
 
 abbrev pub string_literal : Rule
-string_literal =
-    Text (codes "\"")
-    ⋅ Many (itself (codes "\"\\\r") ∣ quote_escape ∣ plain_escape ∣ nul_escape ∣ ascii_escape ∣ unicode_escape same
-    ∣ lf_continue)
-    ⋅ Text (codes "\"")
+string_literal = Text (codes "\"") ⋅ Many string_content ⋅ Text (codes "\"")
+
+-- BYTE_LITERAL: `b`, and between single quotes ASCII_FOR_CHAR or BYTE_ESCAPE.
+abbrev pub byte_content : Rule
+byte_content = One (λ c. is_ascii c && but (codes "'\\\n\r\t") c) ∣ byte_escape
 
 abbrev pub byte_literal : Rule
-byte_literal =
-    Text (codes "b'") ⋅ (ascii_itself (codes "'\\\n\r\t") ∣ quote_escape ∣ plain_escape ∣ nul_escape ∣ byte_escape)
-    ⋅ Text (codes "'")
+byte_literal = Text (codes "b'") ⋅ byte_content ⋅ Text (codes "'")
+
+-- BYTE_STRING_LITERAL: `b`, and between double quotes any number of ASCII_FOR_STRING, BYTE_ESCAPE and STRING_CONTINUE.
+abbrev pub byte_string_content : Rule
+byte_string_content = One (λ c. is_ascii c && but (codes "\"\\\r") c) ∣ byte_escape ∣ string_continue
 
 abbrev pub byte_string_literal : Rule
-byte_string_literal =
-    Text (codes "b\"")
-    ⋅ Many (ascii_itself (codes "\"\\\r") ∣ quote_escape ∣ plain_escape ∣ nul_escape ∣ byte_escape ∣ lf_continue)
-    ⋅ Text (codes "\"")
+byte_string_literal = Text (codes "b\"") ⋅ Many byte_string_content ⋅ Text (codes "\"")
+
+-- A text of the rule whose value has no NUL.
+abbrev pub not_nul : Rule → Rule
+not_nul a = If (list_all (λ c. not (c == 0))) a
+
+-- C_STRING_LITERAL: `c`, and between double quotes any number of characters other than `"`, `\`, CR and NUL, and of
+-- escapes that aren't NUL. The value is bytes. Characters are encoded as UTF-8, and `\x` is one byte.
+abbrev pub c_string_content : Rule
+c_string_content =
+    As encode_utf8_all (One (but (0 ∷ codes "\"\\\r"))) ∣ not_nul byte_escape
+    ∣ As encode_utf8_all (not_nul unicode_escape) ∣ string_continue
 
 abbrev pub c_string_literal : Rule
-c_string_literal =
-    Text (codes "c\"")
-    ⋅ Many (utf8 (itself (0 ∷ codes "\"\\\r")) ∣ quote_escape ∣ plain_escape ∣ not_nul byte_escape
-    ∣ not_nul (unicode_escape encode_utf8_all) ∣ lf_continue)
-    ⋅ Text (codes "\"")
+c_string_literal = Text (codes "c\"") ⋅ Many c_string_content ⋅ Text (codes "\"")
 
--- `r`, n hashes below 256, `"`, no `"` with n hashes, `"`, n hashes.
-abbrev pub raw : List ℕ → (List ℕ → List ℕ) → (ℕ → Bool) → Rule
-raw opener encode test =
-    Some (λ n. If (λ t. nat_lt n 256)
-    (Text (opener ++ replicate n (code "#") ++ codes "\"")
-    ⋅ As encode (Many (Unless (Text (code "\"" ∷ replicate n (code "#"))) ⋅ One (λ c. test c && but (codes "\r") c)))
-    ⋅ Text (code "\"" ∷ replicate n (code "#"))))
+-- RAW_STRING_LITERAL, RAW_BYTE_STRING_LITERAL, RAW_C_STRING_LITERAL: the prefix, at most 255 hashes and `"`, any number of
+-- characters other than CR that pass the test, and the first `"` with as many hashes after it.
+abbrev pub raw : List ℕ → (ℕ → Bool) → Rule
+raw prefix test =
+    Some (λ hashes. If (λ v. nat_lt hashes 256)
+    (Text (prefix ++ replicate hashes (code "#") ++ codes "\"")
+    ⋅ Many (Unless (Text (code "\"" ∷ replicate hashes (code "#"))) ⋅ One (λ c. test c && but (codes "\r") c))
+    ⋅ Text (code "\"" ∷ replicate hashes (code "#"))))
 
--- ---- numbers of the Reference
-abbrev pub based : List ℕ → ℕ → Rule
-based prefix base = As (λ t. in_base_ten (number base (no_underscores (drop 2 t)))) (Text prefix ⋅ digits base)
+abbrev pub raw_string_literal : Rule
+raw_string_literal = raw (codes "r") (λ c. true)
 
+abbrev pub raw_byte_string_literal : Rule
+raw_byte_string_literal = raw (codes "br") is_ascii
+
+abbrev pub raw_c_string_literal : Rule
+raw_c_string_literal = As encode_utf8_all (raw (codes "cr") (λ c. not (c == 0)))
+
+-- ---- numbers
+
+-- DEC_LITERAL: a digit, and then any number of digits and underscores.
+abbrev pub dec_literal : Rule
+dec_literal = digit 10 ⋅ digits 10
+
+-- BIN_LITERAL, OCT_LITERAL, HEX_LITERAL: the prefix, and digits and underscores with at least one digit.
+abbrev pub with_prefix : List ℕ → ℕ → Rule
+with_prefix prefix base = Text prefix ⋅ digits base ⋅ digit base ⋅ digits base
+
+-- The value of digits: their number in base ten.
+abbrev pub number : ℕ → Rule → Rule
+number base a = As (λ ds. dec (place_value base ds)) a
+
+-- A number with a base's prefix isn't decimal.
 abbrev pub no_prefix : Rule
 no_prefix = Unless (Text (codes "0b") ∣ Text (codes "0o") ∣ Text (codes "0x"))
 
+-- INTEGER_LITERAL: a literal of one of the four bases, with SUFFIX_NO_E. The digits are as long as possible, so that neither
+-- `_` nor, in base 16, a digit begins the suffix.
 abbrev pub integer_literal : Rule
 integer_literal =
-    ((no_prefix ⋅ As (λ t. in_base_ten (number 10 (no_underscores t))) decimal) ∣ based (codes "0b") 2
-    ∣ based (codes "0o") 8 ∣ based (codes "0x") 16 ⋅ Unless hex)
+    (no_prefix ⋅ number 10 dec_literal ∣ number 2 (with_prefix (codes "0b") 2)
+    ∣ number 8 (with_prefix (codes "0o") 8) ∣ number 16 (with_prefix (codes "0x") 16) ⋅ Unless (digit 16))
     ⋅ Unless (any_of (codes "eE_"))
 
-abbrev pub exponent : Rule
-exponent = any_of (codes "eE") ⋅ maybe (any_of (codes "+-")) ⋅ digits 10
+-- FLOAT_EXPONENT: `e` or `E`, perhaps a sign, and digits and underscores with at least one digit. Its value has `e`, and
+-- no `+`.
+abbrev pub float_exponent : Rule
+float_exponent =
+    (any_of (codes "e") ∣ codes "E" is code "e") ⋅ maybe (Text (codes "+") ∣ any_of (codes "-"))
+    ⋅ digits 10 ⋅ digit 10 ⋅ digits 10
 
--- The numeral without `_` and `+`, and with `e` for `E`.
-abbrev pub numeral_digits : List ℕ → List ℕ
-numeral_digits t = map (λ c. if c == code "E" then code "e" else c) (filter (but (codes "_+")) t)
-
+-- FLOAT_LITERAL: digits and a dot at the end of the text; digits, a dot and digits, with SUFFIX_NO_E; or digits, perhaps a
+-- dot and digits, and an exponent.
 abbrev pub float_literal : Rule
 float_literal =
     no_prefix
-    ⋅ As numeral_digits (decimal ⋅ Text (codes ".") ⋅ end
-    ∣ decimal ⋅ Text (codes ".") ⋅ decimal ⋅ Unless (any_of (codes "eE"))
-    ∣ decimal ⋅ maybe (Text (codes ".") ⋅ decimal) ⋅ exponent)
+    ⋅ (dec_literal ⋅ any_of (codes ".") ⋅ end
+    ∣ dec_literal ⋅ any_of (codes ".") ⋅ dec_literal ⋅ Unless (any_of (codes "eE"))
+    ∣ dec_literal ⋅ maybe (any_of (codes ".") ⋅ dec_literal) ⋅ float_exponent)
     ⋅ Unless (any_of (codes "_"))
 
+-- `true` or `false`, which have no suffix. In the value, 1 is `true`.
 abbrev pub boolean_literal : Rule
-boolean_literal = As same (Text (codes "true") ∣ Text (codes "false"))
+boolean_literal = (codes "true" is 1 ∣ codes "false" is 0) ⋅ end
 
--- ---- `syn`'s literals, where they differ
-abbrev pub cr_lf : Rule
-cr_lf = codes "\r\n" is code "\n"
+-- ---- all literals
 
-abbrev pub syn_continue : Rule
-syn_continue = string_continue (codes "\r\n") (codes " \t\r\n")
+abbrev pub literal : Kind → Rule
+literal Str = string_literal ∣ raw_string_literal
+literal ByteStr = byte_string_literal ∣ raw_byte_string_literal
+literal CStr = c_string_literal ∣ raw_c_string_literal
+literal Byte = byte_literal
+literal Char = char_literal
+literal Int = integer_literal
+literal Float = float_literal
+literal BoolKind = boolean_literal
 
-abbrev pub syn_char : Rule
-syn_char =
-    Text (codes "'")
-    ⋅ (itself (codes "\\") ∣ quote_escape ∣ plain_escape ∣ nul_escape ∣ ascii_escape ∣ unicode_escape same)
-    ⋅ Text (codes "'")
+-- The value of a literal's rule as the value of the literal.
+abbrev pub contents_of : Kind → List ℕ → Contents
+contents_of Int value = Digits value
+contents_of Float value = Digits value
+contents_of BoolKind value = Truth (list_any (λ c. c == 1) value)
+contents_of kind value = quoted_contents kind value
 
-abbrev pub syn_string : Rule
-syn_string =
-    Text (codes "\"")
-    ⋅ Many (itself (codes "\"\\\r") ∣ cr_lf ∣ quote_escape ∣ plain_escape ∣ nul_escape ∣ ascii_escape
-    ∣ unicode_escape same ∣ syn_continue)
-    ⋅ Text (codes "\"")
+-- By the rules, the text is a literal of the kind, with the given value and suffix.
+pub record IsLiteral (text : List ℕ) (kind : Kind) (contents : Contents) (suffix_text : List ℕ) : Type 0 where
+  pub body : List ℕ
+  pub value : List ℕ
+  pub text_is : text ≡ body ++ suffix_text
+  pub is_body : Means (literal kind) body suffix_text value
+  pub is_suffix : (v : List ℕ) × Means (maybe suffix) suffix_text [] v
+  pub contents_is : contents ≡ contents_of kind value
 
-abbrev pub syn_byte_string : Rule
-syn_byte_string =
-    Text (codes "b\"")
-    ⋅ Many (ascii_itself (codes "\"\\\r") ∣ cr_lf ∣ quote_escape ∣ plain_escape ∣ nul_escape ∣ byte_escape
-    ∣ syn_continue)
-    ⋅ Text (codes "\"")
-
-abbrev pub syn_c_string : Rule
-syn_c_string =
-    Text (codes "c\"")
-    ⋅ Many (utf8 (itself (0 ∷ codes "\"\\\r")) ∣ cr_lf ∣ quote_escape ∣ plain_escape ∣ not_nul byte_escape
-    ∣ not_nul (unicode_escape encode_utf8_all) ∣ syn_continue)
-    ⋅ Text (codes "\"")
-
--- The closing quote is the text's last one.
-abbrev pub syn_raw : List ℕ → (List ℕ → List ℕ) → (ℕ → Bool) → Rule
-syn_raw opener encode test =
-    Some (λ n. Text (opener ++ replicate n (code "#") ++ codes "\"") ⋅ As encode (Many (One test))
-    ⋅ Text (code "\"" ∷ replicate n (code "#")) ⋅ Unless (Many any ⋅ Text (codes "\"")))
-
-abbrev pub minus : Rule
-minus = maybe (As same (Text (codes "-")))
-
-abbrev pub xid_ok : Rule
-xid_ok = (any_of (codes "_") ∣ One is_xid_start) ⋅ Many (One is_xid_continue)
-
-abbrev pub syn_suffix : Rule
-syn_suffix = Unless (any_of (codes "_")) ⋅ maybe xid_ok ⋅ end
-
-abbrev pub exponent_suffix : Rule
-exponent_suffix =
-    any_of (codes "eE") ⋅ digits 10 ⋅ Unless (digit ∣ any_of (codes "_")) ⋅ maybe xid_ok ⋅ end
-
-abbrev pub syn_integer : Rule
-syn_integer =
-    minus
-    ⋅ ((no_prefix ⋅ As (λ t. in_base_ten (number 10 (no_underscores t))) decimal ⋅ Unless exponent_suffix)
-    ∣ based (codes "0b") 2 ∣ based (codes "0o") 8 ∣ based (codes "0x") 16 ⋅ Unless hex)
-
-abbrev pub syn_exponent : Rule
-syn_exponent = any_of (codes "eE") ⋅ Many (any_of (codes "_")) ⋅ maybe (any_of (codes "+-")) ⋅ digits 10
-
-abbrev pub syn_float : Rule
-syn_float =
-    As numeral_digits (minus ⋅ decimal ⋅ maybe (Text (codes ".") ⋅ Many (digit ∣ any_of (codes "_")))
-    ⋅ (syn_exponent ∣ Unless (any_of (codes "eE") ⋅ Many (any_of (codes "_")) ⋅ digit)))
+-- For literals of the kind, the definition of Rust's grammar and the rules agree.
+abbrev pub IsByTheRules : Kind → Type 0
+IsByTheRules kind =
+    (text : List ℕ) (contents : Contents) (suffix_text : List ℕ)
+    → Strict text kind contents suffix_text ↔ IsLiteral text kind contents suffix_text

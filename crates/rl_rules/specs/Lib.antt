@@ -1,3 +1,2 @@
 pub mod Notation
 pub mod Grammar
-pub mod Rules

@@ -1,19 +1,10 @@
-//! Bridges from the definitions of the strict grammar to a page of rules.
+//! The rules.
 #![tactic(auto)]
 
-ghost use Rattle.rl_rules.specs.Rules.{BoolRule, ByteRule, CharRule};
+ghost use Rattle.rl_syntax.specs.declared.kind.Kind.TheVariants.{Bool as BoolKind};
+ghost use Rattle.rl_rules.specs.Grammar.{IsByTheRules};
 
 /// BOOLEAN_LITERAL.
 pub fn bool_rule()
-    ensures { BoolRule }
-{}
-
-/// CHAR_LITERAL.
-pub fn char_rule()
-    ensures { CharRule }
-{}
-
-/// BYTE_LITERAL.
-pub fn byte_rule()
-    ensures { ByteRule }
+    ensures { IsByTheRules BoolKind }
 {}

@@ -1,5 +1,5 @@
-use Rattle.rl_rules.proofs.BoolBridge.{bool_bridge}
+use Rattle.rl_rules.proofs.TruthRule.{truth_rule}
 use Rattle.rl_rules.proofs.bool_rule.Goals as goal
 
 pub returns : goal.returns
-returns c = bool_bridge
+returns c = truth_rule
