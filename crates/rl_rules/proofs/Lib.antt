@@ -2,3 +2,6 @@ mod RuleParts
 mod WhiteLemmas
 mod SuffixRule
 mod TruthRule
+mod EscapeRules
+mod QuotedRules
+mod LiteralRules
