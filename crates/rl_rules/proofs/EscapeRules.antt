@@ -24,26 +24,31 @@ pub quote_from : (text after value : List ℕ) → Means quote_escape text after
 quote_from text after value (inl (x, (t, e), v)) = (39, refl, t, v)
 quote_from text after value (inr (x, (t, e), v)) = (34, refl, t, v)
 
-pub letter_to : (c : ℕ) (after : List ℕ) → is_plain_letter c ≡ true
-    → Means letter_escape (92 ∷ c ∷ []) after (plain_value_in plain_escapes c)
-letter_to c after h =
-    let At : ℕ → Type 0 = λ k. Means letter_escape (92 ∷ k ∷ []) after (plain_value_in plain_escapes k) in
+pub letters : (P : ℕ → Type 0) (c : ℕ) → is_plain_letter c ≡ true → P 110 → P 114 → P 116 → P 92 → P 48 → P c
+letters P c h n r t b z =
     elim (or_cases (eqb 110 c) _ h) [
-      | inl e ↦ subst At (eqb-true 110 c e) (inl ([], (refl, refl), refl))
+      | inl e ↦ subst P (eqb-true 110 c e) n
       | inr h ↦ elim (or_cases (eqb 114 c) _ h) [
-        | inl e ↦ subst At (eqb-true 114 c e) (inr (inl ([], (refl, refl), refl)))
+        | inl e ↦ subst P (eqb-true 114 c e) r
         | inr h ↦ elim (or_cases (eqb 116 c) _ h) [
-          | inl e ↦ subst At (eqb-true 116 c e) (inr (inr (inl ([], (refl, refl), refl))))
+          | inl e ↦ subst P (eqb-true 116 c e) t
           | inr h ↦ elim (or_cases (eqb 92 c) _ h) [
-            | inl e ↦ subst At (eqb-true 92 c e) (inr (inr (inr (inl ([], (refl, refl), refl)))))
+            | inl e ↦ subst P (eqb-true 92 c e) b
             | inr h ↦ elim (or_cases (eqb 48 c) _ h) [
-              | inl e ↦ subst At (eqb-true 48 c e) (inr (inr (inr (inr ([], (refl, refl), refl)))))
+              | inl e ↦ subst P (eqb-true 48 c e) z
               | inr h ↦ absurd (cc)
             ]
           ]
         ]
       ]
     ]
+
+pub letter_to : (c : ℕ) (after : List ℕ) → is_plain_letter c ≡ true
+    → Means letter_escape (92 ∷ c ∷ []) after (plain_value_in plain_escapes c)
+letter_to c after h =
+    letters (λ k. Means letter_escape (92 ∷ k ∷ []) after (plain_value_in plain_escapes k)) c h (inl ([], (refl, refl), refl))
+    (inr (inl ([], (refl, refl), refl))) (inr (inr (inl ([], (refl, refl), refl))))
+    (inr (inr (inr (inl ([], (refl, refl), refl))))) (inr (inr (inr (inr ([], (refl, refl), refl)))))
 
 pub letter_from : (text after value : List ℕ) → Means letter_escape text after value
     → (c : ℕ) × (is_plain_letter c ≡ true) × (text ≡ 92 ∷ c ∷ []) × (value ≡ plain_value_in plain_escapes c)

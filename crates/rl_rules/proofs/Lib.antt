@@ -4,4 +4,5 @@ mod SuffixRule
 mod TruthRule
 mod EscapeRules
 mod QuotedRules
+mod RawRules
 mod LiteralRules

@@ -1,7 +1,7 @@
 //! The rules.
 #![tactic(auto)]
 
-ghost use Rattle.rl_syntax.specs.declared.kind.Kind.TheVariants.{Bool as BoolKind, Char};
+ghost use Rattle.rl_syntax.specs.declared.kind.Kind.TheVariants.{Str, ByteStr, CStr, Byte, Char, Bool as BoolKind};
 ghost use Rattle.rl_rules.specs.Grammar.{IsByTheRules};
 
 /// BOOLEAN_LITERAL.
@@ -12,4 +12,24 @@ pub fn bool_rule()
 /// CHAR_LITERAL.
 pub fn char_rule()
     ensures { IsByTheRules Char }
+{}
+
+/// BYTE_LITERAL.
+pub fn byte_rule()
+    ensures { IsByTheRules Byte }
+{}
+
+/// STRING_LITERAL.
+pub fn string_rule()
+    ensures { IsByTheRules Str }
+{}
+
+/// BYTE_STRING_LITERAL.
+pub fn byte_string_rule()
+    ensures { IsByTheRules ByteStr }
+{}
+
+/// C_STRING_LITERAL.
+pub fn c_string_rule()
+    ensures { IsByTheRules CStr }
 {}
