@@ -6,3 +6,4 @@ mod EscapeRules
 mod QuotedRules
 mod RawRules
 mod LiteralRules
+mod NumberRules

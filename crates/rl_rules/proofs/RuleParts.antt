@@ -178,13 +178,13 @@ run_from test text after value m =
 abbrev pub part : (ℕ → Bool) → Rule
 part test = One test ∣ Text (95 ∷ [])
 
-abbrev kept : ℕ → List ℕ
+abbrev pub kept : ℕ → List ℕ
 kept c = without_underscores (c ∷ [])
 
-kept_digit : (c : ℕ) → eqb c 95 ≡ false → kept c ≡ c ∷ []
+pub kept_digit : (c : ℕ) → eqb c 95 ≡ false → kept c ≡ c ∷ []
 kept_digit c e = subst (λ b. (if not b then c ∷ [] else []) ≡ c ∷ []) (sym e) refl
 
-kept_all : (cs : List ℕ) → flat_map kept cs ≡ without_underscores cs
+pub kept_all : (cs : List ℕ) → flat_map kept cs ≡ without_underscores cs
 kept_all [] = refl
 kept_all (c ∷ cs) = ap (λ k. kept c ++ k) (kept_all cs) ∙ go (eqb c 95)
   where

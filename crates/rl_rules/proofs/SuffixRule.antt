@@ -33,7 +33,7 @@ identifier_to (c ∷ cs) after h =
           | inr s ↦ inr (c, s, refl, refl)
         ]
 
-alone : (b : Bool) → (b || false) ≡ true → b ≡ true
+pub alone : (b : Bool) → (b || false) ≡ true → b ≡ true
 alone true h = refl
 alone false h = h
 

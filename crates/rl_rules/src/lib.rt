@@ -1,7 +1,7 @@
 //! The rules.
 #![tactic(auto)]
 
-ghost use Rattle.rl_syntax.specs.declared.kind.Kind.TheVariants.{Str, ByteStr, CStr, Byte, Char, Bool as BoolKind};
+ghost use Rattle.rl_syntax.specs.declared.kind.Kind.TheVariants.{Str, ByteStr, CStr, Byte, Char, Int, Float, Bool as BoolKind};
 ghost use Rattle.rl_rules.specs.Grammar.{IsByTheRules};
 
 /// BOOLEAN_LITERAL.
@@ -32,4 +32,14 @@ pub fn byte_string_rule()
 /// C_STRING_LITERAL.
 pub fn c_string_rule()
     ensures { IsByTheRules CStr }
+{}
+
+/// INTEGER_LITERAL.
+pub fn int_rule()
+    ensures { IsByTheRules Int }
+{}
+
+/// FLOAT_LITERAL.
+pub fn float_rule()
+    ensures { IsByTheRules Float }
 {}
