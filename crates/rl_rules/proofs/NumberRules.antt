@@ -2,7 +2,7 @@
 use Rattle.rl_syntax.proofs.Common.{◌≡◌, ◌⊎◌, ℕ, ◌||◌, ◌&&◌, Bool, true, false, not, eqb, List, [], ◌∷◌, ◌++◌, refl, sym, ap, ap₂, subst, ◌∙◌, inl, inr, append_assoc, append-nil, list_all, list_any, list_all-append, flat_map, eqb-true, and_parts, and_from, or_left, or_right, or_cases, or_from, or_parts, cases_Bool, digit_value, nat_lt, is_ascii_digit, is_ascii_hexdigit, codes, if◌then◌else◌}
 use Rattle.std.proofs.lemmas.List.Concat.{flat_map-append}
 use Rattle.rl_syntax.specs.declared.kind.Kind.TheVariants.{Int, Float}
-use Rattle.std.specs.Prelude.{map, filter}
+use Rattle.std.specs.Prelude.{map, filter, ◌↔◌}
 use Rattle.rl_syntax.specs.Texts.{first_passes, begins, begins_char, is_among, is_run_part}
 use Rattle.rl_syntax.specs.Spelling.{place_value, without_underscores}
 use Rattle.rl_syntax.specs.Numbers.{float_digits}
@@ -10,7 +10,7 @@ use Rattle.rl_syntax.specs.Reading.{Contents, Digits}
 use Rattle.rl_syntax.specs.Strict.{dec, IsDigits, IsDecimalText, IsStrictSuffix, BasedPrefix, StrictInt, IsStrictExponent, IsDotAlone, IsPointed, IsScientific, StrictFloat}
 use Rattle.rl_syntax.proofs.Basics.{apart, digit_is_ten, hex_is_sixteen, all_same, any_same, passes_same}
 use Rattle.rl_rules.specs.Notation.{Rule, Text, One, Many, As, Unless, Means, ◌⋅◌, ◌∣◌, maybe, any_of, end}
-use Rattle.rl_rules.specs.Grammar.{digit, digits, dec_literal, with_prefix, number, no_prefix, integer_literal, float_exponent, float_literal, IsLiteral, IsByTheRules}
+use Rattle.rl_rules.specs.Grammar.{digit, digits, dec_literal, with_prefix, number, no_prefix, integer_literal, float_exponent, float_literal, IsLiteral}
 use Rattle.rl_rules.proofs.RuleParts.{text_then, then_text, NoneAt, unless_then, then_unless, unless_before, before_unless, none_passes, passes_none, none_begins, begins_none, none_of_both, kept, kept_digit, kept_all, parts_to, parts_from}
 use Rattle.rl_rules.proofs.SuffixRule.{suffix_to, suffix_from, at_end, alone}
 
@@ -259,7 +259,7 @@ int_from text contents x l =
         let no_digit = passes_same is_ascii_hexdigit (of_base 16) hex_is_sixteen x ∙ passes_none (of_base 16) x none in
         based (codes "0x") 16 refl (inr (inr (refl, refl))) (λ e. no_digit) ends is
 
-pub int_rule : IsByTheRules Int
+pub int_rule : (text : List ℕ) (contents : Contents) (x : List ℕ) → StrictInt text contents x ↔ IsLiteral text Int contents x
 int_rule text contents x = (int_to text contents x, int_from text contents x)
 
 -- ---- the digits of floats
@@ -561,5 +561,5 @@ float_from text contents x l =
       contents = l.contents_is ∙ ap Digits value_is;
     }
 
-pub float_rule : IsByTheRules Float
+pub float_rule : (text : List ℕ) (contents : Contents) (x : List ℕ) → StrictFloat text contents x ↔ IsLiteral text Float contents x
 float_rule text contents x = (float_to text contents x, float_from text contents x)

@@ -1,5 +1,6 @@
 -- Quoted literals with escapes, by both definitions.
 use Rattle.rl_syntax.proofs.Common.{◌≡◌, ◌⊎◌, ℕ, ◌||◌, ◌&&◌, Bool, true, false, not, eqb, List, [], ◌∷◌, ◌++◌, refl, sym, ap, subst, ◌∙◌, inl, inr, append-nil, append_assoc, list_all, flat_map, length, and_parts, and_from, or_cases, eqb-true, nat_lt, is_ascii_hexdigit, encode_utf8_all, codes}
+use Rattle.std.specs.Prelude.{◌↔◌}
 use Rattle.rl_syntax.specs.declared.kind.Kind.{Kind}
 use Rattle.rl_syntax.specs.declared.kind.Kind.TheVariants.{Str, ByteStr, CStr, Byte, Char}
 use Rattle.rl_syntax.specs.Texts.{first_passes, is_dropped_blank}
@@ -8,7 +9,7 @@ use Rattle.rl_syntax.specs.Strict.{StrictUnit, Itself, QuoteEscape, PlainEscape,
 use Rattle.rl_syntax.proofs.StrictQuoted.{one_unit, blanks_after}
 use Rattle.rl_syntax.proofs.Basics.{hex_is_sixteen}
 use Rattle.rl_rules.specs.Notation.{Rule, Text, One, Many, Means, ◌⋅◌, ◌∣◌, but, maybe}
-use Rattle.rl_rules.specs.Grammar.{char_content, string_content, byte_content, byte_string_content, c_string_content, quote_escape, letter_escape, ascii_escape, byte_escape, hex_escape, string_continue, suffix}
+use Rattle.rl_rules.specs.Grammar.{char_content, string_content, byte_content, byte_string_content, c_string_content, quote_escape, letter_escape, ascii_escape, byte_escape, hex_escape, string_continue, suffix, contents_of, IsLiteralBy}
 use Rattle.rl_rules.proofs.RuleParts.{text_then, then_text, close_then, then_close, IsRuleOf, Row, many_to, many_from}
 use Rattle.rl_rules.proofs.SuffixRule.{suffix_to, suffix_from}
 use Rattle.rl_rules.proofs.EscapeRules.{quote_to, quote_from, letters, hex_text, hex_value, letter_to, letter_from, hex_to, hex_from, unicode_to, unicode_from, continue_to, continue_from}
@@ -352,18 +353,17 @@ c_string_between = many CStr c_string_content c_string_unit (λ x. refl) (λ us.
 abbrev pub frame : Kind → Rule → Rule
 frame kind a = Text (strict_opener kind) ⋅ a ⋅ Text (strict_closer kind)
 
--- What both definitions say of a quoted literal, but for the kind's own alternatives.
-pub record Framed (kind : Kind) (a : Rule) (text : List ℕ) (contents : Contents) (x : List ℕ) : Type 0 where
-  pub body : List ℕ
-  pub value : List ℕ
-  pub text_is : text ≡ body ++ x
-  pub is_body : Means (frame kind a) body x value
-  pub is_suffix : (v : List ℕ) × Means (maybe suffix) x [] v
-  pub contents_is : contents ≡ quoted_contents kind value
+-- By a rule of Rust's grammar, the text is a literal.
+abbrev pub By : Kind → Rule → List ℕ → Contents → List ℕ → Type 0
+By kind a text contents x = IsLiteralBy a (maybe suffix) kind text contents x
 
-pub framed : (kind : Kind) (a : Rule) → Between kind a → (text : List ℕ) (contents : Contents) (x : List ℕ)
-    → StrictCooked text kind contents x → Framed kind a text contents x
-framed kind a between text contents x s =
+-- The value of a rule is that of a quoted literal.
+abbrev pub IsQuoted : Kind → Type 0
+IsQuoted kind = (v : List ℕ) → contents_of kind v ≡ quoted_contents kind v
+
+cooked_to : (kind : Kind) (a : Rule) → Between kind a → IsQuoted kind → (text : List ℕ) (contents : Contents) (x : List ℕ)
+    → StrictCooked text kind contents x → By kind (frame kind a) text contents x
+cooked_to kind a between quoted text contents x s =
     let inside = flat_map strict_text s.units in
     let value = flat_map (unit_value kind) s.units in
     record {
@@ -373,23 +373,28 @@ framed kind a between text contents x s =
       is_body = text_then (strict_opener kind) (a ⋅ Text (strict_closer kind)) (inside ++ strict_closer kind) x value
           (close_then (strict_closer kind) a inside x value (between.to s.units x s.count s.each s.blanks_end));
       is_suffix = suffix_to x s.suffix;
-      contents_is = s.contents;
+      contents_is = s.contents ∙ sym (quoted value);
     }
 
-pub cooked : (kind : Kind) (a : Rule) → Between kind a → (text : List ℕ) (contents : Contents) (x : List ℕ)
-    → Framed kind a text contents x → StrictCooked text kind contents x
-cooked kind a between text contents x s =
-    let (w, body_is, rest) = then_text (strict_opener kind) (a ⋅ Text (strict_closer kind)) s.body x s.value s.is_body in
-    let (u, w_is, m) = then_close (strict_closer kind) a w x s.value rest in
-    let found = between.from u x s.value m in
+cooked_from : (kind : Kind) (a : Rule) → Between kind a → IsQuoted kind → (text : List ℕ) (contents : Contents) (x : List ℕ)
+    → By kind (frame kind a) text contents x → StrictCooked text kind contents x
+cooked_from kind a between quoted text contents x l =
+    let (w, body_is, rest) = then_text (strict_opener kind) (a ⋅ Text (strict_closer kind)) l.body x l.value l.is_body in
+    let (u, w_is, m) = then_close (strict_closer kind) a w x l.value rest in
+    let found = between.from u x l.value m in
     let inside = flat_map strict_text found.units in
     record {
       units = found.units;
       count = found.count;
       each = found.each;
       blanks_end = found.blanks_end;
-      suffix = suffix_from x s.is_suffix.0 s.is_suffix.1;
-      text = s.text_is ∙ ap (λ k. k ++ x) (body_is ∙ ap (λ k. strict_opener kind ++ k) (w_is ∙ ap (λ k. k ++ strict_closer kind) found.text_is)
+      suffix = suffix_from x l.is_suffix.0 l.is_suffix.1;
+      text = l.text_is ∙ ap (λ k. k ++ x) (body_is ∙ ap (λ k. strict_opener kind ++ k) (w_is ∙ ap (λ k. k ++ strict_closer kind) found.text_is)
           ∙ sym (append_assoc (strict_opener kind) inside (strict_closer kind)));
-      contents = s.contents_is ∙ ap (quoted_contents kind) found.value_is;
+      contents = l.contents_is ∙ quoted l.value ∙ ap (quoted_contents kind) found.value_is;
     }
+
+pub cooked_rule : (kind : Kind) (a : Rule) → Between kind a → IsQuoted kind → (text : List ℕ) (contents : Contents) (x : List ℕ)
+    → StrictCooked text kind contents x ↔ By kind (frame kind a) text contents x
+cooked_rule kind a between quoted text contents x =
+    (cooked_to kind a between quoted text contents x, cooked_from kind a between quoted text contents x)

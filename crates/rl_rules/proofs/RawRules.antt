@@ -1,8 +1,9 @@
 -- Raw strings, by both definitions.
 use Rattle.rl_syntax.proofs.Common.{◌≡◌, ◌≢◌, ℕ, ◌&&◌, ◌||◌, Bool, true, false, not, eqb, List, [], ◌∷◌, ◌++◌, refl, sym, ap, subst, ◌∙◌, append-nil, append_assoc, list_all, flat_map, replicate, zero, suc, and_parts, and_from, nat_lt, ltb-true, lt-ltb, codes}
+use Rattle.std.specs.Prelude.{◌↔◌}
 use Rattle.rl_syntax.specs.declared.kind.Kind.{Kind}
 use Rattle.rl_syntax.specs.Reading.{Contents, quoted_contents}
-use Rattle.rl_syntax.specs.Strict.{StrictRaw, IsRawInside, strict_raw_opener, strict_content_of}
+use Rattle.rl_syntax.specs.Strict.{StrictRaw, IsStrictSuffix, IsRawInside, strict_raw_opener, strict_content_of}
 use Rattle.rl_syntax.proofs.Basics.{all_same}
 use Rattle.std.proofs.lemmas.Bool.{false≢true}
 use Rattle.rl_syntax.specs.Texts.{first_passes}
@@ -10,6 +11,7 @@ use Rattle.rl_rules.specs.Notation.{Rule, Text, One, Many, Unless, Means, ◌⋅
 use Rattle.rl_rules.specs.Grammar.{raw, suffix}
 use Rattle.rl_rules.proofs.RuleParts.{text_then, then_text, close_then, then_close, NoneAt, unless_before, before_unless, IsRuleOf, Row, many_to, many_from, one, ones}
 use Rattle.rl_rules.proofs.SuffixRule.{suffix_to, suffix_from}
+use Rattle.rl_rules.proofs.QuotedRules.{By, IsQuoted}
 
 abbrev closer : ℕ → List ℕ
 closer n = 34 ∷ replicate n 35
@@ -111,15 +113,6 @@ returns cs = all_same no_return (but (codes "\r")) (λ c. go (eqb c 13)) cs
 
 -- ---- the literal
 
--- What both definitions say of a raw string.
-pub record Bare (kind : Kind) (test : ℕ → Bool) (text : List ℕ) (contents : Contents) (x : List ℕ) : Type 0 where
-  pub body : List ℕ
-  pub inside : List ℕ
-  pub text_is : text ≡ body ++ x
-  pub is_body : Means (raw (strict_raw_opener kind) test) body x inside
-  pub is_suffix : (v : List ℕ) × Means (maybe suffix) x [] v
-  pub contents_is : contents ≡ quoted_contents kind (strict_content_of kind inside)
-
 abbrev opener : Kind → ℕ → List ℕ
 opener kind n = strict_raw_opener kind ++ replicate n 35 ++ 34 ∷ []
 
@@ -127,17 +120,19 @@ joined : (o h i c x : List ℕ) → ((((o ++ h) ++ (34 ∷ i)) ++ c) ++ x) ≡ (
 joined o h i c x =
     ap (λ k. (k ++ c) ++ x) (sym (append_assoc (o ++ h) (34 ∷ []) i)) ∙ ap (λ k. k ++ x) (append_assoc ((o ++ h) ++ 34 ∷ []) i c)
 
-pub bare : (kind : Kind) (test : ℕ → Bool) → ((cs : List ℕ) → IsRawInside kind cs → list_all test cs ≡ true)
-    → (text : List ℕ) (contents : Contents) (x : List ℕ) → StrictRaw text kind contents x → Bare kind test text contents x
-bare kind test allows text contents x s =
+raw_to : (kind : Kind) (test : ℕ → Bool) → ((cs : List ℕ) → IsRawInside kind cs → list_all test cs ≡ true)
+    → (text : List ℕ) (contents : Contents) (x : List ℕ) → StrictRaw text kind contents x
+    → (body inside : List ℕ) × (text ≡ body ++ x) × Means (raw (strict_raw_opener kind) test) body x inside
+    × (contents ≡ quoted_contents kind (strict_content_of kind inside))
+raw_to kind test allows text contents x s =
     let n = s.hashes in
     let all = both_from test (but (codes "\r")) s.inside (allows s.inside s.allowed) (sym (returns s.inside) ∙ s.no_carriage_return) in
     let means = many_to (inner test n) one one (Inside test n) (inner_rule test n) s.inside (closer n ++ x) (row_of test n s.inside x all s.first_close) in
-    record {
-      body = opener kind n ++ (s.inside ++ closer n);
-      inside = s.inside;
-      text_is = s.text ∙ joined (strict_raw_opener kind) (replicate n 35) s.inside (closer n) x;
-      is_body = (
+    (
+      opener kind n ++ (s.inside ++ closer n),
+      s.inside,
+      s.text ∙ joined (strict_raw_opener kind) (replicate n 35) s.inside (closer n) x,
+      (
         n,
         (
           lt-ltb n 256 s.few,
@@ -145,30 +140,54 @@ bare kind test allows text contents x s =
           (close_then (closer n) (Many (inner test n)) s.inside x s.inside
           (subst (λ k. Means (Many (inner test n)) k (closer n ++ x) k) (ones s.inside) means)),
         ),
-      );
-      is_suffix = suffix_to x s.suffix;
-      contents_is = s.contents;
+      ),
+      s.contents,
+    )
+
+raw_from : (kind : Kind) (test : ℕ → Bool) → ((cs : List ℕ) → list_all test cs ≡ true → IsRawInside kind cs)
+    → (text : List ℕ) (contents : Contents) (x body inside : List ℕ) → text ≡ body ++ x → IsStrictSuffix x
+    → contents ≡ quoted_contents kind (strict_content_of kind inside)
+    → Means (raw (strict_raw_opener kind) test) body x inside → StrictRaw text kind contents x
+raw_from kind test allows text contents x body inside text_is suffix contents_is (n, (few, m)) =
+    let (w, body_is, rest) = then_text (opener kind n) (Many (inner test n) ⋅ Text (closer n)) body x inside m in
+    let (u, w_is, more) = then_close (closer n) (Many (inner test n)) w x inside rest in
+    let (cs, row, u_is, value_is) = many_from (inner test n) one one (Inside test n) (inner_rule test n) u (closer n ++ x) inside more in
+    let both = both_parts test (but (codes "\r")) cs (all_of test n cs x row) in
+    record {
+      hashes = n;
+      inside = cs;
+      few = ltb-true n 256 few;
+      allowed = allows cs both.0;
+      no_carriage_return = returns cs ∙ both.1;
+      first_close = first_of_row test n cs x row;
+      suffix = suffix;
+      text = text_is ∙ ap (λ k. k ++ x) (body_is ∙ ap (λ k. opener kind n ++ k) (w_is ∙ ap (λ k. k ++ closer n) (u_is ∙ ones cs)))
+          ∙ sym (joined (strict_raw_opener kind) (replicate n 35) cs (closer n) x);
+      contents = contents_is ∙ ap (λ k. quoted_contents kind (strict_content_of kind k)) (value_is ∙ ones cs);
     }
 
-pub raw_of : (kind : Kind) (test : ℕ → Bool) → ((cs : List ℕ) → list_all test cs ≡ true → IsRawInside kind cs)
-    → (text : List ℕ) (contents : Contents) (x : List ℕ) → Bare kind test text contents x → StrictRaw text kind contents x
-raw_of kind test allows text contents x s = go s.is_body
+-- `b` is the kind's rule of raw strings: the texts of `raw`, with the values of the kind.
+pub raw_rule : (kind : Kind) (test : ℕ → Bool) (b : Rule) → ((cs : List ℕ) → IsRawInside kind cs → list_all test cs ≡ true)
+    → ((cs : List ℕ) → list_all test cs ≡ true → IsRawInside kind cs) → IsQuoted kind
+    → ((u x v : List ℕ) → Means (raw (strict_raw_opener kind) test) u x v → Means b u x (strict_content_of kind v))
+    → ((u x w : List ℕ) → Means b u x w
+    → (v : List ℕ) × Means (raw (strict_raw_opener kind) test) u x v × (w ≡ strict_content_of kind v))
+    → (text : List ℕ) (contents : Contents) (x : List ℕ) → StrictRaw text kind contents x ↔ By kind b text contents x
+raw_rule kind test b allows allowed quoted means meant text contents x = (to, from)
   where
-    go : Means (raw (strict_raw_opener kind) test) s.body x s.inside → StrictRaw text kind contents x
-    go (n, (few, m)) =
-        let (w, body_is, rest) = then_text (opener kind n) (Many (inner test n) ⋅ Text (closer n)) s.body x s.inside m in
-        let (u, w_is, more) = then_close (closer n) (Many (inner test n)) w x s.inside rest in
-        let (cs, row, u_is, value_is) = many_from (inner test n) one one (Inside test n) (inner_rule test n) u (closer n ++ x) s.inside more in
-        let both = both_parts test (but (codes "\r")) cs (all_of test n cs x row) in
+    to : StrictRaw text kind contents x → By kind b text contents x
+    to s =
+        let (body, inside, text_is, m, contents_is) = raw_to kind test allows text contents x s in
         record {
-          hashes = n;
-          inside = cs;
-          few = ltb-true n 256 few;
-          allowed = allows cs both.0;
-          no_carriage_return = returns cs ∙ both.1;
-          first_close = first_of_row test n cs x row;
-          suffix = suffix_from x s.is_suffix.0 s.is_suffix.1;
-          text = s.text_is ∙ ap (λ k. k ++ x) (body_is ∙ ap (λ k. opener kind n ++ k) (w_is ∙ ap (λ k. k ++ closer n) (u_is ∙ ones cs)))
-              ∙ sym (joined (strict_raw_opener kind) (replicate n 35) cs (closer n) x);
-          contents = s.contents_is ∙ ap (λ k. quoted_contents kind (strict_content_of kind k)) (value_is ∙ ones cs);
+          body = body;
+          value = strict_content_of kind inside;
+          text_is = text_is;
+          is_body = means body x inside m;
+          is_suffix = suffix_to x s.suffix;
+          contents_is = contents_is ∙ sym (quoted (strict_content_of kind inside));
         }
+    from : By kind b text contents x → StrictRaw text kind contents x
+    from l =
+        let (v, m, value_is) = meant l.body x l.value l.is_body in
+        raw_from kind test allowed text contents x l.body v l.text_is (suffix_from x l.is_suffix.0 l.is_suffix.1)
+        (l.contents_is ∙ quoted l.value ∙ ap (quoted_contents kind) value_is) m

@@ -1,10 +1,11 @@
 -- Boolean literals, by both definitions.
 use Rattle.rl_syntax.proofs.Common.{◌≡◌, ℕ, Bool, true, false, List, [], ◌∷◌, ◌++◌, refl, sym, ap, subst, ◌∙◌, inl, inr, append-nil, codes, if◌then◌else◌}
+use Rattle.std.specs.Prelude.{◌↔◌}
 use Rattle.rl_syntax.specs.declared.kind.Kind.TheVariants.{Bool as BoolKind}
 use Rattle.rl_syntax.specs.Reading.{Contents, Truth}
 use Rattle.rl_syntax.specs.Strict.{StrictBool}
 use Rattle.rl_rules.specs.Notation.{One, Means, ◌∣◌, ◌is◌}
-use Rattle.rl_rules.specs.Grammar.{IsLiteral, IsByTheRules, contents_of, boolean_literal}
+use Rattle.rl_rules.specs.Grammar.{IsLiteral, contents_of, boolean_literal}
 use Rattle.rl_rules.proofs.RuleParts.{then_unless, unless_then, none_passes, passes_none}
 use Rattle.rl_rules.proofs.SuffixRule.{at_end}
 
@@ -52,5 +53,5 @@ truth_from text contents x s =
       suffix = x_is;
     }
 
-pub truth_rule : IsByTheRules BoolKind
+pub truth_rule : (text : List ℕ) (contents : Contents) (x : List ℕ) → StrictBool text contents x ↔ IsLiteral text BoolKind contents x
 truth_rule text contents x = (truth_to text contents x, truth_from text contents x)

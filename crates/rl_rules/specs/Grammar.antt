@@ -198,17 +198,22 @@ contents_of Float value = Digits value
 contents_of BoolKind value = Truth (list_any (λ c. c == 1) value)
 contents_of kind value = quoted_contents kind value
 
--- By the rules, the text is a literal of the kind, with the given value and suffix.
-pub record IsLiteral (text : List ℕ) (kind : Kind) (contents : Contents) (suffix_text : List ℕ) : Type 0 where
+-- By the rule, the text is a literal of the kind, with the given value and suffix. The suffix is a text of the rule `tail`.
+pub record IsLiteralBy (rule tail : Rule) (kind : Kind) (text : List ℕ) (contents : Contents) (suffix_text : List ℕ)
+    : Type 0 where
   pub body : List ℕ
   pub value : List ℕ
   pub text_is : text ≡ body ++ suffix_text
-  pub is_body : Means (literal kind) body suffix_text value
-  pub is_suffix : (v : List ℕ) × Means (maybe suffix) suffix_text [] v
+  pub is_body : Means rule body suffix_text value
+  pub is_suffix : (v : List ℕ) × Means tail suffix_text [] v
   pub contents_is : contents ≡ contents_of kind value
 
--- For literals of the kind, the definition of Rust's grammar and the rules agree.
-abbrev pub IsByTheRules : Kind → Type 0
-IsByTheRules kind =
-    (text : List ℕ) (contents : Contents) (suffix_text : List ℕ)
+-- By the rules of the Reference, the text is a literal of the kind, with the given value and suffix.
+abbrev pub IsLiteral : List ℕ → Kind → Contents → List ℕ → Type 0
+IsLiteral text kind contents suffix_text = IsLiteralBy (literal kind) (maybe suffix) kind text contents suffix_text
+
+-- Rust's grammar is the rules of the Reference.
+abbrev pub StrictIsByTheRules : Type 0
+StrictIsByTheRules =
+    (text : List ℕ) (kind : Kind) (contents : Contents) (suffix_text : List ℕ)
     → Strict text kind contents suffix_text ↔ IsLiteral text kind contents suffix_text
