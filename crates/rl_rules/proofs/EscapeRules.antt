@@ -1,13 +1,13 @@
 -- Escapes, by both definitions: each production against the units of `Strict` that it has.
-use Rattle.rl_syntax.proofs.Common.{◌≡◌, ℕ, ◌||◌, ◌&&◌, Bool, true, false, not, eqb, List, [], ◌∷◌, ◌++◌, refl, sym, ap, subst, ◌∙◌, inl, inr, append-nil, append_assoc, list_all, list_any, flat_map, map, length, replicate, zero, suc, eqb-true, and_parts, and_from, or_cases, or_left, digit_value, nat_lt, nat_le, is_ascii_hexdigit, all_scalars}
+use Rattle.rl_syntax.proofs.Common.{◌≡◌, ℕ, ◌||◌, ◌&&◌, Bool, true, false, eqb, List, [], ◌∷◌, ◌++◌, refl, sym, ap, subst, ◌∙◌, inl, inr, list_all, flat_map, map, length, replicate, zero, suc, eqb-true, and_parts, and_from, or_cases, digit_value, nat_lt, nat_le, is_ascii_hexdigit, all_scalars}
 use Rattle.rl_syntax.specs.Texts.{first_passes, is_dropped_blank}
 use Rattle.rl_syntax.specs.Spelling.{place_value}
-use Rattle.rl_syntax.specs.Strict.{StrictUnit, UnicodeEscape, LineBreak, strict_text, is_plain_letter, plain_value_in, plain_escapes, is_unicode_escape, spaced_digit, spaced_value}
+use Rattle.rl_syntax.specs.Strict.{UnicodeEscape, LineBreak, strict_text, is_plain_letter, plain_value_in, plain_escapes, is_unicode_escape, spaced_digit, spaced_value}
 use Rattle.rl_syntax.proofs.Basics.{hex_is_sixteen, all_same, passes_same}
 use Rattle.rl_syntax.proofs.StrictQuoted.{digits_count}
-use Rattle.rl_rules.specs.Notation.{Rule, Text, One, Many, As, If, Unless, Follow, Means, ◌⋅◌, ◌∣◌, any_of, skip}
+use Rattle.rl_rules.specs.Notation.{Rule, Text, One, Many, As, If, Follow, Means, ◌⋅◌, skip}
 use Rattle.rl_rules.specs.Grammar.{digit, quote_escape, letter_escape, hex_escape, unicode_escape, string_continue}
-use Rattle.rl_rules.proofs.RuleParts.{text_then, then_text, close_then, then_close, unless_then, then_unless, none_passes, passes_none, IsRuleOf, Row, many_to, many_from, row_from_all, all_from_row, run_to, run_from}
+use Rattle.rl_rules.proofs.RuleParts.{text_then, then_text, close_then, then_close, unless_then, then_unless, none_passes, passes_none, IsRuleOf, many_to, many_from, row_from_all, all_from_row, run_to, run_from}
 
 -- ---- quotes and letters
 
@@ -80,8 +80,7 @@ pub hex_from : (below : ℕ) (text after value : List ℕ) → Means (hex_escape
     × (text ≡ hex_text high low) × (value ≡ hex_value high low)
 hex_from below text after value m =
     let (w, text_is, (z, (a, b, p, q, w_is, z_is, (high, h, a_is, p_is), (low, l, b_is, q_is)), value_is)) =
-    then_text (92 ∷ 120 ∷ []) (As (λ ds. place_value 16 ds ∷ []) (digit below ⋅ digit 16)) text after value m in
-    (
+    then_text (92 ∷ 120 ∷ []) (As (λ ds. place_value 16 ds ∷ []) (digit below ⋅ digit 16)) text after value m in (
       high,
       low,
       h,
@@ -126,20 +125,20 @@ spaced_rule = record { to = to; from = from }
   where
     to : (d : ℕ × ℕ) (after : List ℕ) → is_hex d ≡ true → Means spaced (spaced_digit d) after (digit_of d)
     to d after h = (
-        d.0 ∷ [],
-        replicate d.1 95,
-        d.0 ∷ [],
-        [],
-        refl,
-        refl,
-        (d.0, sym (hex_is_sixteen d.0) ∙ h, refl, refl),
-        underscores_to d.1 after,
+      d.0 ∷ [],
+      replicate d.1 95,
+      d.0 ∷ [],
+      [],
+      refl,
+      refl,
+      (d.0, sym (hex_is_sixteen d.0) ∙ h, refl, refl),
+      underscores_to d.1 after,
     )
+
     from : (text after value : List ℕ) → Means spaced text after value
         → (d : ℕ × ℕ) × (is_hex d ≡ true) × (text ≡ spaced_digit d) × (value ≡ digit_of d)
     from text after value (u, w, x, y, text_is, value_is, (c, is, u_is, x_is), more) =
-        let (n, w_is, y_is) = underscores_from w after y more in
-        (
+        let (n, w_is, y_is) = underscores_from w after y more in (
           (c, n),
           hex_is_sixteen c ∙ is,
           text_is ∙ ap (λ k. k ++ w) u_is ∙ ap (λ k. c ∷ k) w_is,
@@ -188,11 +187,10 @@ pub unicode_from : (text after value : List ℕ) → Means unicode_escape text a
 unicode_from text after value m =
     let (w, text_is, rest) = then_text (92 ∷ 117 ∷ 123 ∷ []) (scalar_digits ⋅ Text (125 ∷ [])) text after value m in
     let (u, w_is, (x, (scalar, more), value_is)) = then_close (125 ∷ []) scalar_digits w after value rest in
-    let (ds, row, u_is, x_is) = many_from spaced spaced_digit digit_of (λ d after. is_hex d ≡ true) spaced_rule u (125 ∷ after) x more in
-    (
+    let (ds, row, u_is, x_is) = many_from spaced spaced_digit digit_of (λ d after. is_hex d ≡ true) spaced_rule u (125 ∷ after) x more in (
       ds,
       tested ds ∙ and_from (list_all is_hex ds) (is_scalar (flat_map digit_of ds)) (all_from_row spaced_digit is_hex ds (125 ∷ after) row)
-      (ap is_scalar (sym x_is) ∙ scalar),
+          (ap is_scalar (sym x_is) ∙ scalar),
       text_is ∙ ap (λ k. 92 ∷ 117 ∷ 123 ∷ k) (w_is ∙ ap (λ k. k ++ 125 ∷ []) u_is),
       value_is ∙ ap (λ k. place_value 16 k ∷ []) (x_is ∙ digits_are ds),
     )
@@ -220,7 +218,7 @@ continue_to blanks after each at_end =
     unless_then line_break (One is_space) (92 ∷ 10 ∷ blanks) after [] (
       blanks,
       text_then (92 ∷ 10 ∷ []) (Many (One is_space)) blanks after blanks
-      (run_to is_space blanks after (sym (all_same is_dropped_blank is_space spaces blanks) ∙ each)),
+          (run_to is_space blanks after (sym (all_same is_dropped_blank is_space spaces blanks) ∙ each)),
       refl,
     ) (none_passes is_space after (sym (passes_same is_dropped_blank is_space spaces after) ∙ at_end))
 
@@ -229,8 +227,7 @@ pub continue_from : (text after value : List ℕ) → Means string_continue text
     × (text ≡ strict_text (LineBreak blanks)) × (value ≡ [])
 continue_from text after value m =
     let ((x, inner, value_is), none) = then_unless line_break (One is_space) text after value m in
-    let (w, text_is, run) = then_text (92 ∷ 10 ∷ []) (Many (One is_space)) text after x inner in
-    (
+    let (w, text_is, run) = then_text (92 ∷ 10 ∷ []) (Many (One is_space)) text after x inner in (
       w,
       all_same is_dropped_blank is_space spaces w ∙ (run_from is_space w after x run).0,
       passes_same is_dropped_blank is_space spaces after ∙ passes_none is_space after none,

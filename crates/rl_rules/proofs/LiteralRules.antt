@@ -1,12 +1,12 @@
 -- Rust's grammar is the rules of the Reference.
-use Rattle.rl_syntax.proofs.Common.{◌≡◌, ◌⊎◌, ℕ, Bool, true, not, eqb, List, [], ◌∷◌, refl, inl, inr, list_all, is_ascii}
+use Rattle.rl_syntax.proofs.Common.{◌≡◌, ◌⊎◌, ℕ, true, not, eqb, List, [], ◌∷◌, refl, inl, inr, list_all, is_ascii}
 use Rattle.std.specs.Prelude.{◌↔◌}
 use Rattle.rl_syntax.specs.declared.kind.Kind.{Kind}
 use Rattle.rl_syntax.specs.declared.kind.Kind.TheVariants.{Str, ByteStr, CStr, Byte, Char, Int, Float, Bool as BoolKind}
 use Rattle.rl_syntax.specs.Reading.{Contents}
-use Rattle.rl_syntax.specs.Strict.{Strict, StrictCooked, StrictRaw, IsRawInside}
-use Rattle.rl_rules.specs.Notation.{Rule, Many, Means, ◌∣◌, maybe}
-use Rattle.rl_rules.specs.Grammar.{char_content, byte_content, string_content, byte_string_content, c_string_content, raw_string_literal, raw_byte_string_literal, raw_c_string_literal, suffix, IsLiteral, IsLiteralBy, StrictIsByTheRules}
+use Rattle.rl_syntax.specs.Strict.{StrictCooked, StrictRaw, IsRawInside}
+use Rattle.rl_rules.specs.Notation.{Rule, Many, ◌∣◌}
+use Rattle.rl_rules.specs.Grammar.{char_content, byte_content, string_content, byte_string_content, c_string_content, raw_string_literal, raw_byte_string_literal, raw_c_string_literal, StrictIsByTheRules}
 use Rattle.rl_rules.proofs.QuotedRules.{By, frame, cooked_rule, char_between, byte_between, string_between, byte_string_between, c_string_between}
 use Rattle.rl_rules.proofs.RawRules.{raw_rule}
 use Rattle.rl_rules.proofs.NumberRules.{int_rule, float_rule}
@@ -21,6 +21,7 @@ either kind a b text contents x cooked raw = (to, from)
     to : StrictCooked text kind contents x ⊎ StrictRaw text kind contents x → By kind (a ∣ b) text contents x
     to (inl s) = let l = cooked.0 s in record { body = l.body; value = l.value; text_is = l.text_is; is_body = inl l.is_body; is_suffix = l.is_suffix; contents_is = l.contents_is }
     to (inr s) = let l = raw.0 s in record { body = l.body; value = l.value; text_is = l.text_is; is_body = inr l.is_body; is_suffix = l.is_suffix; contents_is = l.contents_is }
+
     from : By kind (a ∣ b) text contents x → StrictCooked text kind contents x ⊎ StrictRaw text kind contents x
     from l = elim l.is_body [
       | inl m ↦ inl (cooked.1 (record { body = l.body; value = l.value; text_is = l.text_is; is_body = m; is_suffix = l.is_suffix; contents_is = l.contents_is }))

@@ -1,5 +1,5 @@
 -- Integers and floats, by both definitions.
-use Rattle.rl_syntax.proofs.Common.{◌≡◌, ◌⊎◌, ℕ, ◌||◌, ◌&&◌, Bool, true, false, not, eqb, List, [], ◌∷◌, ◌++◌, refl, sym, ap, ap₂, subst, ◌∙◌, inl, inr, append_assoc, append-nil, list_all, list_any, list_all-append, flat_map, eqb-true, and_parts, and_from, or_left, or_right, or_cases, or_from, or_parts, cases_Bool, digit_value, nat_lt, is_ascii_digit, is_ascii_hexdigit, codes, if◌then◌else◌}
+use Rattle.rl_syntax.proofs.Common.{◌≡◌, ◌⊎◌, ℕ, ◌||◌, Bool, true, false, not, eqb, List, [], ◌∷◌, ◌++◌, refl, sym, ap, ap₂, subst, ◌∙◌, inl, inr, append_assoc, list_all, list_any, list_all-append, eqb-true, and_parts, and_from, or_left, or_right, or_cases, or_from, or_parts, digit_value, nat_lt, is_ascii_digit, is_ascii_hexdigit, codes, if◌then◌else◌}
 use Rattle.std.proofs.lemmas.List.Concat.{flat_map-append}
 use Rattle.rl_syntax.specs.declared.kind.Kind.TheVariants.{Int, Float}
 use Rattle.std.specs.Prelude.{map, filter, ◌↔◌}
@@ -7,10 +7,10 @@ use Rattle.rl_syntax.specs.Texts.{first_passes, begins, begins_char, is_among, i
 use Rattle.rl_syntax.specs.Spelling.{place_value, without_underscores}
 use Rattle.rl_syntax.specs.Numbers.{float_digits}
 use Rattle.rl_syntax.specs.Reading.{Contents, Digits}
-use Rattle.rl_syntax.specs.Strict.{dec, IsDigits, IsDecimalText, IsStrictSuffix, BasedPrefix, StrictInt, IsStrictExponent, IsDotAlone, IsPointed, IsScientific, StrictFloat}
+use Rattle.rl_syntax.specs.Strict.{dec, IsDigits, IsDecimalText, BasedPrefix, StrictInt, IsStrictExponent, IsDotAlone, IsPointed, IsScientific, StrictFloat}
 use Rattle.rl_syntax.proofs.Basics.{apart, digit_is_ten, hex_is_sixteen, all_same, any_same, passes_same}
-use Rattle.rl_rules.specs.Notation.{Rule, Text, One, Many, As, Unless, Means, ◌⋅◌, ◌∣◌, maybe, any_of, end}
-use Rattle.rl_rules.specs.Grammar.{digit, digits, dec_literal, with_prefix, number, no_prefix, integer_literal, float_exponent, float_literal, IsLiteral}
+use Rattle.rl_rules.specs.Notation.{Rule, Text, One, As, Unless, Means, ◌⋅◌, ◌∣◌, maybe, any_of, end}
+use Rattle.rl_rules.specs.Grammar.{digit, digits, dec_literal, with_prefix, number, no_prefix, float_exponent, IsLiteral}
 use Rattle.rl_rules.proofs.RuleParts.{text_then, then_text, NoneAt, unless_then, then_unless, unless_before, before_unless, none_passes, passes_none, none_begins, begins_none, none_of_both, kept, kept_digit, kept_all, parts_to, parts_from}
 use Rattle.rl_rules.proofs.SuffixRule.{suffix_to, suffix_from, at_end, alone}
 
@@ -35,8 +35,8 @@ split test (c ∷ cs) h =
     elim (or_cases (test c) (list_any test cs) h) [
       | inl is ↦ ([], c, cs, is, refl)
       | inr more ↦
-        let (a, d, b, is, e) = split test cs more in
-        (c ∷ a, d, b, is, ap (λ k. c ∷ k) e)
+          let (a, d, b, is, e) = split test cs more in
+          (c ∷ a, d, b, is, ap (λ k. c ∷ k) e)
     ]
 
 -- Digits and underscores, with at least one digit.
@@ -50,8 +50,7 @@ some_to base cs after fails all any =
     let test = is_run_part (of_base base) in
     let (first, others) = and_parts (list_all test a) (list_all test (c ∷ b))
     (sym (list_all-append test a (c ∷ b)) ∙ ap (list_all test) (sym e) ∙ all) in
-    let last = (and_parts (test c) (list_all test b) others).1 in
-    (
+    let last = (and_parts (test c) (list_all test b) others).1 in (
       a,
       c ∷ b,
       without_underscores a,
@@ -70,14 +69,13 @@ some_from base text after value fails (a, w, p, q, text_is, value_is, front, (d,
     let (first, p_is) = parts_from (of_base base) fails a (w ++ after) p front in
     let (last, s_is) = parts_from (of_base base) fails b after s back in
     let whole : text ≡ a ++ (c ∷ b) = text_is ∙ ap (λ k. a ++ k) (w_is ∙ ap (λ k. k ++ b) d_is) in
-    let tail : q ≡ c ∷ without_underscores b = q_is ∙ ap (λ k. k ++ s) r_is ∙ ap (λ k. c ∷ k) s_is in
-    (
+    let tail : q ≡ c ∷ without_underscores b = q_is ∙ ap (λ k. k ++ s) r_is ∙ ap (λ k. c ∷ k) s_is in (
       ap (list_all test) whole ∙ list_all-append test a (c ∷ b)
-      ∙ and_from (list_all test a) (list_all test (c ∷ b)) first
-      (and_from (test c) (list_all test b) (or_left (of_base base c) (eqb c 95) is) last),
+          ∙ and_from (list_all test a) (list_all test (c ∷ b)) first
+          (and_from (test c) (list_all test b) (or_left (of_base base c) (eqb c 95) is) last),
       ap (list_any (of_base base)) whole ∙ found a,
       value_is ∙ ap₂ (λ k l. k ++ l) p_is (tail ∙ sym (without_digit base c b fails is))
-      ∙ sym (without_joined a (c ∷ b)) ∙ ap without_underscores (sym whole),
+          ∙ sym (without_joined a (c ∷ b)) ∙ ap without_underscores (sym whole),
     )
   where
     found : (a : List ℕ) → list_any (of_base base) (a ++ (c ∷ b)) ≡ true
@@ -93,8 +91,7 @@ dec_to : (cs after : List ℕ) → IsDigits cs → Means dec_literal cs after (w
 dec_to [] after h = absurd (cc)
 dec_to (c ∷ cs) after (first, all) =
     let (here, more) = and_parts (is_run_part (of_base 10) c) (list_all (is_run_part (of_base 10)) cs) (sym (decimal_parts (c ∷ cs)) ∙ all) in
-    let is = sym (digit_is_ten c) ∙ first in
-    (
+    let is = sym (digit_is_ten c) ∙ first in (
       c ∷ [],
       cs,
       c ∷ [],
@@ -109,12 +106,11 @@ dec_from : (text after value : List ℕ) → Means dec_literal text after value
     → IsDigits text × (value ≡ without_underscores text)
 dec_from text after value (d, cs, r, s, text_is, value_is, (c, is, d_is, r_is), back) =
     let (all, s_is) = parts_from (of_base 10) refl cs after s back in
-    let whole : text ≡ c ∷ cs = text_is ∙ ap (λ k. k ++ cs) d_is in
-    (
+    let whole : text ≡ c ∷ cs = text_is ∙ ap (λ k. k ++ cs) d_is in (
       (
         ap (first_passes is_ascii_digit) whole ∙ digit_is_ten c ∙ is,
         ap (list_all (is_run_part is_ascii_digit)) whole ∙ decimal_parts (c ∷ cs)
-        ∙ and_from (is_run_part (of_base 10) c) (list_all (is_run_part (of_base 10)) cs) (or_left (of_base 10 c) (eqb c 95) is) all,
+            ∙ and_from (is_run_part (of_base 10) c) (list_all (is_run_part (of_base 10)) cs) (or_left (of_base 10 c) (eqb c 95) is) all,
       ),
       value_is ∙ ap (λ k. k ++ s) r_is ∙ ap (λ k. c ∷ k) s_is ∙ sym (without_digit 10 c cs refl is) ∙ ap without_underscores (sym whole),
     )
@@ -194,10 +190,13 @@ int_to text contents x s = go s.is_front
       is_suffix = suffix_to x s.suffix.0;
       contents_is = s.contents ∙ ap (λ k. Digits (in_ten k s.run)) base_is;
     }
+
     each : (base : ℕ) → s.base ≡ base → list_all (is_run_part (of_base base)) s.run ≡ true
     each base e = subst (λ b. list_all (is_run_part (of_base b)) s.run ≡ true) e s.each
+
     some : (base : ℕ) → s.base ≡ base → list_any (of_base base) s.run ≡ true
     some base e = subst (λ b. list_any (of_base b) s.run ≡ true) e s.some
+
     go : ((s.prefix ≡ []) × (s.base ≡ 10) × IsDigits s.run × IsDecimalText text) ⊎ BasedPrefix s.prefix s.base
         → IsLiteral text Int contents x
     go (inl (prefix_is, base_is, is_digits, is_decimal)) =
@@ -235,6 +234,7 @@ int_from text contents x l =
           text = l.text_is ∙ ap (λ k. k ++ x) body_is;
           contents = l.contents_is ∙ ap Digits (value_is ∙ ap (λ k. dec (place_value base k)) ds_is);
         }
+
     go : Means forms l.body x l.value → (first_passes is_e x ≡ false) × (begins_char 95 x ≡ false) → StrictInt text contents x
     go (inl m) ends =
         let (none, (ds, is, value_is)) = before_unless (number 10 dec_literal) prefixes l.body x l.value m in
@@ -270,6 +270,7 @@ digits_joined (c ∷ a) b = go (eqb c 95 || eqb c 43) (digits_joined a b)
   where
     kept_of : Bool → List ℕ → List ℕ
     kept_of dropped cs = map (λ c. if eqb c 69 then 101 else c) (if not dropped then c ∷ filter (λ c. not (eqb c 95 || eqb c 43)) cs else filter (λ c. not (eqb c 95 || eqb c 43)) cs)
+
     go : (dropped : Bool) → float_digits (a ++ b) ≡ float_digits a ++ float_digits b
         → kept_of dropped (a ++ b) ≡ kept_of dropped a ++ float_digits b
     go true e = e
@@ -371,8 +372,7 @@ exponent_from text after value (a, w, p, q, text_is, value_is, first, (b, d, r, 
     let (c, is, a_is, p_is) = letter_from a (w ++ after) p first in
     let (is_sign, r_is) = sign_from b (d ++ after) r second in
     let (all, any, z_is) = some_from 10 d after z refl third in
-    let whole : text ≡ (c ∷ []) ++ (b ++ d) = text_is ∙ ap₂ (λ k l. k ++ l) a_is w_is in
-    (
+    let whole : text ≡ (c ∷ []) ++ (b ++ d) = text_is ∙ ap₂ (λ k l. k ++ l) a_is w_is in (
       record {
         letter = c;
         sign = b;
@@ -384,7 +384,7 @@ exponent_from text after value (a, w, p, q, text_is, value_is, first, (b, d, r, 
         text = whole;
       },
       value_is ∙ ap₂ (λ k l. k ++ l) p_is (q_is ∙ ap₂ (λ k l. k ++ l) r_is (z_is ∙ sym (digits_written d all)) ∙ sym (digits_joined b d))
-      ∙ sym (digits_joined (c ∷ []) (b ++ d)) ∙ ap float_digits (sym whole),
+          ∙ sym (digits_joined (c ∷ []) (b ++ d)) ∙ ap float_digits (sym whole),
     )
 
 -- ---- floats
@@ -424,7 +424,7 @@ numeral_to t x (inl (d, is, t_is, x_is)) =
       digits_joined d (46 ∷ []),
       whole_to d (46 ∷ x) is,
       unless_then dot (One (λ c. true)) (46 ∷ []) x (46 ∷ []) (46, refl, refl, refl)
-      (none_passes (λ c. true) x (ap (first_passes (λ c. true)) x_is)),
+          (none_passes (λ c. true) x (ap (first_passes (λ c. true)) x_is)),
     ))
 numeral_to t x (inr (inl (d, f, is_d, is_f, t_is, none))) =
     subst (λ k. Means numerals k x (float_digits k)) (sym t_is) (inr (inl (
@@ -444,7 +444,7 @@ numeral_to t x (inr (inl (d, f, is_d, is_f, t_is, none))) =
         refl,
         (46, refl, refl, refl),
         unless_then dec_literal (any_of (codes "eE")) f x (float_digits f) (whole_to f x is_f)
-        (none_passes (is_among (codes "eE")) x (sym (passes_same is_e (is_among (codes "eE")) among_e x) ∙ none)),
+            (none_passes (is_among (codes "eE")) x (sym (passes_same is_e (is_among (codes "eE")) among_e x) ∙ none)),
       ),
     )))
 numeral_to t x (inr (inr (d, e, is_d, is_e, inl t_is))) =
@@ -484,8 +484,7 @@ numeral_from t x v (inl (d, w, p, q, t_is, v_is, m, rest)) =
     let (is, p_is) = whole_from d (w ++ x) p m in
     let (point, none) = then_unless dot (One (λ c. true)) w x q rest in
     let (w_is, q_is) = dot_from w x q point in
-    let whole : t ≡ d ++ (46 ∷ []) = t_is ∙ ap (λ k. d ++ k) w_is in
-    (
+    let whole : t ≡ d ++ (46 ∷ []) = t_is ∙ ap (λ k. d ++ k) w_is in (
       inl (d, is, whole, (at_end [] x [] (refl, refl, none)).1),
       v_is ∙ ap₂ (λ k l. k ++ l) p_is q_is ∙ sym (digits_joined d (46 ∷ [])) ∙ ap float_digits (sym whole),
     )
@@ -494,8 +493,7 @@ numeral_from t x v (inr (inl (d, w, p, q, t_is, v_is, m, (b, f, r, s, w_is, q_is
     let (b_is, r_is) = dot_from b (f ++ x) r point in
     let (more, none) = then_unless dec_literal (any_of (codes "eE")) f x s rest in
     let (is_f, s_is) = whole_from f x s more in
-    let whole : t ≡ d ++ (46 ∷ f) = t_is ∙ ap (λ k. d ++ k) (w_is ∙ ap (λ k. k ++ f) b_is) in
-    (
+    let whole : t ≡ d ++ (46 ∷ f) = t_is ∙ ap (λ k. d ++ k) (w_is ∙ ap (λ k. k ++ f) b_is) in (
       inr (inl (d, f, is_d, is_f, whole, passes_same is_e (is_among (codes "eE")) among_e x ∙ passes_none (is_among (codes "eE")) x none)),
       v_is ∙ ap₂ (λ k l. k ++ l) p_is (q_is ∙ ap₂ (λ k l. k ++ l) r_is s_is) ∙ sym (digits_joined d (46 ∷ f)) ∙ ap float_digits (sym whole),
     )
@@ -507,8 +505,7 @@ numeral_from t x v (inr (inr (d, w, p, q, t_is, v_is, m, (b, e, r, s, w_is, q_is
     go : IsDigits d → p ≡ float_digits d → IsStrictExponent e → s ≡ float_digits e
         → Means (maybe (dot ⋅ dec_literal)) b (e ++ x) r → IsNumeral t x × (v ≡ float_digits t)
     go is_d p_is is_e s_is (inl (b_is, r_is)) =
-        let whole : t ≡ d ++ e = t_is ∙ ap (λ k. d ++ k) (w_is ∙ ap (λ k. k ++ e) b_is) in
-        (
+        let whole : t ≡ d ++ e = t_is ∙ ap (λ k. d ++ k) (w_is ∙ ap (λ k. k ++ e) b_is) in (
           inr (inr (d, e, is_d, is_e, inl whole)),
           v_is ∙ ap₂ (λ k l. k ++ l) p_is (q_is ∙ ap₂ (λ k l. k ++ l) r_is s_is) ∙ sym (digits_joined d e) ∙ ap float_digits (sym whole),
         )
@@ -517,8 +514,7 @@ numeral_from t x v (inr (inr (d, w, p, q, t_is, v_is, m, (b, e, r, s, w_is, q_is
         let (is_f, z_is) = whole_from f (e ++ x) z more in
         let whole : t ≡ d ++ (46 ∷ (f ++ e)) = t_is ∙ ap (λ k. d ++ k) (w_is ∙ ap (λ k. k ++ e) (b_is ∙ ap (λ k. k ++ f) o_is)) in
         let text : t ≡ (d ++ (46 ∷ f)) ++ e = whole ∙ sym (append_assoc d (46 ∷ f) e) in
-        let tail : q ≡ 46 ∷ float_digits (f ++ e) = q_is ∙ ap₂ (λ k l. k ++ l) (r_is ∙ ap₂ (λ k l. k ++ l) y_is z_is) s_is ∙ ap (λ k. 46 ∷ k) (sym (digits_joined f e)) in
-        (
+        let tail : q ≡ 46 ∷ float_digits (f ++ e) = q_is ∙ ap₂ (λ k l. k ++ l) (r_is ∙ ap₂ (λ k l. k ++ l) y_is z_is) s_is ∙ ap (λ k. 46 ∷ k) (sym (digits_joined f e)) in (
           inr (inr (d, e, is_d, is_e, inr (f, is_f, text))),
           v_is ∙ ap₂ (λ k l. k ++ l) p_is tail ∙ sym (digits_joined d (46 ∷ (f ++ e))) ∙ ap float_digits (sym whole),
         )

@@ -1,14 +1,14 @@
 -- Quoted literals with escapes, by both definitions.
-use Rattle.rl_syntax.proofs.Common.{◌≡◌, ◌⊎◌, ℕ, ◌||◌, ◌&&◌, Bool, true, false, not, eqb, List, [], ◌∷◌, ◌++◌, refl, sym, ap, subst, ◌∙◌, inl, inr, append-nil, append_assoc, list_all, flat_map, length, and_parts, and_from, or_cases, eqb-true, nat_lt, is_ascii_hexdigit, encode_utf8_all, codes}
+use Rattle.rl_syntax.proofs.Common.{◌≡◌, ℕ, ◌||◌, ◌&&◌, Bool, true, false, not, eqb, List, [], ◌∷◌, ◌++◌, refl, sym, ap, subst, ◌∙◌, inl, inr, append-nil, append_assoc, list_all, flat_map, length, and_parts, and_from, or_cases, eqb-true, nat_lt, is_ascii_hexdigit, encode_utf8_all, codes}
 use Rattle.std.specs.Prelude.{◌↔◌}
 use Rattle.rl_syntax.specs.declared.kind.Kind.{Kind}
 use Rattle.rl_syntax.specs.declared.kind.Kind.TheVariants.{Str, ByteStr, CStr, Byte, Char}
 use Rattle.rl_syntax.specs.Texts.{first_passes, is_dropped_blank}
 use Rattle.rl_syntax.specs.Reading.{Contents, quoted_contents}
-use Rattle.rl_syntax.specs.Strict.{StrictUnit, Itself, QuoteEscape, PlainEscape, AsciiEscape, ByteEscape, UnicodeEscape, LineBreak, strict_text, strict_contents, strict_content_of, strict_opener, strict_closer, is_strict_unit, is_allowed_in_single_quotes, is_bare_in_string, is_plain_letter, is_octal, is_unicode_escape, plain_value_in, plain_escapes, spaced_value, StrictCooked, HasUnits, BlanksEnd, IsStrictSuffix}
+use Rattle.rl_syntax.specs.Strict.{StrictUnit, Itself, QuoteEscape, PlainEscape, AsciiEscape, ByteEscape, UnicodeEscape, LineBreak, strict_text, strict_contents, strict_content_of, strict_opener, strict_closer, is_strict_unit, is_allowed_in_single_quotes, is_bare_in_string, is_plain_letter, is_octal, is_unicode_escape, plain_value_in, plain_escapes, spaced_value, StrictCooked, HasUnits, BlanksEnd}
 use Rattle.rl_syntax.proofs.StrictQuoted.{one_unit, blanks_after}
 use Rattle.rl_syntax.proofs.Basics.{hex_is_sixteen}
-use Rattle.rl_rules.specs.Notation.{Rule, Text, One, Many, Means, ◌⋅◌, ◌∣◌, but, maybe}
+use Rattle.rl_rules.specs.Notation.{Rule, Text, Many, Means, ◌⋅◌, but, maybe}
 use Rattle.rl_rules.specs.Grammar.{char_content, string_content, byte_content, byte_string_content, c_string_content, quote_escape, letter_escape, ascii_escape, byte_escape, hex_escape, string_continue, suffix, contents_of, IsLiteralBy}
 use Rattle.rl_rules.proofs.RuleParts.{text_then, then_text, close_then, then_close, IsRuleOf, Row, many_to, many_from}
 use Rattle.rl_rules.proofs.SuffixRule.{suffix_to, suffix_from}
@@ -115,6 +115,7 @@ char_unit = record { to = to; from = from }
     to (UnicodeEscape ds) after (h, e) = inr (inr (inr (unicode_to ds after h)))
     to (ByteEscape high low) after (h, e) = absurd (cc)
     to (LineBreak blanks) after (h, e) = absurd (cc)
+
     from : (text after value : List ℕ) → Means char_content text after value → Found Char text after value
     from text after value (inl (c, is, t, v)) = (Itself c, (in_quotes c ∙ is, tt), t, v)
     from text after value (inr (inl m)) = quote Char (λ c h. h) text after value m
@@ -137,6 +138,7 @@ string_unit = record { to = to; from = from }
     to (UnicodeEscape ds) after (h, e) = inr (inr (inr (inl (unicode_to ds after h))))
     to (LineBreak blanks) after (h, e) = inr (inr (inr (inr (continue_to blanks after h e))))
     to (ByteEscape high low) after (h, e) = absurd (cc)
+
     from : (text after value : List ℕ) → Means string_content text after value → Found Str text after value
     from text after value (inl (c, is, t, v)) = (Itself c, (in_string c ∙ is, tt), t, v)
     from text after value (inr (inl m)) = quote Str (λ c h. h) text after value m
@@ -160,6 +162,7 @@ byte_unit = record { to = to; from = from }
     to (AsciiEscape high low) after (h, e) = absurd (cc)
     to (UnicodeEscape ds) after (h, e) = absurd (cc)
     to (LineBreak blanks) after (h, e) = absurd (cc)
+
     from : (text after value : List ℕ) → Means byte_content text after value → Found Byte text after value
     from text after value (inl (c, is, t, v)) = (Itself c, (ap (λ b. nat_lt c 128 && b) (in_quotes c) ∙ is, tt), t, v)
     from text after value (inr (inl m)) =
@@ -180,6 +183,7 @@ byte_string_unit = record { to = to; from = from }
     to (LineBreak blanks) after (h, e) = inr (inr (continue_to blanks after h e))
     to (AsciiEscape high low) after (h, e) = absurd (cc)
     to (UnicodeEscape ds) after (h, e) = absurd (cc)
+
     from : (text after value : List ℕ) → Means byte_string_content text after value → Found ByteStr text after value
     from text after value (inl (c, is, t, v)) = (Itself c, (ap (λ b. nat_lt c 128 && b) (in_string c) ∙ is, tt), t, v)
     from text after value (inr (inl (inl m))) =
@@ -224,6 +228,7 @@ c_string_unit = record { to = to; from = from }
         inr (inr (inl (spaced_value ds ∷ [], (sym (alone _) ∙ other, unicode_to ds after is), refl)))
     to (LineBreak blanks) after (h, e) = inr (inr (inr (continue_to blanks after h e)))
     to (AsciiEscape high low) after (h, e) = absurd (cc)
+
     from : (text after value : List ℕ) → Means c_string_content text after value → Found CStr text after value
     from text after value (inl (x, (c, is, t, v), value_is)) =
         (Itself c, (in_c_string c ∙ is, tt), t, value_is ∙ ap encode_utf8_all v)
@@ -235,8 +240,7 @@ c_string_unit = record { to = to; from = from }
         (PlainEscape c, (and_from _ _ is (letter_not_nul c is ∙ ap (list_all (λ c. not (eqb c 0))) (sym v) ∙ other), tt), t, v)
     from text after value (inr (inl (other, inr (inr m)))) = quote CStr (λ c h. h) text after value m
     from text after value (inr (inr (inl (x, (other, m), value_is)))) =
-        let (ds, is, t, v) = unicode_from text after x m in
-        (
+        let (ds, is, t, v) = unicode_from text after x m in (
           UnicodeEscape ds,
           (and_from _ _ is (alone _ ∙ ap (list_all (λ c. not (eqb c 0))) (sym v) ∙ other), tt),
           t,
@@ -310,6 +314,7 @@ single kind a rule closes is_one one = record { to = to; from = from }
         (subst (λ v. Means a (strict_text u ++ []) (strict_closer kind ++ x) v) (sym (append-nil (unit_value kind u)))
         (subst (λ t. Means a t (strict_closer kind ++ x) (unit_value kind u)) (sym (append-nil (strict_text u)))
         (rule.to u (strict_closer kind ++ x) row.0)))
+
     from : (text x value : List ℕ) → Means a text (strict_closer kind ++ x) value → Units kind text value
     from text x value m =
         let (u, fits, text_is, value_is) = rule.from text (strict_closer kind ++ x) value m in

@@ -1,5 +1,5 @@
 -- Raw strings, by both definitions.
-use Rattle.rl_syntax.proofs.Common.{◌≡◌, ◌≢◌, ℕ, ◌&&◌, ◌||◌, Bool, true, false, not, eqb, List, [], ◌∷◌, ◌++◌, refl, sym, ap, subst, ◌∙◌, append-nil, append_assoc, list_all, flat_map, replicate, zero, suc, and_parts, and_from, nat_lt, ltb-true, lt-ltb, codes}
+use Rattle.rl_syntax.proofs.Common.{◌≡◌, ◌≢◌, ℕ, ◌&&◌, ◌||◌, Bool, true, false, not, eqb, List, [], ◌∷◌, ◌++◌, refl, sym, ap, subst, ◌∙◌, append_assoc, list_all, replicate, zero, suc, and_parts, and_from, ltb-true, lt-ltb, codes}
 use Rattle.std.specs.Prelude.{◌↔◌}
 use Rattle.rl_syntax.specs.declared.kind.Kind.{Kind}
 use Rattle.rl_syntax.specs.Reading.{Contents, quoted_contents}
@@ -7,7 +7,7 @@ use Rattle.rl_syntax.specs.Strict.{StrictRaw, IsStrictSuffix, IsRawInside, stric
 use Rattle.rl_syntax.proofs.Basics.{all_same}
 use Rattle.std.proofs.lemmas.Bool.{false≢true}
 use Rattle.rl_syntax.specs.Texts.{first_passes}
-use Rattle.rl_rules.specs.Notation.{Rule, Text, One, Many, Unless, Means, ◌⋅◌, but, maybe}
+use Rattle.rl_rules.specs.Notation.{Rule, Text, One, Many, Unless, Means, ◌⋅◌, but}
 use Rattle.rl_rules.specs.Grammar.{raw, suffix}
 use Rattle.rl_rules.proofs.RuleParts.{text_then, then_text, close_then, then_close, NoneAt, unless_before, before_unless, IsRuleOf, Row, many_to, many_from, one, ones}
 use Rattle.rl_rules.proofs.SuffixRule.{suffix_to, suffix_from}
@@ -61,8 +61,7 @@ row_of : (test : ℕ → Bool) (n : ℕ) (cs x : List ℕ) → list_all (passes 
     → Row one (Inside test n) cs (closer n ++ x)
 row_of test n [] x all first = tt
 row_of test n (c ∷ cs) x all first =
-    let (here, more) = and_parts (passes test c) (list_all (passes test) cs) all in
-    (
+    let (here, more) = and_parts (passes test c) (list_all (passes test) cs) all in (
       (here, subst (λ k. NoneAt (Text (closer n)) (c ∷ (k ++ (closer n ++ x)))) (sym (ones cs)) (none_inside n c cs x first)),
       row_of test n cs x more (λ front rest e. first (c ∷ front) rest (ap (λ k. c ∷ k) e)),
     )
@@ -127,8 +126,7 @@ raw_to : (kind : Kind) (test : ℕ → Bool) → ((cs : List ℕ) → IsRawInsid
 raw_to kind test allows text contents x s =
     let n = s.hashes in
     let all = both_from test (but (codes "\r")) s.inside (allows s.inside s.allowed) (sym (returns s.inside) ∙ s.no_carriage_return) in
-    let means = many_to (inner test n) one one (Inside test n) (inner_rule test n) s.inside (closer n ++ x) (row_of test n s.inside x all s.first_close) in
-    (
+    let means = many_to (inner test n) one one (Inside test n) (inner_rule test n) s.inside (closer n ++ x) (row_of test n s.inside x all s.first_close) in (
       opener kind n ++ (s.inside ++ closer n),
       s.inside,
       s.text ∙ joined (strict_raw_opener kind) (replicate n 35) s.inside (closer n) x,
@@ -137,8 +135,8 @@ raw_to kind test allows text contents x s =
         (
           lt-ltb n 256 s.few,
           text_then (opener kind n) (Many (inner test n) ⋅ Text (closer n)) (s.inside ++ closer n) x s.inside
-          (close_then (closer n) (Many (inner test n)) s.inside x s.inside
-          (subst (λ k. Means (Many (inner test n)) k (closer n ++ x) k) (ones s.inside) means)),
+              (close_then (closer n) (Many (inner test n)) s.inside x s.inside
+              (subst (λ k. Means (Many (inner test n)) k (closer n ++ x) k) (ones s.inside) means)),
         ),
       ),
       s.contents,
@@ -186,6 +184,7 @@ raw_rule kind test b allows allowed quoted means meant text contents x = (to, fr
           is_suffix = suffix_to x s.suffix;
           contents_is = contents_is ∙ sym (quoted (strict_content_of kind inside));
         }
+
     from : By kind b text contents x → StrictRaw text kind contents x
     from l =
         let (v, m, value_is) = meant l.body x l.value l.is_body in

@@ -1,7 +1,7 @@
 -- What the parts of a rule mean, in the form that the other proofs use.
-use Rattle.rl_syntax.proofs.Common.{◌≡◌, ℕ, ◌||◌, ◌&&◌, Bool, true, false, not, eqb, List, [], ◌∷◌, ◌++◌, refl, sym, ap, subst, ◌∙◌, inl, inr, append_assoc, append-nil, list_all, list_any, flat_map, eqb-true, both_ways, and_parts, and_from, or_left, or_right, or_cases, cases_Bool, if◌then◌else◌}
+use Rattle.rl_syntax.proofs.Common.{◌≡◌, ℕ, Bool, true, false, not, eqb, List, [], ◌∷◌, ◌++◌, refl, sym, ap, subst, ◌∙◌, inl, inr, append-nil, list_all, flat_map, eqb-true, both_ways, and_parts, and_from, or_left, or_right, or_cases, if◌then◌else◌}
 use Rattle.std.proofs.lemmas.Bool.{false_from_ne_true}
-use Rattle.rl_syntax.specs.Texts.{first_passes, begins, is_underscore, is_run_part}
+use Rattle.rl_syntax.specs.Texts.{first_passes, begins, is_run_part}
 use Rattle.rl_syntax.specs.Spelling.{without_underscores}
 use Rattle.rl_syntax.proofs.Basics.{apart}
 use Rattle.rl_syntax.proofs.StrictNumbers.{begins_front}
@@ -25,10 +25,10 @@ close_then t a u after value m = (u, t, value, [], refl, sym (append-nil value),
 pub then_close : (t : List ℕ) (a : Rule) (text after value : List ℕ) → Means (a ⋅ Text t) text after value
     → (u : List ℕ) × (text ≡ u ++ t) × Means a u (t ++ after) value
 then_close t a text after value (u, w, x, y, text_is, value_is, m, (w_is, y_is)) = (
-    u,
-    text_is ∙ ap (λ k. u ++ k) w_is,
-    subst (λ v. Means a u (t ++ after) v) (sym (value_is ∙ ap (λ k. x ++ k) y_is ∙ append-nil x))
-    (subst (λ z. Means a u (z ++ after) x) w_is m),
+  u,
+  text_is ∙ ap (λ k. u ++ k) w_is,
+  subst (λ v. Means a u (t ++ after) v) (sym (value_is ∙ ap (λ k. x ++ k) y_is ∙ append-nil x))
+      (subst (λ z. Means a u (z ++ after) x) w_is m),
 )
 
 -- ---- what doesn't follow
@@ -45,10 +45,10 @@ unless_then a b text after value m none =
 pub then_unless : (a b : Rule) (text after value : List ℕ) → Means (a ⋅ Unless b) text after value
     → Means a text after value × NoneAt b after
 then_unless a b text after value (u, w, x, y, text_is, value_is, m, (w_is, y_is, none)) = (
-    subst (λ v. Means a text after v) (sym (value_is ∙ ap (λ k. x ++ k) y_is ∙ append-nil x))
-    (subst (λ k. Means a k after x) (sym (text_is ∙ ap (λ k. u ++ k) w_is ∙ append-nil u))
-    (subst (λ z. Means a u (z ++ after) x) w_is m)),
-    none,
+  subst (λ v. Means a text after v) (sym (value_is ∙ ap (λ k. x ++ k) y_is ∙ append-nil x))
+      (subst (λ k. Means a k after x) (sym (text_is ∙ ap (λ k. u ++ k) w_is ∙ append-nil u))
+      (subst (λ z. Means a u (z ++ after) x) w_is m)),
+  none,
 )
 
 pub unless_before : (a b : Rule) (text after value : List ℕ) → NoneAt b (text ++ after) → Means a text after value
@@ -58,8 +58,7 @@ unless_before a b text after value none m = ([], text, [], value, refl, refl, (r
 pub before_unless : (a b : Rule) (text after value : List ℕ) → Means (Unless b ⋅ a) text after value
     → NoneAt b (text ++ after) × Means a text after value
 before_unless a b text after value (u, w, x, y, text_is, value_is, (u_is, x_is, none), m) =
-    let same : text ≡ w = text_is ∙ ap (λ k. k ++ w) u_is in
-    (
+    let same : text ≡ w = text_is ∙ ap (λ k. k ++ w) u_is in (
       subst (λ k. NoneAt b (k ++ after)) (sym same) none,
       subst (λ v. Means a text after v) (sym (value_is ∙ ap (λ k. k ++ y) x_is)) (subst (λ k. Means a k after y) (sym same) m),
     )
@@ -109,8 +108,7 @@ pub many_to : {T : Type 0} (a : Rule) (text_of value_of : T → List ℕ) (At : 
     → Means (Many a) (flat_map text_of is) after (flat_map value_of is)
 many_to a text_of value_of At rule [] after row = ([], (refl, refl))
 many_to a text_of value_of At rule (i ∷ is) after row =
-    let (parts, follow) = many_to a text_of value_of At rule is after row.1 in
-    (
+    let (parts, follow) = many_to a text_of value_of At rule is after row.1 in (
       (text_of i, value_of i) ∷ parts,
       (flat_map text_of is, flat_map value_of is, refl, refl, rule.to i (flat_map text_of is ++ after) row.0, follow),
     )
@@ -122,8 +120,7 @@ follow_from : {T : Type 0} (a : Rule) (text_of value_of : T → List ℕ) (At : 
 follow_from a text_of value_of At rule [] text after value (t, v) = ([], tt, t, v)
 follow_from a text_of value_of At rule (p ∷ parts) text after value (rest, more, t, v, m, follow) =
     let (is, row, rest_is, more_is) = follow_from a text_of value_of At rule parts rest after more follow in
-    let (i, at, text_is, value_is) = rule.from p.0 (rest ++ after) p.1 m in
-    (
+    let (i, at, text_is, value_is) = rule.from p.0 (rest ++ after) p.1 m in (
       i ∷ is,
       (subst (λ k. At i (k ++ after)) rest_is at, row),
       t ∙ ap (λ k. k ++ rest) text_is ∙ ap (λ k. text_of i ++ k) rest_is,
@@ -201,6 +198,7 @@ digit_part test fails = record { to = to; from = from }
           | inl d ↦ inl (c, d, refl, kept_digit c (apart test c 95 d fails))
           | inr u ↦ inr (ap one (eqb-true c 95 u), ap kept (eqb-true c 95 u))
         ]
+
     from : (text after value : List ℕ) → Means (part test) text after value
         → (c : ℕ) × (is_run_part test c ≡ true) × (text ≡ one c) × (value ≡ kept c)
     from text after value (inl (c, is, t, v)) =
@@ -219,8 +217,7 @@ pub parts_from : (test : ℕ → Bool) → test 95 ≡ false → (text after val
     → (list_all (is_run_part test) text ≡ true) × (value ≡ without_underscores text)
 parts_from test fails text after value m =
     let (cs, row, text_is, value_is) = many_from (part test) one kept (λ c after. is_run_part test c ≡ true) (digit_part test fails) text after value m in
-    let same : text ≡ cs = text_is ∙ ones cs in
-    (
+    let same : text ≡ cs = text_is ∙ ones cs in (
       ap (list_all (is_run_part test)) same ∙ all_from_row one (is_run_part test) cs after row,
       value_is ∙ kept_all cs ∙ ap without_underscores (sym same),
     )

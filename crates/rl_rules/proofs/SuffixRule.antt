@@ -1,12 +1,12 @@
 -- The suffix of a literal, by both definitions.
-use Rattle.rl_syntax.proofs.Common.{◌≡◌, ℕ, ◌||◌, Bool, true, false, not, eqb, List, [], ◌∷◌, ◌++◌, refl, sym, ap, subst, ◌∙◌, inl, inr, append-nil, list_all, eqb-true, and_parts, and_from, or_left, or_right, or_cases, not_from_false, is_xid_start, is_xid_continue}
+use Rattle.rl_syntax.proofs.Common.{◌≡◌, ℕ, ◌||◌, Bool, true, false, not, eqb, List, [], ◌∷◌, ◌++◌, refl, sym, ap, ◌∙◌, inl, inr, append-nil, list_all, and_parts, and_from, or_left, or_right, or_cases, not_from_false, is_xid_start, is_xid_continue}
 use Rattle.rl_syntax.specs.Texts.{IsWord, is_white, xid_ok, first_passes}
 use Rattle.rl_syntax.specs.Strict.{IsStrictSuffix}
 use Rattle.rl_syntax.proofs.Basics.{word_continues, all_weaker}
-use Rattle.rl_rules.specs.Notation.{Rule, Text, One, ◌⋅◌, ◌∣◌, Means, maybe, any_of, end}
+use Rattle.rl_rules.specs.Notation.{Text, One, ◌⋅◌, ◌∣◌, Means, maybe, any_of, end}
 use Rattle.rl_rules.specs.Grammar.{identifier_or_keyword, suffix}
 use Rattle.rl_rules.proofs.WhiteLemmas.{continue_not_white}
-use Rattle.rl_rules.proofs.RuleParts.{NoneAt, none_passes, passes_none, then_unless, unless_before, before_unless, run_to, run_from}
+use Rattle.rl_rules.proofs.RuleParts.{none_passes, passes_none, then_unless, unless_before, before_unless, run_to, run_from}
 
 pub end_here : Means end [] [] []
 end_here = (refl, refl, none_passes (λ c. true) [] refl)
@@ -56,9 +56,9 @@ identifier_from x after v (u, w, p, q, x_is, v_is, first, more) =
 word_to : (x : List ℕ) → IsWord x → Means suffix x [] x
 word_to x word =
     unless_before identifier_or_keyword (Text (95 ∷ []) ⋅ end) x [] x (λ u w v e m.
-        let (is, none) = then_unless (Text (95 ∷ [])) (One (λ c. true)) u w v m in
-        let (u_is, w_is, v_is) = at_end [] w [] (refl, refl, none) in
-        word.not_underscore (sym (append-nil x) ∙ e ∙ ap (λ k. u ++ k) w_is ∙ append-nil u ∙ is.0))
+    let (is, none) = then_unless (Text (95 ∷ [])) (One (λ c. true)) u w v m in
+    let (u_is, w_is, v_is) = at_end [] w [] (refl, refl, none) in
+    word.not_underscore (sym (append-nil x) ∙ e ∙ ap (λ k. u ++ k) w_is ∙ append-nil u ∙ is.0))
     (identifier_to x [] word.identifier)
 
 word_from : (x v : List ℕ) → Means suffix x [] v → IsWord x

@@ -6,7 +6,7 @@ use Rattle.rl_syntax.specs.Reading.{Contents, Truth}
 use Rattle.rl_syntax.specs.Strict.{StrictBool}
 use Rattle.rl_rules.specs.Notation.{One, Means, ◌∣◌, ◌is◌}
 use Rattle.rl_rules.specs.Grammar.{IsLiteral, contents_of, boolean_literal}
-use Rattle.rl_rules.proofs.RuleParts.{then_unless, unless_then, none_passes, passes_none}
+use Rattle.rl_rules.proofs.RuleParts.{then_unless, unless_then, none_passes}
 use Rattle.rl_rules.proofs.SuffixRule.{at_end}
 
 abbrev value_of : Bool → List ℕ
