@@ -91,16 +91,16 @@ hex_from below text after value m =
 
 -- ---- `\u{..}`
 
-abbrev underscores : Rule
+abbrev pub underscores : Rule
 underscores = Many (Text (95 ∷ []))
 
-underscores_to : (n : ℕ) (after : List ℕ) → Means underscores (replicate n 95) after []
+pub underscores_to : (n : ℕ) (after : List ℕ) → Means underscores (replicate n 95) after []
 underscores_to zero after = ([], (refl, refl))
 underscores_to (suc n) after =
     let (parts, follow) = underscores_to n after in
     ((95 ∷ [], []) ∷ parts, (replicate n 95, [], refl, refl, (refl, refl), follow))
 
-underscores_from : (text after value : List ℕ) → Means underscores text after value
+pub underscores_from : (text after value : List ℕ) → Means underscores text after value
     → (n : ℕ) × (text ≡ replicate n 95) × (value ≡ [])
 underscores_from text after value (parts, follow) = go parts text value follow
   where

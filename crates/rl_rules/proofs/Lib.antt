@@ -7,3 +7,4 @@ mod QuotedRules
 mod RawRules
 mod LiteralRules
 mod NumberRules
+mod SynQuotedRules

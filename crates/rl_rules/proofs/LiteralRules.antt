@@ -7,6 +7,7 @@ use Rattle.rl_syntax.specs.Reading.{Contents}
 use Rattle.rl_syntax.specs.Strict.{StrictCooked, StrictRaw, IsRawInside}
 use Rattle.rl_rules.specs.Notation.{Rule, Many, ◌∣◌}
 use Rattle.rl_rules.specs.Grammar.{char_content, byte_content, string_content, byte_string_content, c_string_content, raw_string_literal, raw_byte_string_literal, raw_c_string_literal, StrictIsByTheRules}
+use Rattle.rl_rules.proofs.RuleParts.{all_pass}
 use Rattle.rl_rules.proofs.QuotedRules.{By, frame, cooked_rule, char_between, byte_between, string_between, byte_string_between, c_string_between}
 use Rattle.rl_rules.proofs.RawRules.{raw_rule}
 use Rattle.rl_rules.proofs.NumberRules.{int_rule, float_rule}
@@ -37,10 +38,6 @@ single kind a text contents x never cooked = (to, λ l. inl (cooked.1 l))
     to : StrictCooked text kind contents x ⊎ StrictRaw text kind contents x → By kind a text contents x
     to (inl s) = cooked.0 s
     to (inr s) = absurd (never s.inside s.allowed)
-
-all_pass : (cs : List ℕ) → list_all (λ (c : ℕ). true) cs ≡ true
-all_pass [] = refl
-all_pass (c ∷ cs) = all_pass cs
 
 pub strict_is_by_the_rules : StrictIsByTheRules
 strict_is_by_the_rules text Str v x =

@@ -10,25 +10,25 @@ use Rattle.rl_syntax.specs.Reading.{Contents, Digits}
 use Rattle.rl_syntax.specs.Strict.{dec, IsDigits, IsDecimalText, BasedPrefix, StrictInt, IsStrictExponent, IsDotAlone, IsPointed, IsScientific, StrictFloat}
 use Rattle.rl_syntax.proofs.Basics.{apart, digit_is_ten, hex_is_sixteen, all_same, any_same, passes_same}
 use Rattle.rl_rules.specs.Notation.{Rule, Text, One, As, Unless, Means, ◌⋅◌, ◌∣◌, maybe, any_of, end}
-use Rattle.rl_rules.specs.Grammar.{digit, digits, dec_literal, with_prefix, number, no_prefix, float_exponent, IsLiteral}
+use Rattle.rl_rules.specs.Grammar.{digit, some_digits, dec_literal, with_prefix, number, no_prefix, float_exponent, IsLiteral}
 use Rattle.rl_rules.proofs.RuleParts.{text_then, then_text, NoneAt, unless_then, then_unless, unless_before, before_unless, none_passes, passes_none, none_begins, begins_none, none_of_both, kept, kept_digit, kept_all, parts_to, parts_from}
 use Rattle.rl_rules.proofs.SuffixRule.{suffix_to, suffix_from, at_end, alone}
 
 -- ---- rows of digits and underscores
 
-abbrev of_base : ℕ → ℕ → Bool
+abbrev pub of_base : ℕ → ℕ → Bool
 of_base base c = nat_lt (digit_value c) base
 
 without_joined : (a b : List ℕ) → without_underscores (a ++ b) ≡ without_underscores a ++ without_underscores b
 without_joined a b =
     sym (kept_all (a ++ b)) ∙ flat_map-append kept a b ∙ ap₂ (λ k l. k ++ l) (kept_all a) (kept_all b)
 
-without_digit : (base c : ℕ) (cs : List ℕ) → of_base base 95 ≡ false → of_base base c ≡ true
+pub without_digit : (base c : ℕ) (cs : List ℕ) → of_base base 95 ≡ false → of_base base c ≡ true
     → without_underscores (c ∷ cs) ≡ c ∷ without_underscores cs
 without_digit base c cs fails is =
     without_joined (c ∷ []) cs ∙ ap (λ k. k ++ without_underscores cs) (kept_digit c (apart (of_base base) c 95 is fails))
 
-split : (test : ℕ → Bool) (cs : List ℕ) → list_any test cs ≡ true
+pub split : (test : ℕ → Bool) (cs : List ℕ) → list_any test cs ≡ true
     → (a : List ℕ) × (c : ℕ) × (b : List ℕ) × (test c ≡ true) × (cs ≡ a ++ (c ∷ b))
 split test [] h = absurd (cc)
 split test (c ∷ cs) h =
@@ -39,11 +39,7 @@ split test (c ∷ cs) h =
           (c ∷ a, d, b, is, ap (λ k. c ∷ k) e)
     ]
 
--- Digits and underscores, with at least one digit.
-abbrev some_digits : ℕ → Rule
-some_digits base = digits base ⋅ digit base ⋅ digits base
-
-some_to : (base : ℕ) (cs after : List ℕ) → of_base base 95 ≡ false → list_all (is_run_part (of_base base)) cs ≡ true
+pub some_to : (base : ℕ) (cs after : List ℕ) → of_base base 95 ≡ false → list_all (is_run_part (of_base base)) cs ≡ true
     → list_any (of_base base) cs ≡ true → Means (some_digits base) cs after (without_underscores cs)
 some_to base cs after fails all any =
     let (a, c, b, is, e) = split (of_base base) cs any in
@@ -61,7 +57,7 @@ some_to base cs after fails all any =
       (c ∷ [], b, c ∷ [], without_underscores b, refl, refl, (c, is, refl, refl), parts_to (of_base base) fails b after last),
     )
 
-some_from : (base : ℕ) (text after value : List ℕ) → of_base base 95 ≡ false → Means (some_digits base) text after value
+pub some_from : (base : ℕ) (text after value : List ℕ) → of_base base 95 ≡ false → Means (some_digits base) text after value
     → (list_all (is_run_part (of_base base)) text ≡ true) × (list_any (of_base base) text ≡ true)
     × (value ≡ without_underscores text)
 some_from base text after value fails (a, w, p, q, text_is, value_is, front, (d, b, r, s, w_is, q_is, (c, is, d_is, r_is), back)) =
@@ -83,11 +79,11 @@ some_from base text after value fails (a, w, p, q, text_is, value_is, front, (d,
     found (k ∷ a) = or_right (of_base base k) (list_any (of_base base) (a ++ (c ∷ b))) (found a)
 
 -- A digit, and then digits and underscores.
-decimal_parts : (cs : List ℕ) → list_all (is_run_part is_ascii_digit) cs ≡ list_all (is_run_part (of_base 10)) cs
+pub decimal_parts : (cs : List ℕ) → list_all (is_run_part is_ascii_digit) cs ≡ list_all (is_run_part (of_base 10)) cs
 decimal_parts cs =
     all_same (is_run_part is_ascii_digit) (is_run_part (of_base 10)) (λ c. ap (λ b. b || eqb c 95) (digit_is_ten c)) cs
 
-dec_to : (cs after : List ℕ) → IsDigits cs → Means dec_literal cs after (without_underscores cs)
+pub dec_to : (cs after : List ℕ) → IsDigits cs → Means dec_literal cs after (without_underscores cs)
 dec_to [] after h = absurd (cc)
 dec_to (c ∷ cs) after (first, all) =
     let (here, more) = and_parts (is_run_part (of_base 10) c) (list_all (is_run_part (of_base 10)) cs) (sym (decimal_parts (c ∷ cs)) ∙ all) in
@@ -102,7 +98,7 @@ dec_to (c ∷ cs) after (first, all) =
       parts_to (of_base 10) refl cs after more,
     )
 
-dec_from : (text after value : List ℕ) → Means dec_literal text after value
+pub dec_from : (text after value : List ℕ) → Means dec_literal text after value
     → IsDigits text × (value ≡ without_underscores text)
 dec_from text after value (d, cs, r, s, text_is, value_is, (c, is, d_is, r_is), back) =
     let (all, s_is) = parts_from (of_base 10) refl cs after s back in
@@ -115,23 +111,23 @@ dec_from text after value (d, cs, r, s, text_is, value_is, (c, is, d_is, r_is), 
       value_is ∙ ap (λ k. k ++ s) r_is ∙ ap (λ k. c ∷ k) s_is ∙ sym (without_digit 10 c cs refl is) ∙ ap without_underscores (sym whole),
     )
 
-some_digit : (cs : List ℕ) → first_passes is_ascii_digit cs ≡ true → list_any (of_base 10) cs ≡ true
+pub some_digit : (cs : List ℕ) → first_passes is_ascii_digit cs ≡ true → list_any (of_base 10) cs ≡ true
 some_digit [] h = absurd (cc)
 some_digit (c ∷ cs) h = or_left (of_base 10 c) (list_any (of_base 10) cs) (sym (digit_is_ten c) ∙ h)
 
 -- ---- what doesn't follow a number
 
-abbrev prefixes : Rule
+abbrev pub prefixes : Rule
 prefixes = Text (codes "0b") ∣ Text (codes "0o") ∣ Text (codes "0x")
 
-no_prefix_to : (t : List ℕ) → IsDecimalText t → NoneAt prefixes t
+pub no_prefix_to : (t : List ℕ) → IsDecimalText t → NoneAt prefixes t
 no_prefix_to t h =
     let (two, hex) = or_parts (begins (codes "0b") t || begins (codes "0o") t) (begins (codes "0x") t) h in
     let (bin, oct) = or_parts (begins (codes "0b") t) (begins (codes "0o") t) two in
     none_of_both (Text (codes "0b")) (Text (codes "0o") ∣ Text (codes "0x")) t (none_begins (codes "0b") t bin)
     (none_of_both (Text (codes "0o")) (Text (codes "0x")) t (none_begins (codes "0o") t oct) (none_begins (codes "0x") t hex))
 
-no_prefix_from : (t : List ℕ) → NoneAt prefixes t → IsDecimalText t
+pub no_prefix_from : (t : List ℕ) → NoneAt prefixes t → IsDecimalText t
 no_prefix_from t none =
     or_from (begins (codes "0b") t || begins (codes "0o") t) (begins (codes "0x") t)
     (or_from (begins (codes "0b") t) (begins (codes "0o") t)
@@ -139,7 +135,7 @@ no_prefix_from t none =
     (begins_none (codes "0o") t (λ u w x e m. none u w x e (inr (inl m)))))
     (begins_none (codes "0x") t (λ u w x e m. none u w x e (inr (inr m))))
 
-abbrev is_e : ℕ → Bool
+abbrev pub is_e : ℕ → Bool
 is_e c = eqb c 101 || eqb c 69
 
 -- ---- integers
@@ -264,7 +260,7 @@ int_rule text contents x = (int_to text contents x, int_from text contents x)
 
 -- ---- the digits of floats
 
-digits_joined : (a b : List ℕ) → float_digits (a ++ b) ≡ float_digits a ++ float_digits b
+pub digits_joined : (a b : List ℕ) → float_digits (a ++ b) ≡ float_digits a ++ float_digits b
 digits_joined [] b = refl
 digits_joined (c ∷ a) b = go (eqb c 95 || eqb c 43) (digits_joined a b)
   where
@@ -283,7 +279,7 @@ digit_written c cs is =
     let letter : eqb c 69 ≡ false = apart (of_base 10) c 69 is refl in
     rw (underscore, plus, letter) refl
 
-digits_written : (cs : List ℕ) → list_all (is_run_part (of_base 10)) cs ≡ true → float_digits cs ≡ without_underscores cs
+pub digits_written : (cs : List ℕ) → list_all (is_run_part (of_base 10)) cs ≡ true → float_digits cs ≡ without_underscores cs
 digits_written [] all = refl
 digits_written (c ∷ cs) all =
     let (here, more) = and_parts (is_run_part (of_base 10) c) (list_all (is_run_part (of_base 10)) cs) all in
@@ -295,45 +291,45 @@ digits_written (c ∷ cs) all =
 decimal_written : (cs : List ℕ) → IsDigits cs → float_digits cs ≡ without_underscores cs
 decimal_written cs is = digits_written cs (sym (decimal_parts cs) ∙ is.1)
 
-whole_to : (cs after : List ℕ) → IsDigits cs → Means dec_literal cs after (float_digits cs)
+pub whole_to : (cs after : List ℕ) → IsDigits cs → Means dec_literal cs after (float_digits cs)
 whole_to cs after is = subst (λ v. Means dec_literal cs after v) (sym (decimal_written cs is)) (dec_to cs after is)
 
-whole_from : (text after value : List ℕ) → Means dec_literal text after value → IsDigits text × (value ≡ float_digits text)
+pub whole_from : (text after value : List ℕ) → Means dec_literal text after value → IsDigits text × (value ≡ float_digits text)
 whole_from text after value m =
     let (is, v) = dec_from text after value m in
     (is, v ∙ sym (decimal_written text is))
 
 -- ---- exponents
 
-abbrev letter : Rule
+abbrev pub letter : Rule
 letter = any_of (codes "e") ∣ As (λ v. 101 ∷ []) (Text (codes "E"))
 
-abbrev sign : Rule
+abbrev pub sign : Rule
 sign = maybe (Text (codes "+") ∣ any_of (codes "-"))
 
-letter_to : (c : ℕ) (after : List ℕ) → is_e c ≡ true → Means letter (c ∷ []) after (float_digits (c ∷ []))
+pub letter_to : (c : ℕ) (after : List ℕ) → is_e c ≡ true → Means letter (c ∷ []) after (float_digits (c ∷ []))
 letter_to c after h =
     elim (or_cases (eqb c 101) (eqb c 69) h) [
       | inl e ↦ subst (λ k. Means letter (k ∷ []) after (float_digits (k ∷ []))) (sym (eqb-true c 101 e)) (inl (101, refl, refl, refl))
       | inr e ↦ subst (λ k. Means letter (k ∷ []) after (float_digits (k ∷ []))) (sym (eqb-true c 69 e)) (inr ([], (refl, refl), refl))
     ]
 
-letter_from : (text after value : List ℕ) → Means letter text after value
+pub letter_from : (text after value : List ℕ) → Means letter text after value
     → (c : ℕ) × (is_e c ≡ true) × (text ≡ c ∷ []) × (value ≡ float_digits (c ∷ []))
 letter_from text after value (inl (c, is, t, v)) =
     let e = eqb-true c 101 (alone (eqb c 101) is) in
     (101, refl, t ∙ ap (λ k. k ∷ []) e, v ∙ ap (λ k. k ∷ []) e)
 letter_from text after value (inr (x, (t, y), v)) = (69, refl, t, v)
 
-abbrev IsSign : List ℕ → Type 0
+abbrev pub IsSign : List ℕ → Type 0
 IsSign s = (s ≡ []) ⊎ ((s ≡ 43 ∷ []) ⊎ (s ≡ 45 ∷ []))
 
-sign_to : (s after : List ℕ) → IsSign s → Means sign s after (float_digits s)
+pub sign_to : (s after : List ℕ) → IsSign s → Means sign s after (float_digits s)
 sign_to s after (inl e) = subst (λ k. Means sign k after (float_digits k)) (sym e) (inl (refl, refl))
 sign_to s after (inr (inl e)) = subst (λ k. Means sign k after (float_digits k)) (sym e) (inr (inl (refl, refl)))
 sign_to s after (inr (inr e)) = subst (λ k. Means sign k after (float_digits k)) (sym e) (inr (inr (45, refl, refl, refl)))
 
-sign_from : (text after value : List ℕ) → Means sign text after value → IsSign text × (value ≡ float_digits text)
+pub sign_from : (text after value : List ℕ) → Means sign text after value → IsSign text × (value ≡ float_digits text)
 sign_from text after value (inl (t, v)) = (inl t, v ∙ ap float_digits (sym t))
 sign_from text after value (inr (inl (t, v))) = (inr (inl t), v ∙ ap float_digits (sym t))
 sign_from text after value (inr (inr (c, is, t, v))) =
@@ -389,10 +385,10 @@ exponent_from text after value (a, w, p, q, text_is, value_is, first, (b, d, r, 
 
 -- ---- floats
 
-abbrev dot : Rule
+abbrev pub dot : Rule
 dot = any_of (codes ".")
 
-dot_from : (text after value : List ℕ) → Means dot text after value → (text ≡ 46 ∷ []) × (value ≡ 46 ∷ [])
+pub dot_from : (text after value : List ℕ) → Means dot text after value → (text ≡ 46 ∷ []) × (value ≡ 46 ∷ [])
 dot_from text after value (c, is, t, v) =
     let e = eqb-true c 46 (alone (eqb c 46) is) in
     (t ∙ ap (λ k. k ∷ []) e, v ∙ ap (λ k. k ∷ []) e)
@@ -405,7 +401,7 @@ numerals =
 abbrev IsNumeral : List ℕ → List ℕ → Type 0
 IsNumeral numeral x = IsDotAlone numeral x ⊎ (IsPointed numeral x ⊎ IsScientific numeral x)
 
-among_e : (c : ℕ) → is_e c ≡ is_among (codes "eE") c
+pub among_e : (c : ℕ) → is_e c ≡ is_among (codes "eE") c
 among_e c = go (eqb c 101) (eqb c 69)
   where
     go : (a b : Bool) → (a || b) ≡ (a || (b || false))
@@ -522,7 +518,7 @@ numeral_from t x v (inr (inr (d, w, p, q, t_is, v_is, m, (b, e, r, s, w_is, q_is
 abbrev ended : Rule
 ended = numerals ⋅ Unless (any_of (codes "_"))
 
-underscores : (x : List ℕ) → begins_char 95 x ≡ first_passes (is_among (codes "_")) x
+pub underscores : (x : List ℕ) → begins_char 95 x ≡ first_passes (is_among (codes "_")) x
 underscores x = passes_same (λ c. eqb c 95) (is_among (codes "_")) (λ c. go (eqb c 95)) x
   where
     go : (b : Bool) → b ≡ (b || false)

@@ -33,7 +33,7 @@ UnitRule kind a = IsRuleOf a strict_text (unit_value kind) (Fits kind)
 abbrev Found : Kind → List ℕ → List ℕ → List ℕ → Type 0
 Found kind text after value = (u : StrictUnit) × Fits kind u after × (text ≡ strict_text u) × (value ≡ unit_value kind u)
 
-in_quotes : (c : ℕ) → is_allowed_in_single_quotes c ≡ but (codes "'\\\n\r\t") c
+pub in_quotes : (c : ℕ) → is_allowed_in_single_quotes c ≡ but (codes "'\\\n\r\t") c
 in_quotes c = ap not (go (eqb c 39) (eqb c 92) (eqb c 10) (eqb c 13) (eqb c 9))
   where
     go : (a b c d e : Bool) → (a || b || c || d || e) ≡ (a || (b || (c || (d || (e || false)))))
@@ -44,7 +44,7 @@ in_quotes c = ap not (go (eqb c 39) (eqb c 92) (eqb c 10) (eqb c 13) (eqb c 9))
     go false false false false true = refl
     go false false false false false = refl
 
-in_string : (c : ℕ) → is_bare_in_string c ≡ but (codes "\"\\\r") c
+pub in_string : (c : ℕ) → is_bare_in_string c ≡ but (codes "\"\\\r") c
 in_string c = ap not (go (eqb c 34) (eqb c 92) (eqb c 13))
   where
     go : (a b c : Bool) → (a || b || c) ≡ (a || (b || (c || false)))
@@ -53,7 +53,7 @@ in_string c = ap not (go (eqb c 34) (eqb c 92) (eqb c 13))
     go false false true = refl
     go false false false = refl
 
-in_c_string : (c : ℕ) → (is_bare_in_string c && not (eqb c 0)) ≡ but (0 ∷ codes "\"\\\r") c
+pub in_c_string : (c : ℕ) → (is_bare_in_string c && not (eqb c 0)) ≡ but (0 ∷ codes "\"\\\r") c
 in_c_string c = go (eqb c 34) (eqb c 92) (eqb c 13) (eqb c 0)
   where
     go : (a b c z : Bool) → (not (a || b || c) && not z) ≡ not (z || (a || (b || (c || false))))
@@ -196,7 +196,7 @@ byte_string_unit = record { to = to; from = from }
 -- ---- C strings: values without NUL
 
 -- A test of one number is the test of the list of it.
-alone : (b : Bool) → b ≡ (b && true)
+pub alone : (b : Bool) → b ≡ (b && true)
 alone true = refl
 alone false = refl
 
@@ -264,11 +264,11 @@ pub record Between (kind : Kind) (a : Rule) : Type 0 where
       → Means a (flat_map strict_text us) (strict_closer kind ++ x) (flat_map (unit_value kind) us)
   pub from : (text x value : List ℕ) → Means a text (strict_closer kind ++ x) value → Units kind text value
 
-passes_cut : (test : ℕ → Bool) (a b : List ℕ) → first_passes test (a ++ b) ≡ false → first_passes test a ≡ false
+pub passes_cut : (test : ℕ → Bool) (a b : List ℕ) → first_passes test (a ++ b) ≡ false → first_passes test a ≡ false
 passes_cut test [] b h = refl
 passes_cut test (c ∷ cs) b h = h
 
-passes_joined : (test : ℕ → Bool) (a b : List ℕ) → first_passes test a ≡ false → first_passes test b ≡ false
+pub passes_joined : (test : ℕ → Bool) (a b : List ℕ) → first_passes test a ≡ false → first_passes test b ≡ false
     → first_passes test (a ++ b) ≡ false
 passes_joined test [] b h k = k
 passes_joined test (c ∷ cs) b h k = h

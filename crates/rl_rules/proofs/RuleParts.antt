@@ -170,6 +170,10 @@ run_from test text after value m =
     let same : text ≡ cs = text_is ∙ ones cs in
     (ap (list_all test) same ∙ all_from_row one test cs after row, value_is ∙ ones cs ∙ sym same)
 
+pub all_pass : (cs : List ℕ) → list_all (λ (c : ℕ). true) cs ≡ true
+all_pass [] = refl
+all_pass (c ∷ cs) = all_pass cs
+
 -- ---- digits and underscores
 
 abbrev pub part : (ℕ → Bool) → Rule

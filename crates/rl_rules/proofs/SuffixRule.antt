@@ -20,7 +20,7 @@ at_end text after value (t, v, none) = (t, empty after (passes_none (λ c. true)
 
 -- ---- identifiers
 
-identifier_to : (x after : List ℕ) → xid_ok x ≡ true → Means identifier_or_keyword x after x
+pub identifier_to : (x after : List ℕ) → xid_ok x ≡ true → Means identifier_or_keyword x after x
 identifier_to [] after h = absurd (cc)
 identifier_to (c ∷ cs) after h =
     let (start, more) = and_parts (eqb c 95 || is_xid_start c) (list_all is_xid_continue cs) h in
@@ -37,7 +37,7 @@ pub alone : (b : Bool) → (b || false) ≡ true → b ≡ true
 alone true h = refl
 alone false h = h
 
-identifier_from : (x after v : List ℕ) → Means identifier_or_keyword x after v → xid_ok x ≡ true
+pub identifier_from : (x after v : List ℕ) → Means identifier_or_keyword x after v → xid_ok x ≡ true
 identifier_from x after v (u, w, p, q, x_is, v_is, first, more) =
     let all = (run_from is_xid_continue w after q more).0 in
     go first all

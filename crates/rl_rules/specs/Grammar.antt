@@ -32,6 +32,10 @@ digit base = One (λ c. nat_lt (digit_value c) base)
 abbrev pub digits : ℕ → Rule
 digits base = Many (digit base ∣ Text (codes "_"))
 
+-- Digits and underscores, with at least one digit. Its value is the digits.
+abbrev pub some_digits : ℕ → Rule
+some_digits base = digits base ⋅ digit base ⋅ digits base
+
 -- ---- escapes
 
 -- QUOTE_ESCAPE: an escaped quote.
@@ -140,7 +144,7 @@ dec_literal = digit 10 ⋅ digits 10
 
 -- BIN_LITERAL, OCT_LITERAL, HEX_LITERAL: the prefix, and digits and underscores with at least one digit.
 abbrev pub with_prefix : List ℕ → ℕ → Rule
-with_prefix prefix base = Text prefix ⋅ digits base ⋅ digit base ⋅ digits base
+with_prefix prefix base = Text prefix ⋅ some_digits base
 
 -- The value of digits: their number in base ten.
 abbrev pub number : ℕ → Rule → Rule
@@ -162,8 +166,7 @@ integer_literal =
 -- no `+`.
 abbrev pub float_exponent : Rule
 float_exponent =
-    (any_of (codes "e") ∣ codes "E" is code "e") ⋅ maybe (Text (codes "+") ∣ any_of (codes "-"))
-    ⋅ digits 10 ⋅ digit 10 ⋅ digits 10
+    (any_of (codes "e") ∣ codes "E" is code "e") ⋅ maybe (Text (codes "+") ∣ any_of (codes "-")) ⋅ some_digits 10
 
 -- FLOAT_LITERAL: digits and a dot at the end of the text; digits, a dot and digits, with SUFFIX_NO_E; or digits, perhaps a
 -- dot and digits, and an exponent.

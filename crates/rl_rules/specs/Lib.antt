@@ -1,2 +1,3 @@
 pub mod Notation
 pub mod Grammar
+pub mod SynGrammar
