@@ -8,3 +8,4 @@ mod RawRules
 mod LiteralRules
 mod NumberRules
 mod SynQuotedRules
+mod SynNumberRules

@@ -375,7 +375,7 @@ pub record Framed (a : Rule) (text value x : List ℕ) : Type 0 where
   pub text_is : text ≡ body ++ x
   pub is_body : Means a body x value
 
-around : (o i c x : List ℕ) → o ++ (i ++ (c ++ x)) ≡ (o ++ (i ++ c)) ++ x
+pub around : (o i c x : List ℕ) → o ++ (i ++ (c ++ x)) ≡ (o ++ (i ++ c)) ++ x
 around o i c x = ap (λ k. o ++ k) (sym (append_assoc i c x)) ∙ sym (append_assoc o (i ++ c) x)
 
 framed : (kind : Kind) (a : Rule) (q : ℕ) (text inside value x : List ℕ) → text ≡ opener kind ++ (inside ++ (q ∷ x))

@@ -104,15 +104,17 @@ abbrev pub exponent_suffix : Rule
 exponent_suffix =
     any_of (codes "eE") ⋅ some_digits 10 ⋅ Unless (digit 10 ∣ Text (codes "_")) ⋅ maybe identifier_or_keyword ⋅ end
 
+-- The value of digits whose number passes the test: the number in base ten.
+abbrev pub number_if : (ℕ → Bool) → ℕ → Rule → Rule
+number_if test base a = number base (If (λ ds. test (place_value base ds)) a)
+
 -- `parse_lit_int`. The number passes the test.
 abbrev pub parse_lit_int : (ℕ → Bool) → Rule
 parse_lit_int test =
     maybe (any_of (codes "-"))
-    ⋅ (no_prefix ⋅ within 10 dec_literal ⋅ Unless exponent_suffix ∣ within 2 (with_prefix (codes "0b") 2)
-    ∣ within 8 (with_prefix (codes "0o") 8) ∣ within 16 (with_prefix (codes "0x") 16) ⋅ Unless (digit 16))
-  where
-    within : ℕ → Rule → Rule
-    within base a = number base (If (λ ds. test (place_value base ds)) a)
+    ⋅ (no_prefix ⋅ number_if test 10 dec_literal ⋅ Unless exponent_suffix
+    ∣ number_if test 2 (with_prefix (codes "0b") 2) ∣ number_if test 8 (with_prefix (codes "0o") 8)
+    ∣ number_if test 16 (with_prefix (codes "0x") 16) ⋅ Unless (digit 16))
 
 -- `parse_lit_float`. The number has no exponent only if its suffix doesn't begin like one.
 abbrev pub parse_lit_float : Rule
