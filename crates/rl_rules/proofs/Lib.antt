@@ -9,3 +9,4 @@ mod LiteralRules
 mod NumberRules
 mod SynQuotedRules
 mod SynNumberRules
+mod SynRules

@@ -5,13 +5,13 @@ use Rattle.rl_syntax.specs.declared.kind.Kind.{Kind}
 use Rattle.rl_syntax.specs.declared.kind.Kind.TheVariants.{Str, ByteStr, CStr, Byte, Char, Int, Float, Bool as BoolKind}
 use Rattle.rl_syntax.specs.Reading.{Contents}
 use Rattle.rl_syntax.specs.Strict.{StrictCooked, StrictRaw, IsRawInside}
-use Rattle.rl_rules.specs.Notation.{Rule, Many, ◌∣◌}
-use Rattle.rl_rules.specs.Grammar.{char_content, byte_content, string_content, byte_string_content, c_string_content, raw_string_literal, raw_byte_string_literal, raw_c_string_literal, StrictIsByTheRules}
+use Rattle.rl_rules.specs.Notation.{Rule, Many, ◌∣◌, maybe}
+use Rattle.rl_rules.specs.Grammar.{char_content, byte_content, string_content, byte_string_content, c_string_content, raw_string_literal, raw_byte_string_literal, raw_c_string_literal, suffix, StrictIsByTheRules}
 use Rattle.rl_rules.proofs.RuleParts.{all_pass}
 use Rattle.rl_rules.proofs.QuotedRules.{By, frame, cooked_rule, char_between, byte_between, string_between, byte_string_between, c_string_between}
 use Rattle.rl_rules.proofs.RawRules.{raw_rule}
 use Rattle.rl_rules.proofs.NumberRules.{int_rule, float_rule}
-use Rattle.rl_rules.proofs.TruthRule.{truth_rule}
+use Rattle.rl_rules.proofs.TruthRule.{truth_rule, strict_truth}
 
 -- A string is cooked or raw, by the rules too.
 either : (kind : Kind) (a b : Rule) (text : List ℕ) (contents : Contents) (x : List ℕ)
@@ -58,4 +58,7 @@ strict_is_by_the_rules text Char v x =
     single Char (frame Char char_content) text v x (λ cs h. h) (cooked_rule Char char_content char_between (λ v. refl) text v x)
 strict_is_by_the_rules text Int v x = int_rule text v x
 strict_is_by_the_rules text Float v x = float_rule text v x
-strict_is_by_the_rules text BoolKind v x = truth_rule text v x
+strict_is_by_the_rules text BoolKind v x =
+    let same = strict_truth text v x in
+    let rule = truth_rule (maybe suffix) (inl (refl, refl)) text v x in
+    (λ s. rule.0 (same.0 s), λ l. same.1 (rule.1 l))

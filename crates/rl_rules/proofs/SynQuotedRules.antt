@@ -207,7 +207,7 @@ ascii_letter Apostrophe = refl
 ascii_letter Quote = refl
 ascii_letter Zero = refl
 
-ascii_itself : (c : ℕ) → nat_lt c 128 ≡ true → encode_utf8_all (c ∷ []) ≡ c ∷ []
+pub ascii_itself : (c : ℕ) → nat_lt c 128 ≡ true → encode_utf8_all (c ∷ []) ≡ c ∷ []
 ascii_itself c h = (ap (λ z. z ++ []) (encode_ascii c (ltb-true c 128 h)))
 
 not_slash : (c : ℕ) → not (eqb c 92) ≡ but (codes "\\") c
@@ -502,6 +502,14 @@ raw_around : (o h i x : List ℕ) → o ++ (h ++ (34 ∷ (i ++ (34 ∷ (h ++ x))
 raw_around o h i x =
     sym (append_assoc o h (34 ∷ (i ++ (34 ∷ (h ++ x))))) ∙ ap (λ k. (o ++ h) ++ (34 ∷ k)) (sym (append_assoc i (34 ∷ h) x))
     ∙ sym (append_assoc (o ++ h) (34 ∷ []) ((i ++ (34 ∷ h)) ++ x)) ∙ sym (append_assoc ((o ++ h) ++ 34 ∷ []) (i ++ (34 ∷ h)) x)
+
+pub raw_all : (o : List ℕ) (test : ℕ → Bool) (u x v : List ℕ) → Means (raw_to_last o test) u x v → list_all test v ≡ true
+raw_all o test u x v (n, m) =
+    let (is_raw, none) = then_unless (raw_body o test n) last_quote u x v m in
+    let (w, u_is, rest) = then_text (o ++ replicate n 35 ++ 34 ∷ []) (Many (One test) ⋅ Text (34 ∷ replicate n 35)) u x v is_raw in
+    let (i, w_is, run) = then_close (34 ∷ replicate n 35) (Many (One test)) w x v rest in
+    let (all, v_is) = run_from test i (34 ∷ replicate n 35 ++ x) v run in
+    ap (list_all test) v_is ∙ all
 
 pub raw_rule : (kind : Kind) (test : ℕ → Bool) → ((cs : List ℕ) → list_all (is_raw kind) cs ≡ list_all test cs)
     → is_string kind ≡ true → (text value x : List ℕ)
