@@ -1,5 +1,5 @@
 -- Rust's grammar is the rules of the Reference.
-use Rattle.rl_syntax.proofs.Common.{◌≡◌, ◌⊎◌, ℕ, true, not, eqb, List, [], ◌∷◌, refl, inl, inr, list_all, is_ascii}
+use Rattle.rl_syntax.proofs.Common.{◌⊎◌, ℕ, true, not, eqb, List, refl, inl, inr, is_ascii}
 use Rattle.std.specs.Prelude.{◌↔◌}
 use Rattle.rl_syntax.specs.declared.kind.Kind.{Kind}
 use Rattle.rl_syntax.specs.declared.kind.Kind.TheVariants.{Str, ByteStr, CStr, Byte, Char, Int, Float, Bool as BoolKind}

@@ -1,24 +1,23 @@
 -- Integers and floats of `syn`'s grammar, by both definitions.
-use Rattle.rl_syntax.proofs.Common.{◌≡◌, ◌⊎◌, ℕ, ◌≤◌, ◌||◌, ◌&&◌, Bool, true, false, not, eqb, List, [], ◌∷◌, ◌++◌, refl, sym, ap, ap₂, subst, ◌∙◌, inl, inr, append_assoc, append-nil, list_all, list_any, replicate, length, zero, suc, eqb-true, both_ways, and_parts, and_from, or_left, or_right, or_cases, digit_value, nat_lt, nat_le, is_ascii_digit, codes}
+use Rattle.rl_syntax.proofs.Common.{◌≡◌, ◌⊎◌, ℕ, Bool, true, false, eqb, List, [], ◌∷◌, ◌++◌, refl, sym, ap, ap₂, subst, ◌∙◌, inl, inr, append_assoc, append-nil, list_all, list_any, replicate, length, zero, suc, eqb-true, both_ways, and_parts, or_cases, nat_le, is_ascii_digit, codes}
 use Rattle.std.specs.Prelude.{◌↔◌}
-use Rattle.std.specs.Fmt.{decimal}
 use Rattle.std.proofs.lemmas.Bool.{leb-true, le-leb, false_from_ne_true, false≢true}
 use Rattle.rl_syntax.specs.declared.kind.Kind.TheVariants.{Int, Float}
-use Rattle.rl_syntax.specs.Texts.{first_passes, begins, is_underscore, xid_ok, is_among, is_run_part}
+use Rattle.rl_syntax.specs.Texts.{first_passes, is_underscore, xid_ok, is_among, is_run_part}
 use Rattle.rl_syntax.specs.Spelling.{place_value, without_underscores}
-use Rattle.rl_syntax.specs.Numbers.{Base, Binary, Octal, Decimal, Hexadecimal, radix, prefix, is_digit, Sign, NoSign, Minus, sign_text, IsAfterPrefix, IsSuffix, is_exponent_letter, IsExponentSuffix, AllowsSuffix, IntReads, limit, Fraction, NoFraction, Dot, fraction_text, IsFraction, Exponent, NoExponent, Power, exponent_text, is_power_sign, BeginsExponent, IsExponent, FloatReads, float_digits}
+use Rattle.rl_syntax.specs.Numbers.{Base, Binary, Octal, Decimal, Hexadecimal, radix, prefix, is_digit, Sign, NoSign, Minus, sign_text, IsAfterPrefix, IsSuffix, IsExponentSuffix, AllowsSuffix, IntReads, limit, Fraction, NoFraction, Dot, fraction_text, IsFraction, Exponent, NoExponent, Power, exponent_text, is_power_sign, BeginsExponent, IsExponent, FloatReads, float_digits}
 use Rattle.rl_syntax.specs.Reading.{Contents, Digits, ReadsInt, HasNoInteger, ReadsFloat}
-use Rattle.rl_syntax.specs.Strict.{dec, IsDigits}
+use Rattle.rl_syntax.specs.Strict.{dec}
 use Rattle.rl_syntax.proofs.Basics.{any_same, digit_is_ten}
 use Rattle.rl_syntax.proofs.Dec.{dec_is_decimal}
-use Rattle.rl_rules.specs.Notation.{Rule, Text, One, Many, As, If, Unless, Means, ◌⋅◌, ◌∣◌, maybe, any_of, end}
-use Rattle.rl_rules.specs.Grammar.{identifier_or_keyword, digit, digits, some_digits, dec_literal, with_prefix, number, no_prefix, IsLiteralBy}
-use Rattle.rl_rules.specs.SynGrammar.{number_suffix, exponent_suffix, number_if, parse_lit_int, parse_lit_float, syn_literal, syn_suffix}
+use Rattle.rl_rules.specs.Notation.{Rule, Text, Many, Unless, Means, ◌⋅◌, ◌∣◌, maybe, any_of, end}
+use Rattle.rl_rules.specs.Grammar.{identifier_or_keyword, digit, digits, some_digits, dec_literal, with_prefix, no_prefix, IsLiteralBy}
+use Rattle.rl_rules.specs.SynGrammar.{number_suffix, exponent_suffix, number_if, parse_lit_int, parse_lit_float, syn_literal}
 use Rattle.rl_rules.proofs.RuleParts.{text_then, then_text, NoneAt, unless_then, then_unless, unless_before, before_unless, none_passes, passes_none, one, kept, part, digit_part, parts_to, parts_from}
 use Rattle.rl_rules.proofs.SuffixRule.{identifier_to, identifier_from, end_here, at_end, alone}
 use Rattle.rl_rules.proofs.EscapeRules.{underscores_to, underscores_from}
 use Rattle.rl_rules.proofs.SynQuotedRules.{Framed, around}
-use Rattle.rl_rules.proofs.NumberRules.{of_base, without_digit, some_to, some_from, some_digit, decimal_parts, dec_to, dec_from, prefixes, no_prefix_to, no_prefix_from, is_e, among_e, underscores, digits_joined, digits_written, whole_to, whole_from, letter, letter_to, letter_from, sign, IsSign, sign_to, sign_from, dot, dot_from}
+use Rattle.rl_rules.proofs.NumberRules.{of_base, some_to, some_from, some_digit, decimal_parts, dec_to, dec_from, prefixes, no_prefix_to, no_prefix_from, is_e, among_e, underscores, digits_joined, digits_written, whole_to, whole_from, letter, letter_to, letter_from, sign, IsSign, sign_to, sign_from, dot, dot_from}
 
 -- ---- suffixes
 
@@ -38,14 +37,15 @@ name_from x after v (inr m) = inr (identifier_from x after v m)
 
 pub suffix_to : (x : List ℕ) → IsSuffix x → (v : List ℕ) × Means number_suffix x [] v
 suffix_to x (is_name, u) =
-    let (v, m) = name_to x [] is_name in
-    (v, unless_before name (any_of (codes "_")) x [] v
-    (none_passes (is_among (codes "_")) (x ++ []) (ap (first_passes (is_among (codes "_"))) (append-nil x) ∙ sym (underscores x) ∙ u)) m)
+    let (v, m) = name_to x [] is_name in (
+      v,
+      unless_before name (any_of (codes "_")) x [] v
+          (none_passes (is_among (codes "_")) (x ++ []) (ap (first_passes (is_among (codes "_"))) (append-nil x) ∙ sym (underscores x) ∙ u)) m,
+    )
 
 pub suffix_from : (x v : List ℕ) → Means number_suffix x [] v → IsSuffix x
 suffix_from x v m =
-    let (none, is_name) = before_unless name (any_of (codes "_")) x [] v m in
-    (
+    let (none, is_name) = before_unless name (any_of (codes "_")) x [] v m in (
       name_from x [] v is_name,
       underscores x ∙ ap (first_passes (is_among (codes "_"))) (sym (append-nil x)) ∙ passes_none (is_among (codes "_")) (x ++ []) none,
     )
@@ -68,24 +68,25 @@ exponent_suffix_to x s =
     let any = any_same (of_base 10) is_ascii_digit (λ c. sym (digit_is_ten c)) s.run ∙ s.some in
     let last : Means (name ⋅ end) s.rest [] v = (s.rest, [], v, [], sym (append-nil s.rest), sym (append-nil v), m, end_here) in
     let tail = unless_before (name ⋅ end) (part (of_base 10)) s.rest [] v
-    (subst (NoneAt (part (of_base 10))) (sym (append-nil s.rest)) (no_part_to s.rest s.whole)) last in
-    (s.letter ∷ (without_underscores s.run ++ v), subst (λ k. Means exponent_suffix k [] (s.letter ∷ (without_underscores s.run ++ v))) (sym s.text_is) (
-      s.letter ∷ [],
-      s.run ++ s.rest,
-      s.letter ∷ [],
-      without_underscores s.run ++ v,
-      refl,
-      refl,
-      (s.letter, sym (among_e s.letter) ∙ s.is_letter, refl, refl),
-      (s.run, s.rest, without_underscores s.run, v, refl, refl, some_to 10 s.run (s.rest ++ []) refl s.each any, tail),
-    ))
+    (subst (NoneAt (part (of_base 10))) (sym (append-nil s.rest)) (no_part_to s.rest s.whole)) last in (
+      s.letter ∷ (without_underscores s.run ++ v),
+      subst (λ k. Means exponent_suffix k [] (s.letter ∷ (without_underscores s.run ++ v))) (sym s.text_is) (
+        s.letter ∷ [],
+        s.run ++ s.rest,
+        s.letter ∷ [],
+        without_underscores s.run ++ v,
+        refl,
+        refl,
+        (s.letter, sym (among_e s.letter) ∙ s.is_letter, refl, refl),
+        (s.run, s.rest, without_underscores s.run, v, refl, refl, some_to 10 s.run (s.rest ++ []) refl s.each any, tail),
+      ),
+    )
 
 exponent_suffix_from : (u w v : List ℕ) → Means exponent_suffix u w v → (w ≡ []) × IsExponentSuffix u
 exponent_suffix_from u w v (a, b, p, q, u_is, v_is, (c, is_letter, a_is, p_is), (run, rest, y, z, b_is, q_is, row, tail)) =
     let (none, (n, e, s, t, rest_is, z_is, is_name, at_e)) = before_unless (name ⋅ end) (part (of_base 10)) rest w z tail in
     let (e_is, w_is, t_is) = at_end e w t at_e in
-    let (all, any, y_is) = some_from 10 run (rest ++ w) y refl row in
-    (
+    let (all, any, y_is) = some_from 10 run (rest ++ w) y refl row in (
       w_is,
       record {
         letter = c;
@@ -278,6 +279,7 @@ int_rule text contents x = (to, from)
           is_suffix = suffix_to x s.reads.is_suffix;
           contents_is = s.contents_is ∙ ap (λ k. Digits (sign_text s.sign ++ k)) (sym (dec_is_decimal s.magnitude s.within));
         }
+
     from : IsLiteralBy (syn_literal Int) number_suffix Int text contents x → ReadsInt text contents x
     from l =
         let i = int_from (λ n. nat_le n limit) text l.value x (record { body = l.body; text_is = l.text_is; is_body = l.is_body })
@@ -424,8 +426,7 @@ exponent_from u x v (inl (a, b, p, q, u_is, v_is, first, (us, d, r, y, b_is, q_i
     let (is_sign_s, i_is) = sign_from s (run ++ x) i is_s in
     let (all, any, j_is) = some_from 10 run x j refl digits_are in
     let tail : q ≡ float_digits (s ++ run) = q_is ∙ ap (λ k. k ++ y) r_is ∙ y_is ∙ ap₂ (λ k l. k ++ l) i_is (j_is ∙ sym (digits_written run all)) ∙ sym (digits_joined s run) in
-    let gone = ap (λ k. float_digits (k ++ (s ++ run))) us_is ∙ dropped n (s ++ run) in
-    (
+    let gone = ap (λ k. float_digits (k ++ (s ++ run))) us_is ∙ dropped n (s ++ run) in (
       Power c us s run,
       (is_letter, ap (list_all is_underscore) us_is ∙ all_counted n, is_sign s is_sign_s, all, any_same is_ascii_digit (of_base 10) digit_is_ten run ∙ any),
       u_is ∙ ap₂ (λ k l. k ++ l) a_is (b_is ∙ ap (λ k. us ++ k) d_is),
@@ -440,16 +441,23 @@ fraction = maybe (dot ⋅ digits 10)
 fraction_to : (f : Fraction) (after : List ℕ) → IsFraction f → Means fraction (fraction_text f) after (float_digits (fraction_text f))
 fraction_to NoFraction after h = inl (refl, refl)
 fraction_to (Dot run) after all =
-    inr (46 ∷ [], run, 46 ∷ [], float_digits run, refl, refl, (46, refl, refl, refl),
-    subst (λ v. Means (digits 10) run after v) (sym (digits_written run all)) (parts_to (of_base 10) refl run after all))
+    inr (
+      46 ∷ [],
+      run,
+      46 ∷ [],
+      float_digits run,
+      refl,
+      refl,
+      (46, refl, refl, refl),
+      subst (λ v. Means (digits 10) run after v) (sym (digits_written run all)) (parts_to (of_base 10) refl run after all),
+    )
 
 fraction_from : (u after v : List ℕ) → Means fraction u after v
     → (f : Fraction) × IsFraction f × (u ≡ fraction_text f) × (v ≡ float_digits (fraction_text f))
 fraction_from u after v (inl (u_is, v_is)) = (NoFraction, tt, u_is, v_is)
 fraction_from u after v (inr (a, run, p, q, u_is, v_is, point, row)) =
     let (a_is, p_is) = dot_from a (run ++ after) p point in
-    let (all, q_is) = parts_from (of_base 10) refl run after q row in
-    (
+    let (all, q_is) = parts_from (of_base 10) refl run after q row in (
       Dot run,
       all,
       u_is ∙ ap (λ k. k ++ run) a_is,
@@ -497,8 +505,7 @@ float_from text numeral x v text_is is_suffix (a, b, p, q, n_is, v_is, first, (w
     n_is ∙ ap₂ (λ k l. k ++ l) a_is (b_is ∙ ap (λ k. w ++ k) tail) in
     let last : y ≡ float_digits (fraction_text fr ++ exponent_text ex) = y_is ∙ ap₂ (λ k l. k ++ l) i_is j_is ∙ sym (digits_joined (fraction_text fr) (exponent_text ex)) in
     let most : q ≡ float_digits (w ++ (fraction_text fr ++ exponent_text ex)) =
-    q_is ∙ ap₂ (λ k l. k ++ l) r_is last ∙ sym (digits_joined w (fraction_text fr ++ exponent_text ex)) in
-    (
+    q_is ∙ ap₂ (λ k l. k ++ l) r_is last ∙ sym (digits_joined w (fraction_text fr ++ exponent_text ex)) in (
       record {
         sign = s;
         whole = w;
@@ -513,7 +520,7 @@ float_from text numeral x v text_is is_suffix (a, b, p, q, n_is, v_is, first, (w
         text_is = text_is;
       },
       v_is ∙ ap₂ (λ k l. k ++ l) (p_is ∙ signed s) most
-      ∙ sym (digits_joined (sign_text s) (w ++ (fraction_text fr ++ exponent_text ex))) ∙ ap float_digits (sym numeral_is),
+          ∙ sym (digits_joined (sign_text s) (w ++ (fraction_text fr ++ exponent_text ex))) ∙ ap float_digits (sym numeral_is),
     )
 
 pub float_rule : (text : List ℕ) (contents : Contents) (x : List ℕ)
@@ -530,6 +537,7 @@ float_rule text contents x = (to, from)
       is_suffix = suffix_to x s.reads.is_suffix;
       contents_is = s.contents_is;
     }
+
     from : IsLiteralBy (syn_literal Float) number_suffix Float text contents x → ReadsFloat text contents x
     from l =
         let (none, m) = before_unless parse_lit_float any_integer l.body x l.value l.is_body in

@@ -1,5 +1,5 @@
 -- Quoted literals of `syn`'s grammar, by both definitions.
-use Rattle.rl_syntax.proofs.Common.{◌≡◌, ◌⊎◌, ℕ, ◌≤◌, ◌||◌, ◌&&◌, Bool, true, false, not, eqb, List, [], ◌∷◌, ◌++◌, refl, sym, ap, subst, ◌∙◌, inl, inr, append-nil, append_assoc, AllByRecursion, IsFalse, list_all, list_any, list_all-append, flat_map, length, replicate, and_parts, and_from, or_cases, or_from, or_parts, encode_ascii, not-true, not_from_false, both_ways, cases_Bool, eqb-true, ltb-true, digit_value, nat_lt, nat_le, is_ascii, all_scalars, encode_utf8_all, codes}
+use Rattle.rl_syntax.proofs.Common.{◌≡◌, ◌⊎◌, ℕ, ◌≤◌, ◌||◌, ◌&&◌, Bool, true, false, not, eqb, List, [], ◌∷◌, ◌++◌, refl, sym, ap, subst, ◌∙◌, inl, inr, append_assoc, AllByRecursion, list_all, list_any, list_all-append, length, replicate, and_parts, and_from, or_parts, encode_ascii, not_from_false, eqb-true, ltb-true, nat_lt, nat_le, is_ascii, all_scalars, encode_utf8_all, codes}
 use Rattle.std.specs.Prelude.{◌↔◌}
 use Rattle.std.specs.Char.{IsScalar}
 use Rattle.std.proofs.lemmas.Bool.{leb-true, le-leb, false≢true, false_from_ne_true}
@@ -9,12 +9,12 @@ use Rattle.rl_syntax.specs.Texts.{first_passes, is_blank, is_underscore, is_run_
 use Rattle.rl_syntax.specs.Spelling.{place_value, without_underscores}
 use Rattle.rl_syntax.specs.Quoted.{Letter, LowerN, LowerR, LowerT, Backslash, Apostrophe, Quote, Zero, letter_text, letter_value, QuotedUnit, Plain, CrLf, Named, Hex, Unicode, Continuation, unit_text, unit_value, unicode_value, is_hex_digit, is_line_end, IsUnit, texts, values, EndsBefore, ContinuationsEnd, opener, raw_opener, content_of, is_raw, is_string, is_single, Cooked, Raw, Single}
 use Rattle.rl_syntax.proofs.Basics.{all_same, passes_same}
-use Rattle.rl_rules.specs.Notation.{Rule, Text, One, Many, As, If, Unless, Means, ◌⋅◌, ◌∣◌, but, any_of, skip}
+use Rattle.rl_rules.specs.Notation.{Rule, Text, One, Many, As, If, Means, ◌⋅◌, but, skip}
 use Rattle.rl_rules.specs.Grammar.{digit, digits, byte_escape}
 use Rattle.rl_rules.specs.SynGrammar.{backslash_u, line_continue, char_inside, byte_inside, str_inside, byte_str_inside, c_str_inside, raw_to_last}
 use Rattle.rl_rules.proofs.RuleParts.{text_then, then_text, close_then, then_close, NoneAt, unless_then, then_unless, none_passes, passes_none, IsRuleOf, Row, many_to, many_from, run_to, run_from, parts_to, parts_from, all_pass}
 use Rattle.rl_rules.proofs.EscapeRules.{hex_text, hex_value}
-use Rattle.rl_rules.proofs.QuotedRules.{in_quotes, in_string, in_c_string, alone, passes_cut, passes_joined}
+use Rattle.rl_rules.proofs.QuotedRules.{in_quotes, in_string, alone, passes_cut, passes_joined}
 use Rattle.rl_rules.proofs.NumberRules.{of_base, without_digit, split}
 
 -- ---- escapes
@@ -101,8 +101,16 @@ unicode_to first more after s =
       without_underscores (first ∷ more),
       (
         test,
-        (first ∷ [], more, first ∷ [], without_underscores more, refl, kept, (first, s.is_first, refl, refl),
-        parts_to (of_base 16) refl more (125 ∷ after) (sym (swapped more) ∙ s.each)),
+        (
+          first ∷ [],
+          more,
+          first ∷ [],
+          without_underscores more,
+          refl,
+          kept,
+          (first, s.is_first, refl, refl),
+          parts_to (of_base 16) refl more (125 ∷ after) (sym (swapped more) ∙ s.each),
+        ),
       ),
       refl,
     ))
@@ -115,8 +123,7 @@ unicode_from text after value m =
     then_close (125 ∷ []) scalar_digits w after value rest in
     let (all, q_is) = parts_from (of_base 16) refl more (125 ∷ after) q run in
     let ds : x ≡ without_underscores (first ∷ more) = x_is ∙ ap (λ k. k ++ q) p_is ∙ ap (λ k. first ∷ k) q_is ∙ sym (without_digit 16 first more refl is_first) in
-    let (few, scalar) = and_parts (nat_le (length (without_underscores (first ∷ more))) 6) (all_scalars (unicode_value first more ∷ [])) (ap is_scalar (sym ds) ∙ test) in
-    (
+    let (few, scalar) = and_parts (nat_le (length (without_underscores (first ∷ more))) 6) (all_scalars (unicode_value first more ∷ [])) (ap is_scalar (sym ds) ∙ test) in (
       first,
       more,
       record { is_first = is_first; each = swapped more ∙ all; few = leb-true (length (without_underscores (first ∷ more))) 6 few; scalar = (and_parts _ true scalar).0 },
@@ -176,8 +183,7 @@ continue_from : (text after value : List ℕ) → Means line_continue text after
     × (text ≡ 92 ∷ e ∷ run) × (value ≡ [])
 continue_from text after value m =
     let ((x, inner, value_is), none) = then_unless (skip line_break) (One is_space) text after value m in
-    let (w, text_is, (a, run, p, q, w_is, x_is, (e, is_e, a_is, p_is), blanks)) = then_text (92 ∷ []) (One is_end ⋅ Many (One is_space)) text after x inner in
-    (
+    let (w, text_is, (a, run, p, q, w_is, x_is, (e, is_e, a_is, p_is), blanks)) = then_text (92 ∷ []) (One is_end ⋅ Many (One is_space)) text after x inner in (
       e,
       run,
       line_ends e ∙ is_e,
@@ -228,6 +234,7 @@ char_unit = record { to = to; from = from }
     to (Unicode first more) after ((k, h, each, few, scalar, z), e) =
         inr (inr (unicode_to first more after (record { is_first = h; each = each; few = few; scalar = scalar })))
     to (Continuation end run) after ((h, i, j), e) = absurd (cc)
+
     from : (text after value : List ℕ) → Means char_inside text after value → Found Char text after value
     from text after value (inl (c, is, t, v)) = (Plain c, (not_slash c ∙ is, tt), t, v)
     from text after value (inr (inl (small, m))) =
@@ -249,6 +256,7 @@ byte_unit = record { to = to; from = from }
     to (Hex high low) after ((h, l, small), e) = inr (hex_to high low after h l)
     to (Unicode first more) after ((k, h, each, few, scalar, z), e) = absurd (cc)
     to (Continuation end run) after ((h, i, j), e) = absurd (cc)
+
     from : (text after value : List ℕ) → Means byte_inside text after value → Found Byte text after value
     from text after value (inl (c, is, t, v)) =
         (Plain c, (ap (λ b. nat_lt c 128 && b) (in_quotes c) ∙ is, tt), t, v ∙ sym (ascii_itself c (and_parts (nat_lt c 128) _ is).0))
@@ -269,6 +277,7 @@ str_unit = record { to = to; from = from }
     to (Unicode first more) after ((k, h, each, few, scalar, z), e) =
         inr (inr (inr (inl (unicode_to first more after (record { is_first = h; each = each; few = few; scalar = scalar })))))
     to (Continuation end run) after ((h, ending, each), e) = inr (inr (inr (inr (continue_to end run after ending each e))))
+
     from : (text after value : List ℕ) → Means str_inside text after value → Found Str text after value
     from text after value (inl (c, is, t, v)) = (Plain c, (in_string c ∙ is, tt), t, v)
     from text after value (inr (inl (x, (t, y), v))) = (CrLf, (refl, tt), t, v)
@@ -294,6 +303,7 @@ byte_str_unit = record { to = to; from = from }
     to (Hex high low) after ((h, l, small), e) = inr (inr (inl (hex_to high low after h l)))
     to (Unicode first more) after ((k, h, each, few, scalar, z), e) = absurd (cc)
     to (Continuation end run) after ((h, ending, each), e) = inr (inr (inr (continue_to end run after ending each e)))
+
     from : (text after value : List ℕ) → Means byte_str_inside text after value → Found ByteStr text after value
     from text after value (inl (c, is, t, v)) =
         (Plain c, (ap (λ b. nat_lt c 128 && b) (in_string c) ∙ is, tt), t, v ∙ sym (ascii_itself c (and_parts (nat_lt c 128) _ is).0))
@@ -343,6 +353,7 @@ c_str_unit = record { to = to; from = from }
           refl,
         ))))
     to (Continuation end run) after ((h, ending, each), e) = inr (inr (inr (inr (continue_to end run after ending each e))))
+
     from : (text after value : List ℕ) → Means c_str_inside text after value → Found CStr text after value
     from text after value (inl (x, (c, is, t, v), value_is)) = (Plain c, (c_plain c ∙ is, tt), t, value_is ∙ ap encode_utf8_all v)
     from text after value (inr (inl (x, (t, y), v))) = (CrLf, (refl, tt), t, v)
@@ -352,8 +363,7 @@ c_str_unit = record { to = to; from = from }
           | inr (l, t, v) ↦ (Named l, (alone _ ∙ ap (list_all (λ c. not (eqb c 0))) (sym v) ∙ other, tt), t, v)
         ]
     from text after value (inr (inr (inr (inl (x, (other, m), value_is))))) =
-        let (first, more, s, t, v) = unicode_from text after x m in
-        (
+        let (first, more, s, t, v) = unicode_from text after x m in (
           Unicode first more,
           ((refl, s.is_first, s.each, s.few, s.scalar, alone _ ∙ ap (list_all (λ c. not (eqb c 0))) (sym v) ∙ other), tt),
           t,
@@ -390,8 +400,7 @@ unframed : (kind : Kind) (a : Rule) (q : ℕ) (text value x : List ℕ) → Fram
     → (inside : List ℕ) × (text ≡ opener kind ++ (inside ++ (q ∷ x))) × Means a inside (q ∷ x) value
 unframed kind a q text value x f =
     let (w, body_is, rest) = then_text (opener kind) (a ⋅ Text (q ∷ [])) f.body x value f.is_body in
-    let (u, w_is, m) = then_close (q ∷ []) a w x value rest in
-    (
+    let (u, w_is, m) = then_close (q ∷ []) a w x value rest in (
       u,
       f.text_is ∙ ap (λ k. k ++ x) (body_is ∙ ap (λ k. opener kind ++ k) w_is) ∙ sym (around (opener kind) u (q ∷ []) x),
       m,
@@ -426,6 +435,7 @@ cooked_rule kind a rule string text value x = (to, from)
         subst (λ v. Framed (frame kind (Many a) 34) text v x) (sym s.value_is)
         (framed kind (Many a) 34 text (texts s.units) (values kind s.units) x s.text_is
         (many_to a unit_text (unit_value kind) (Fits kind) rule s.units (34 ∷ x) (row_of kind s.units (34 ∷ x) refl s.each s.ends)))
+
     from : Framed (frame kind (Many a) 34) text value x → Cooked kind text value x
     from f =
         let (inside, text_is, m) = unframed kind (Many a) 34 text value x f in
@@ -441,11 +451,13 @@ single_rule kind a rule single no_break text value x = (to, from)
     ends : (u : QuotedUnit) (after : List ℕ) → IsUnit kind u → EndsBefore u after
     ends (Continuation end run) after is_unit = absurd (no_break end run is_unit)
     ends _ after is_unit = tt
+
     to : Single kind text value x → Framed (frame kind a 39) text value x
     to s =
         subst (λ v. Framed (frame kind a 39) text v x) (sym s.value_is)
         (framed kind a 39 text (unit_text s.unit) (unit_value kind s.unit) x s.text_is
         (rule.to s.unit (39 ∷ x) (s.is_unit, ends s.unit (39 ∷ x) s.is_unit)))
+
     from : Framed (frame kind a 39) text value x → Single kind text value x
     from f =
         let (inside, text_is, m) = unframed kind a 39 text value x f in
@@ -520,15 +532,22 @@ raw_rule kind test same string text value x = (to, from)
     to s =
         let n = s.hashes in
         let o = raw_opener kind ++ replicate n 35 ++ 34 ∷ [] in
-        let body = o ++ (s.inside ++ (34 ∷ replicate n 35)) in
-        (s.inside, s.value_is, record {
-          body = body;
-          text_is = s.text_is ∙ raw_around (raw_opener kind) (replicate n 35) s.inside x;
-          is_body = (n, unless_then (raw_body (raw_opener kind) test n) last_quote body x s.inside
-              (text_then o (Many (One test) ⋅ Text (34 ∷ replicate n 35)) (s.inside ++ (34 ∷ replicate n 35)) x s.inside
-              (close_then (34 ∷ replicate n 35) (Many (One test)) s.inside x s.inside (run_to test s.inside (34 ∷ replicate n 35 ++ x) (sym (same s.inside) ∙ s.each))))
-              (no_quote_to x s.no_quote));
-        })
+        let body = o ++ (s.inside ++ (34 ∷ replicate n 35)) in (
+          s.inside,
+          s.value_is,
+          record {
+            body = body;
+            text_is = s.text_is ∙ raw_around (raw_opener kind) (replicate n 35) s.inside x;
+            is_body = (
+              n,
+              unless_then (raw_body (raw_opener kind) test n) last_quote body x s.inside
+                  (text_then o (Many (One test) ⋅ Text (34 ∷ replicate n 35)) (s.inside ++ (34 ∷ replicate n 35)) x s.inside
+                  (close_then (34 ∷ replicate n 35) (Many (One test)) s.inside x s.inside (run_to test s.inside (34 ∷ replicate n 35 ++ x) (sym (same s.inside) ∙ s.each))))
+                  (no_quote_to x s.no_quote),
+            );
+          },
+        )
+
     from : (inside : List ℕ) × (value ≡ content_of kind inside) × Framed (raw_to_last (raw_opener kind) test) text inside x → Raw kind text value x
     from (inside, value_is, f) =
         let n = f.is_body.0 in

@@ -1,17 +1,17 @@
 -- `syn`'s grammar is the rules of `syn`.
-use Rattle.rl_syntax.proofs.Common.{◌≡◌, ◌⊎◌, ℕ, Bool, true, false, not, eqb, List, [], ◌∷◌, ◌++◌, refl, sym, ap, subst, ◌∙◌, inl, inr, list_all, ltb-true, and_parts, nat_lt, is_ascii, encode_ascii, encode_utf8_all}
+use Rattle.rl_syntax.proofs.Common.{◌≡◌, ◌⊎◌, ℕ, Bool, true, false, not, eqb, List, [], ◌∷◌, ◌++◌, refl, sym, ap, subst, ◌∙◌, inl, inr, list_all, ltb-true, and_parts, is_ascii, encode_ascii, encode_utf8_all}
 use Rattle.std.specs.Prelude.{◌↔◌}
 use Rattle.std.proofs.lemmas.Bool.{false≢true}
 use Rattle.rl_syntax.specs.declared.kind.Kind.{Kind}
 use Rattle.rl_syntax.specs.declared.kind.Kind.TheVariants.{Str, ByteStr, CStr, Byte, Char, Int, Float, Bool as BoolKind}
-use Rattle.rl_syntax.specs.Reading.{Contents, Reads, ReadsQuoted, quoted_contents}
+use Rattle.rl_syntax.specs.Reading.{Contents, ReadsQuoted, quoted_contents}
 use Rattle.rl_syntax.specs.Quoted.{Cooked, Raw, Single, is_string, is_single, raw_opener, content_of}
 use Rattle.rl_rules.specs.Notation.{Rule, One, Many, Means, ◌∣◌}
-use Rattle.rl_rules.specs.Grammar.{IsLiteralBy, contents_of}
+use Rattle.rl_rules.specs.Grammar.{IsLiteralBy}
 use Rattle.rl_rules.specs.SynGrammar.{char_inside, byte_inside, str_inside, byte_str_inside, c_str_inside, raw_to_last, parse_lit_str_raw, parse_lit_byte_str_raw, parse_lit_c_str_raw, ReadsIsByTheRules}
 use Rattle.rl_rules.proofs.RuleParts.{run_to, all_pass}
 use Rattle.rl_rules.proofs.QuotedRules.{IsQuoted}
-use Rattle.rl_rules.proofs.SynQuotedRules.{Framed, frame, raw_rule, raw_all, ascii_itself, char_cooked, byte_cooked, str_cooked, byte_str_cooked, c_str_cooked}
+use Rattle.rl_rules.proofs.SynQuotedRules.{Framed, frame, raw_rule, raw_all, char_cooked, byte_cooked, str_cooked, byte_str_cooked, c_str_cooked}
 use Rattle.rl_rules.proofs.SynNumberRules.{int_rule, float_rule}
 use Rattle.rl_rules.proofs.TruthRule.{truth_rule}
 
@@ -48,6 +48,7 @@ strings kind a b quoted not_single cooked raw text contents x = (λ s. to s s.fo
         let f = (raw text s.value x).0 r in
         by_frame kind (a ∣ b) text contents x s.value quoted s.contents_is (record { body = f.body; text_is = f.text_is; is_body = inr f.is_body })
     to s (inr (inr o)) = absurd (false≢true (sym not_single ∙ o.single))
+
     from : (l : By kind (a ∣ b) text contents x) → Means (a ∣ b) l.body x l.value → ReadsQuoted text kind contents x
     from l (inl m) = record {
       value = l.value;
@@ -70,6 +71,7 @@ singles kind a quoted no_string single text contents x = (λ s. to s s.form, fro
     to s (inl c) = absurd (false≢true (sym no_string ∙ c.string))
     to s (inr (inl r)) = absurd (false≢true (sym no_string ∙ r.string))
     to s (inr (inr o)) = by_frame kind a text contents x s.value quoted s.contents_is ((single text s.value x).0 o)
+
     from : By kind a text contents x → ReadsQuoted text kind contents x
     from l = record {
       value = l.value;
@@ -90,6 +92,7 @@ raws kind test b rule means meant text value x = (to, from)
     to r =
         let (inside, value_is, f) = (rule text value x).0 r in
         record { body = f.body; text_is = f.text_is; is_body = subst (λ v. Means b f.body x v) (sym value_is) (means f.body x inside f.is_body) }
+
     from : Framed b text value x → Raw kind text value x
     from f =
         let (v, value_is, m) = meant f.body x value f.is_body in

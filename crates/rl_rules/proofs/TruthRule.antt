@@ -1,5 +1,5 @@
 -- Boolean literals, by both definitions.
-use Rattle.rl_syntax.proofs.Common.{◌≡◌, ◌⊎◌, ℕ, Bool, true, false, List, [], ◌∷◌, ◌++◌, refl, sym, ap, subst, ◌∙◌, inl, inr, append-nil, codes, if◌then◌else◌}
+use Rattle.rl_syntax.proofs.Common.{◌≡◌, ℕ, Bool, true, false, List, [], ◌∷◌, ◌++◌, refl, sym, ap, subst, ◌∙◌, inl, inr, append-nil, codes, if◌then◌else◌}
 use Rattle.std.specs.Prelude.{◌↔◌}
 use Rattle.rl_syntax.specs.declared.kind.Kind.TheVariants.{Bool as BoolKind}
 use Rattle.rl_syntax.specs.Reading.{Contents, Truth, ReadsBool, truth_text}
@@ -42,6 +42,7 @@ truth_rule tail no_suffix text contents x = (to, from)
       is_suffix = ([], subst (λ k. Means tail k [] []) (sym s.suffix_is) no_suffix);
       contents_is = s.contents_is ∙ told s.truth;
     }
+
     from : IsLiteralBy boolean_literal tail BoolKind text contents x → ReadsBool text contents x
     from l =
         let (word, none) = then_unless words (One (λ c. true)) l.body x l.value l.is_body in
@@ -57,8 +58,8 @@ truth_rule tail no_suffix text contents x = (to, from)
 -- The two grammars have equal boolean literals.
 pub strict_truth : (text : List ℕ) (contents : Contents) (x : List ℕ) → StrictBool text contents x ↔ ReadsBool text contents x
 strict_truth text contents x = (
-    λ s. record { truth = s.truth; text_is = s.text ∙ spelled s.truth; suffix_is = s.suffix; contents_is = s.contents },
-    λ s. record { truth = s.truth; text = s.text_is ∙ sym (spelled s.truth); contents = s.contents_is; suffix = s.suffix_is },
+  λ s. record { truth = s.truth; text_is = s.text ∙ spelled s.truth; suffix_is = s.suffix; contents_is = s.contents },
+  λ s. record { truth = s.truth; text = s.text_is ∙ sym (spelled s.truth); contents = s.contents_is; suffix = s.suffix_is },
 )
   where
     spelled : (b : Bool) → (if b then codes "true" else codes "false") ≡ truth_text b

@@ -11,7 +11,7 @@ use Rattle.rl_syntax.specs.Spelling.{place_value}
 use Rattle.rl_syntax.specs.Numbers.{limit}
 use Rattle.rl_syntax.specs.Reading.{Contents, Reads}
 use Rattle.rl_rules.specs.Notation.{Rule, Text, One, Many, As, If, Some, Unless, ◌⋅◌, ◌∣◌, maybe, any_of, but, end, ◌is◌, skip}
-use Rattle.rl_rules.specs.Grammar.{identifier_or_keyword, digit, digits, some_digits, hex_escape, byte_escape, not_nul, dec_literal, with_prefix, number, no_prefix, boolean_literal, IsLiteralBy}
+use Rattle.rl_rules.specs.Grammar.{identifier_or_keyword, digit, digits, some_digits, byte_escape, not_nul, dec_literal, with_prefix, number, no_prefix, boolean_literal, IsLiteralBy}
 
 -- ---- characters and escapes
 
