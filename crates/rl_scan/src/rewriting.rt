@@ -66,15 +66,7 @@ fn report_changes<A: Allocator + Copy, W: Write>(
     page.close()
 }
 
-impl<'s, 'a, A: Allocator + Copy, T: Tree, W: Write, E: Write, F: Replace> Call<
-    's,
-    'a,
-    A,
-    T,
-    W,
-    E,
-    F,
-> {
+impl<A: Allocator + Copy, T: Tree, W: Write, E: Write, F: Replace> Call<'_, '_, A, T, W, E, F> {
     /// Prints the errors because of which a source isn't rewritten. Returns whether there are any.
     fn explains<'t>(&mut self, path: &'t str, source: &'t str) -> Result<bool, Failure<A>> {
         let job = self.job;

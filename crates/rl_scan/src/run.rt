@@ -54,15 +54,7 @@ pub(crate) struct Call<'s, 'a, A: Allocator, T, W, E, F> {
     pub tally: Tally,
 }
 
-impl<'s, 'a, A: Allocator + Copy, T: Tree, W: Write, E: Write, F: Replace> Call<
-    's,
-    'a,
-    A,
-    T,
-    W,
-    E,
-    F,
-> {
+impl<A: Allocator + Copy, T: Tree, W: Write, E: Write, F: Replace> Call<'_, '_, A, T, W, E, F> {
     // ---- errors of paths
 
     /// Prints a line about a file on standard error, after the program's name and the file's path.

@@ -14,16 +14,10 @@ use rl_style::Style;
 use rl_syntax::Kind;
 use std::alloc::{AllocError, Allocator};
 
+#[rattlefmt::skip]
 const KINDS: [Option<Kind>; 9] = [
-    Some(Kind::Str),
-    Some(Kind::ByteStr),
-    Some(Kind::CStr),
-    Some(Kind::Byte),
-    Some(Kind::Char),
-    Some(Kind::Int),
-    Some(Kind::Float),
-    Some(Kind::Bool),
-    None,
+    Some(Kind::Str), Some(Kind::ByteStr), Some(Kind::CStr), Some(Kind::Byte), Some(Kind::Char), Some(Kind::Int),
+    Some(Kind::Float), Some(Kind::Bool), None,
 ];
 
 /// Returns the kinds that a list names.

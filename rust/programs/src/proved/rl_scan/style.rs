@@ -16,16 +16,10 @@ use crate::rl_style::Style;
 use crate::rl_syntax::Kind;
 use crate::rattle_std::alloc::{AllocError, Allocator};
 
+#[rustfmt::skip]
 const KINDS: [Option<Kind>; 9] = [
-    Some(Kind::Str),
-    Some(Kind::ByteStr),
-    Some(Kind::CStr),
-    Some(Kind::Byte),
-    Some(Kind::Char),
-    Some(Kind::Int),
-    Some(Kind::Float),
-    Some(Kind::Bool),
-    None,
+    Some(Kind::Str), Some(Kind::ByteStr), Some(Kind::CStr), Some(Kind::Byte), Some(Kind::Char), Some(Kind::Int),
+    Some(Kind::Float), Some(Kind::Bool), None,
 ];
 
 /// Returns the kinds that a list names.
