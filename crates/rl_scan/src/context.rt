@@ -156,12 +156,8 @@ impl<'p> Context<'p> {
         if self.owed == 0 {
             return Ok(());
         }
-        for line in self
-            .source
-            .get(self.end..end)
-            .unwrap_or("")
-            .split_inclusive('\n')
-        {
+        let owed = self.source.get(self.end..end).unwrap_or("");
+        for line in owed.split_inclusive('\n') {
             if self.owed == 0 {
                 break;
             }
@@ -204,13 +200,8 @@ impl<'p> Context<'p> {
         self.owed = self.around.after;
         let line = without_line_end(self.source.get(line_at..self.end).unwrap_or(""));
         let lo = place.lo.saturating_sub(line_at);
-        push_marked_line(
-            &mut output.text,
-            marks,
-            line,
-            lo,
-            place.hi.saturating_sub(line_at),
-        )?;
+        let hi = place.hi.saturating_sub(line_at);
+        push_marked_line(&mut output.text, marks, line, lo, hi)?;
         Ok(())
     }
 }

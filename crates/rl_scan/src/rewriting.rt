@@ -33,12 +33,9 @@ fn report_change<A: Allocator + Copy, W: Write>(
             *count = count.saturating_add(1);
         }
     }
-    let place = Place {
-        lo: old.lo,
-        hi: old.hi,
-    };
+    let (lo, hi) = (old.lo, old.hi);
     page.report_finding(
-        place,
+        Place { lo, hi },
         Finding::Change {
             old: old.text,
             new,
