@@ -74,7 +74,6 @@ fn lacks_input(rt: &HostRuntime) -> bool {
     }
 }
 
-/// Returns the properties of standard input and output that a call depends on.
 fn console(rt: &HostRuntime) -> Console {
     Console {
         lacks_input: lacks_input(rt),

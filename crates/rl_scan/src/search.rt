@@ -14,7 +14,6 @@ fn is_word_byte(byte: Option<&u8>) -> bool {
     }
 }
 
-/// Whether a value continues with a text.
 fn begins_with(rest: &[u8], sought: &[u8], ignores_case: bool) -> bool {
     match rest.get(..sought.len()) {
         Some(front) if ignores_case => front.eq_ignore_ascii_case(sought),

@@ -81,7 +81,6 @@ fn report_error<A: Allocator + Copy, W: Write>(
 
 // ---- literals that Rust's grammar accepts
 
-/// Whether a character is part of an ASCII word.
 fn is_of_word(c: char) -> bool {
     c.is_ascii_alphanumeric() || c == '_'
 }
@@ -199,7 +198,6 @@ fn report_prefix<A: Allocator + Copy, W: Write>(
 
 // ---- invalid literals
 
-/// Reports a flaw of a literal.
 fn report_flaw<A: Allocator + Copy, W: Write>(
     page: &mut Page<'_, '_, A, W>,
     token: SourceToken<'_>,

@@ -84,14 +84,7 @@ fn report_in<A: Allocator + Copy, W: Write>(
         if !matches!(c, ' '..='~' | '\n' | '\t') && hides(last, c, text.get(end..).unwrap_or("")) {
             let (lo, hi) = (start.saturating_add(lo), start.saturating_add(end));
             let (id, name) = (character_id(c), bidi_name(c).unwrap_or(""));
-            page.report_finding(
-                Place { lo, hi },
-                Finding::Hidden {
-                    id,
-                    character: c,
-                    name,
-                },
-            )?;
+            page.report_finding(Place { lo, hi }, Finding::Hidden { id, c, name })?;
         }
         last = c;
     }

@@ -222,14 +222,12 @@ impl<'a> Job<'a> {
         if allowed.is_empty() {
             return false;
         }
+        if is_among(allowed, finding.id()) {
+            return true;
+        }
         match finding {
-            Finding::Hidden { character, .. } => {
-                is_among(allowed, finding.id())
-                    || allowed
-                        .iter()
-                        .any(|id| character_of(id) == Some(*character))
-            }
-            _ => is_among(allowed, finding.id()),
+            Finding::Hidden { c, .. } => allowed.iter().any(|id| character_of(id) == Some(*c)),
+            _ => false,
         }
     }
 

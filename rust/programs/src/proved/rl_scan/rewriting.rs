@@ -35,14 +35,8 @@ fn report_change<A: Allocator + Copy, W: Write>(
         }
     }
     let (lo, hi) = (old.lo, old.hi);
-    page.report_finding(
-        Place { lo, hi },
-        Finding::Change {
-            old: old.text,
-            new,
-            rules: changing.as_slice(),
-        },
-    )
+    let (old, rules) = (old.text, changing.as_slice());
+    page.report_finding(Place { lo, hi }, Finding::Change { old, new, rules })
 }
 
 /// Reports the literals that differ between a source and its new text, which has the same tokens but for the rewritten literals.
@@ -70,23 +64,16 @@ impl<A: Allocator + Copy, T: Tree, W: Write, E: Write, F: Replace> Call<'_, '_, 
         let job = self.job;
         let job = job.for_errors();
         let mut page = Page::new(self.alloc, &job, path, source, self.err);
-        report_errors(
-            &mut page,
-            Checks {
-                types: false,
-                strays: true,
-            },
-        )?;
+        let (types, strays) = (false, true);
+        report_errors(&mut page, Checks { types, strays })?;
         page.close()?;
         Ok(page.count > 0)
     }
 
     /// Replaces a file. Returns whether it was replaced.
     fn replaces(&mut self, path: &str, old: &str, new: &str) -> Result<bool, Failure<A>> {
-        match self
-            .files
-            .replace(self.alloc, path, old.as_bytes(), new.as_bytes())
-        {
+        let (old, new) = (old.as_bytes(), new.as_bytes());
+        match self.files.replace(self.alloc, path, old, new) {
             Ok(()) => Ok(true),
             Err(PathError::OutOfMemory) => Err(Failure::Memory),
             Err(why) => {
