@@ -15,7 +15,7 @@ use rl_syntax::text::split_char;
 use std::alloc::Allocator;
 use std::io::Write;
 
-/// What `--bad` reports besides invalid literals.
+/// The errors that `--bad` reports besides invalid literals.
 #[derive(Clone, Copy)]
 pub(crate) struct Checks {
     /// Literals whose suffix or value has no type.

@@ -8,7 +8,7 @@ use crate::modes::Mode;
 use crate::output::Output;
 use crate::print::Page;
 use crate::run::Call;
-use rl_files::{PathError, Replace, Tree};
+use rl_files::{PathError, Replace};
 use rl_lexer::{SourceToken, Sources};
 use rl_program::write_bytes;
 use rl_restyle::{RULES, RestyleError, changing_rules, number_of, rewrite_source};
@@ -57,7 +57,7 @@ fn report_changes<A: Allocator + Copy, W: Write>(
     page.close()
 }
 
-impl<A: Allocator + Copy, T: Tree, W: Write, E: Write, F: Replace> Call<'_, '_, A, T, W, E, F> {
+impl<'s, 'a, A: Allocator + Copy, W: Write, E: Write> Call<'s, 'a, A, W, E> {
     /// Prints the errors because of which a source isn't rewritten. Returns whether there are any.
     fn explains<'t>(&mut self, path: &'t str, source: &'t str) -> Result<bool, Failure<A>> {
         let job = self.job;
@@ -70,9 +70,14 @@ impl<A: Allocator + Copy, T: Tree, W: Write, E: Write, F: Replace> Call<'_, '_, 
     }
 
     /// Replaces a file. Returns whether it was replaced.
-    fn replaces(&mut self, path: &str, old: &str, new: &str) -> Result<bool, Failure<A>> {
-        let (old, new) = (old.as_bytes(), new.as_bytes());
-        match self.files.replace(self.alloc, path, old, new) {
+    fn replaces<F: Replace>(
+        &mut self,
+        files: &mut F,
+        path: &str,
+        old: &str,
+        new: &str,
+    ) -> Result<bool, Failure<A>> {
+        match files.replace(self.alloc, path, old.as_bytes(), new.as_bytes()) {
             Ok(()) => Ok(true),
             Err(PathError::OutOfMemory) => Err(Failure::Memory),
             Err(why) => {
@@ -85,8 +90,9 @@ impl<A: Allocator + Copy, T: Tree, W: Write, E: Write, F: Replace> Call<'_, '_, 
     }
 
     /// Prints the changes of a source, or replaces it by its new text. Returns the number of changes.
-    fn print_changes<'t>(
+    fn print_changes<'t, F: Replace>(
         &mut self,
+        files: &mut F,
         path: &'t str,
         source: &'t str,
         new: &str,
@@ -97,7 +103,9 @@ impl<A: Allocator + Copy, T: Tree, W: Write, E: Write, F: Replace> Call<'_, '_, 
             self.tally.prints_source = true;
         }
         if new == source
-            || self.job.mode == Mode::Fix && !is_input && !self.replaces(path, source, new)?
+            || self.job.mode == Mode::Fix
+                && !is_input
+                && !self.replaces(files, path, source, new)?
         {
             return Ok(0);
         }
@@ -113,8 +121,9 @@ impl<A: Allocator + Copy, T: Tree, W: Write, E: Write, F: Replace> Call<'_, '_, 
     }
 
     /// Rewrites a source. Returns the number of changes.
-    pub(crate) fn rewrite<'t>(
+    pub(crate) fn rewrite<'t, F: Replace>(
         &mut self,
+        files: &mut F,
         path: &'t str,
         source: &'t str,
     ) -> Result<u64, Failure<A>> {
@@ -129,7 +138,7 @@ impl<A: Allocator + Copy, T: Tree, W: Write, E: Write, F: Replace> Call<'_, '_, 
             return Ok(0);
         }
         match rewritten {
-            Ok(new) => self.print_changes(path, source, new.text.as_str()),
+            Ok(new) => self.print_changes(files, path, source, new.text.as_str()),
             Err(RestyleError::Script) => {
                 self.complain(path, "left alone: its first line begins with #!")?;
                 if self.job.mode == Mode::Fix && path == "-" {

@@ -5,7 +5,7 @@ use crate::rattle_std::alloc::Global;
 use crate::rattle_std::string::String as Line;
 use crate::rattle_std::vec::Vec as List;
 use navyspindle_programs::rl_files::MemoryReplacements;
-use navyspindle_programs::rl_scan::{run_with_arguments, Console, System};
+use navyspindle_programs::rl_scan::{run_with_arguments, Console};
 
 /// Runs `rl_scan` with the arguments on the standard input `text`. Returns standard output, the exit status and standard error.
 pub fn run(words: &[&str], text: &str) -> (String, u8, String) {
@@ -14,10 +14,6 @@ pub fn run(words: &[&str], text: &str) -> (String, u8, String) {
         .chain(words)
         .map(|word| Line::from_str(Global, word).expect("memory"))
         .collect();
-    let console = Console {
-        lacks_input: false,
-        has_colors: false,
-    };
     let mut out: List<u8> = List::new(Global);
     let mut errors: List<u8> = List::new(Global);
     let mut files = MemoryReplacements {
@@ -28,13 +24,14 @@ pub fn run(words: &[&str], text: &str) -> (String, u8, String) {
     let ending = run_with_arguments(
         Global,
         &words,
-        System {
-            console,
-            tree: &OneText(text.to_string()),
+        Console {
+            lacks_input: false,
+            has_colors: false,
             out: &mut out,
             err: &mut errors,
-            files: &mut files,
         },
+        &OneText(text.to_string()),
+        &mut files,
     );
     let [out, errors] = [out, errors].map(|it| {
         let text = std::str::from_utf8(it.as_slice()).expect("text");

@@ -5,7 +5,7 @@ use navyspindle_programs::rattle_std::alloc::Global;
 use navyspindle_programs::rattle_std::string::String as Line;
 use navyspindle_programs::rattle_std::vec::Vec as List;
 use navyspindle_programs::rl_files::{MemoryFile, MemoryReplacements, MemoryTree};
-use navyspindle_programs::rl_scan::{run_with_arguments, Console, System};
+use navyspindle_programs::rl_scan::{run_with_arguments, Console};
 use navyspindle_rows::command::run;
 
 /// A source in which the default style changes the first three literals, and with `--macros all` also the last two.
@@ -160,21 +160,18 @@ fn replaced(words: &[&str]) -> (String, Vec<(String, String)>) {
         unwritable: &[],
         handed: List::new(Global),
     };
-    let console = Console {
-        lacks_input: false,
-        has_colors: false,
-    };
     let (mut out, mut errors) = (List::new(Global), List::new(Global));
     run_with_arguments(
         Global,
         &words,
-        System {
-            console,
-            tree: &tree,
+        Console {
+            lacks_input: false,
+            has_colors: false,
             out: &mut out,
             err: &mut errors,
-            files: &mut kept,
         },
+        &tree,
+        &mut kept,
     );
     assert_eq!(errors.as_slice(), b"");
     let text = |bytes: &[u8]| String::from_utf8(bytes.to_vec()).expect("it is UTF-8");

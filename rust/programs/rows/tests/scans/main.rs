@@ -11,7 +11,7 @@ use navyspindle_programs::rattle_std::io::{self, ErrorKind, Write};
 use navyspindle_programs::rattle_std::string::String as Text;
 use navyspindle_programs::rattle_std::vec::Vec as Bytes;
 use navyspindle_programs::rl_files::MemoryReplacements;
-use navyspindle_programs::rl_scan::{self, Console, System};
+use navyspindle_programs::rl_scan::{self, Console};
 use navyspindle_rows::failing::Failing;
 use tree::{Sample, UNWRITABLE};
 
@@ -72,10 +72,6 @@ fn call<A: Allocator + Copy>(
     mut out: Stream,
     mut err: Stream,
 ) -> Answer {
-    let console = Console {
-        lacks_input: false,
-        has_colors,
-    };
     let mut files = MemoryReplacements {
         alloc: Global,
         unwritable: &UNWRITABLE,
@@ -84,13 +80,14 @@ fn call<A: Allocator + Copy>(
     let ending = rl_scan::run_with_arguments(
         alloc,
         words,
-        System {
-            console,
-            tree: &Sample,
+        Console {
+            lacks_input: false,
+            has_colors,
             out: &mut out,
             err: &mut err,
-            files: &mut files,
         },
+        &Sample,
+        &mut files,
     );
     let mut replaced = Vec::new();
     for file in files.handed.iter() {

@@ -16,7 +16,7 @@ use crate::rl_syntax::text::split_char;
 use crate::rattle_std::alloc::Allocator;
 use crate::rattle_std::io::Write;
 
-/// What `--bad` reports besides invalid literals.
+/// The errors that `--bad` reports besides invalid literals.
 #[derive(Clone, Copy)]
 pub(crate) struct Checks {
     /// Literals whose suffix or value has no type.

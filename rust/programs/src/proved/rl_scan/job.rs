@@ -1,5 +1,5 @@
 // Rendered from crates/rl_scan/src/job.rt by tools/render, which erases contracts: change that file, and render again.
-//! What a call of `rl_scan` has to do with each file.
+//! The work of a call of `rl_scan` on each file.
 
 use crate::rattle_std::prelude::{String};
 use crate::rl_scan::args::{Args, is_among};
@@ -32,7 +32,7 @@ pub(crate) struct Lists<'a> {
     pub numbers: &'a [u128],
     /// The identifiers of findings that don't count.
     pub allowed: &'a [&'a str],
-    /// The kinds of the literals that count if `--only` is passed. `None` stands for a literal without a value.
+    /// The kinds of the literals that count if `--only` is passed. `None` is a literal without a value.
     pub kinds: &'a [Option<Kind>],
 }
 
@@ -52,7 +52,7 @@ impl<'a> Lists<'a> {
     }
 }
 
-/// What a call of `rl_scan` has to do with each file.
+/// The work of a call of `rl_scan` on each file.
 #[derive(Clone, Copy)]
 pub(crate) struct Job<'a> {
     pub mode: Mode,

@@ -37,7 +37,7 @@ mod words;
 
 pub use crate::rl_scan::failure::Failure;
 use crate::rl_scan::host::host_arguments;
-pub use crate::rl_scan::run::{Console, System, run_with_arguments};
+pub use crate::rl_scan::run::{Console, run_with_arguments};
 use crate::rl_files::Host;
 use crate::rl_program::{Ending, finish};
 use crate::rattle_std::alloc::Global;
@@ -75,24 +75,23 @@ fn lacks_input(rt: &HostRuntime) -> bool {
     }
 }
 
-fn console(rt: &HostRuntime) -> Console {
-    Console {
-        lacks_input: lacks_input(rt),
-        has_colors: rt.stdout().is_terminal() && !forbids_colors(rt) && !is_dumb(rt),
-    }
-}
-
 pub fn main(rt: HostRuntime) -> ExitCode {
     let Ok(args) = host_arguments(&rt) else {
         return finish(&rt, Ending::Failed(Failure::<Global>::Memory));
     };
-    let system = System {
-        console: console(&rt),
-        tree: &Host { rt: &rt },
+    let console = Console {
+        lacks_input: lacks_input(&rt),
+        has_colors: rt.stdout().is_terminal() && !forbids_colors(&rt) && !is_dumb(&rt),
         out: &mut rt.stdout(),
         err: &mut rt.stderr(),
-        files: &mut Host { rt: &rt },
     };
-    let ending = run_with_arguments(rt.alloc(), args.as_slice(), system);
+    let host = Host { rt: &rt };
+    let ending = run_with_arguments(
+        rt.alloc(),
+        args.as_slice(),
+        console,
+        &host,
+        &mut Host { rt: &rt },
+    );
     finish(&rt, ending)
 }

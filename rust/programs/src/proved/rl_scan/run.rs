@@ -21,40 +21,28 @@ use crate::rl_program::{Ending, write_bytes};
 use crate::rattle_std::alloc::{AllocError, Allocator};
 use crate::rattle_std::io::Write;
 
-/// The properties of standard input and output that a call depends on.
-#[derive(Clone, Copy)]
-pub struct Console {
+/// The standard streams, and the properties of them that a call depends on.
+pub struct Console<'s, W, E> {
     /// Whether standard input isn't a file, a pipe or a socket.
     pub lacks_input: bool,
     /// Whether standard output displays colours.
     pub has_colors: bool,
-}
-
-/// The files and streams that a call uses.
-pub struct System<'s, T, W, E, F> {
-    pub console: Console,
-    /// The files that are read.
-    pub tree: &'s T,
     /// Standard output.
     pub out: &'s mut W,
     /// Standard error.
     pub err: &'s mut E,
-    /// Replaces files.
-    pub files: &'s mut F,
 }
 
-/// A call that is being run: its job, its files and streams, and its counts.
-pub(crate) struct Call<'s, 'a, A: Allocator, T, W, E, F> {
+/// A call that is being run: its job, its streams, and its counts.
+pub(crate) struct Call<'s, 'a, A: Allocator, W, E> {
     pub alloc: A,
     pub job: Job<'a>,
-    pub tree: &'s T,
     pub out: &'s mut W,
     pub err: &'s mut E,
-    pub files: &'s mut F,
     pub tally: Tally,
 }
 
-impl<A: Allocator + Copy, T: Tree, W: Write, E: Write, F: Replace> Call<'_, '_, A, T, W, E, F> {
+impl<'s, 'a, A: Allocator + Copy, W: Write, E: Write> Call<'s, 'a, A, W, E> {
     // ---- errors of paths
 
     /// Prints a line about a file on standard error, after the program's name and the file's path.
@@ -146,12 +134,17 @@ impl<A: Allocator + Copy, T: Tree, W: Write, E: Write, F: Replace> Call<'_, '_, 
     }
 
     /// Reads a source, prints its findings, and counts them.
-    fn report_source<'t>(&mut self, path: &'t str, source: &'t str) -> Result<(), Failure<A>> {
+    fn report_source<'t, F: Replace>(
+        &mut self,
+        files: &mut F,
+        path: &'t str,
+        source: &'t str,
+    ) -> Result<(), Failure<A>> {
         self.tally.visited = self.tally.visited.saturating_add(1);
         self.tally.read = self.tally.read.saturating_add(1);
         let job = self.job;
         let count = if job.rewrites() {
-            self.rewrite(path, source)?
+            self.rewrite(files, path, source)?
         } else {
             self.print_findings(path, source)?
         };
@@ -164,7 +157,12 @@ impl<A: Allocator + Copy, T: Tree, W: Write, E: Write, F: Replace> Call<'_, '_, 
     }
 
     /// Reads a file, prints its findings, and counts them. With `--files`, it prints only the path.
-    fn report_file(&mut self, path: &str) -> Result<(), Failure<A>> {
+    fn report_file<T: Tree, F: Replace>(
+        &mut self,
+        tree: &T,
+        files: &mut F,
+        path: &str,
+    ) -> Result<(), Failure<A>> {
         if self.job.lists_files {
             self.tally.visited = self.tally.visited.saturating_add(1);
             if self.job.quiet {
@@ -175,26 +173,28 @@ impl<A: Allocator + Copy, T: Tree, W: Write, E: Write, F: Replace> Call<'_, '_, 
             write_bytes(self.out, line.as_bytes())?;
             return Ok(());
         }
-        let bytes = match self.tree.bytes(self.alloc, path) {
+        let bytes = match tree.bytes(self.alloc, path) {
             Ok(bytes) => bytes,
             Err(why) => return self.report_unread(path, why),
         };
         match crate::rattle_std::str::from_utf8(bytes.as_slice()) {
-            Ok(source) => self.report_source(path, source),
+            Ok(source) => self.report_source(files, path, source),
             Err(error) => self.report_unread(path, PathError::NotUtf8(error.valid_up_to())),
         }
     }
 
     /// Prints the findings of all files of a walk, and counts them.
-    fn report_files(
+    fn report_files<T: Tree, F: Replace>(
         &mut self,
+        tree: &T,
+        files: &mut F,
         walk: &mut Walk<A>,
         selection: Selection<'_>,
     ) -> Result<(), Failure<A>> {
         for _ in 0..u64::MAX {
-            match walk.next(self.alloc, selection, self.tree) {
+            match walk.next(self.alloc, selection, tree) {
                 Ok(None) => return Ok(()),
-                Ok(Some(Visit::File(path))) => self.report_file(path.as_str())?,
+                Ok(Some(Visit::File(path))) => self.report_file(tree, files, path.as_str())?,
                 Ok(Some(Visit::Failed(path, why))) => self.report_unread(path.as_str(), why)?,
                 Err(WalkError::OutOfMemory) => return Err(Failure::Memory),
                 Err(WalkError::TooManyDirectories) => break,
@@ -219,10 +219,12 @@ fn selection_of<'x>(
     }
 }
 
-/// Prints the findings of the files of a call, and its totals. Returns its exit status.
+/// Prints the findings of the files at `paths`, and the totals. Returns the exit status.
 fn run_call<A: Allocator + Copy, T: Tree, W: Write, E: Write, F: Replace>(
-    call: &mut Call<'_, '_, A, T, W, E, F>,
+    call: &mut Call<'_, '_, A, W, E>,
     args: &Args<'_, A>,
+    tree: &T,
+    files: &mut F,
     paths: &mut Vec<String<A>, A>,
 ) -> Result<u8, Failure<A>> {
     let (alloc, has_paths) = (call.alloc, !paths.is_empty());
@@ -231,7 +233,7 @@ fn run_call<A: Allocator + Copy, T: Tree, W: Write, E: Write, F: Replace>(
     let all = args.has("--all");
     let selection = selection_of(all, extensions.as_slice(), excludes.as_slice());
     let mut walk = Walk::of_paths(alloc, paths)?;
-    match call.report_files(&mut walk, selection) {
+    match call.report_files(tree, files, &mut walk, selection) {
         Ok(()) => {}
         Err(Failure::Closed) if call.job.mode == Mode::Fix => return Err(Failure::Write),
         Err(failure) => return Err(failure),
@@ -249,39 +251,20 @@ fn run_call<A: Allocator + Copy, T: Tree, W: Write, E: Write, F: Replace>(
     Ok(job.status(call.tally.findings))
 }
 
-/// Runs a call that has a job. Returns its exit status.
-fn run_job<A: Allocator + Copy, T: Tree, W: Write, E: Write, F: Replace>(
-    alloc: A,
-    args: &Args<'_, A>,
-    job: Job<'_>,
-    system: System<'_, T, W, E, F>,
-) -> Result<u8, Failure<A>> {
-    let reads_here = system.console.lacks_input || job.lists_files;
-    let mut paths = paths_of(alloc, args, system.tree, reads_here)?;
-    let mut call = Call {
-        alloc,
-        job,
-        tree: system.tree,
-        out: system.out,
-        err: system.err,
-        files: system.files,
-        tally: Tally::none(),
-    };
-    run_call(&mut call, args, &mut paths)
-}
-
 /// Parses the arguments and runs the call. Returns its exit status.
 fn parse_and_run<A: Allocator + Copy, T: Tree, W: Write, E: Write, F: Replace>(
     alloc: A,
     words: &[String<A>],
-    system: System<'_, T, W, E, F>,
+    console: Console<'_, W, E>,
+    tree: &T,
+    files: &mut F,
 ) -> Result<u8, Failure<A>> {
     let args = Args::parse(alloc, words)?;
     if args.mode() == Mode::Page {
-        write_bytes(system.out, page_of(alloc, &args)?.as_bytes())?;
+        write_bytes(console.out, page_of(alloc, &args)?.as_bytes())?;
         return Ok(0);
     }
-    let style = style_of(alloc, &args, system.tree)?;
+    let style = style_of(alloc, &args, tree)?;
     let finds = args.all(alloc, "--find")?;
     let allowed = args.all(alloc, "--allow")?;
     let integers = args.all(alloc, "--number")?;
@@ -293,21 +276,32 @@ fn parse_and_run<A: Allocator + Copy, T: Tree, W: Write, E: Write, F: Replace>(
         numbers.as_slice(),
         kinds.as_slice(),
     );
-    let job = Job::of(&args, lists, style, system.console.has_colors);
-    run_job(alloc, &args, job, system)
+    let job = Job::of(&args, lists, style, console.has_colors);
+    let mut paths = paths_of(alloc, &args, tree, console.lacks_input || job.lists_files)?;
+    let mut call = Call {
+        alloc,
+        job,
+        out: console.out,
+        err: console.err,
+        tally: Tally::none(),
+    };
+    run_call(&mut call, &args, tree, files, &mut paths)
 }
 
-/// Runs `rl_scan` with the arguments `args`, of which the first is the program's name, and returns the result of the call.
+/// Runs `rl_scan` with the arguments `args`, of which the first is the program's name, and returns the result of the call. `tree` has
+/// the files that are read, and `files` replaces files.
 pub fn run_with_arguments<A: Allocator + Copy, T: Tree, W: Write, E: Write, F: Replace>(
     alloc: A,
     args: &[String<A>],
-    system: System<'_, T, W, E, F>,
+    console: Console<'_, W, E>,
+    tree: &T,
+    files: &mut F,
 ) -> Ending<Failure<A>> {
     let words = match args {
         [_, words @ ..] => words,
         [] => return Ending::Failed(Failure::NoArguments),
     };
-    match parse_and_run(alloc, words, system) {
+    match parse_and_run(alloc, words, console, tree, files) {
         Ok(0) => Ending::Done,
         Ok(1) => Ending::FoundBad,
         Ok(_) => Ending::Reported,
