@@ -105,16 +105,16 @@ exponent_suffix =
     any_of (codes "eE") ⋅ some_digits 10 ⋅ Unless (digit 10 ∣ Text (codes "_")) ⋅ maybe identifier_or_keyword ⋅ end
 
 -- The value of digits whose number passes the test: the number in base ten.
-abbrev pub number_if : (ℕ → Bool) → ℕ → Rule → Rule
-number_if test base a = number base (If (λ ds. test (place_value base ds)) a)
+abbrev pub tested_number : (ℕ → Bool) → ℕ → Rule → Rule
+tested_number test base a = number base (If (λ ds. test (place_value base ds)) a)
 
 -- `parse_lit_int`. The number passes the test.
 abbrev pub parse_lit_int : (ℕ → Bool) → Rule
 parse_lit_int test =
     maybe (any_of (codes "-"))
-    ⋅ (no_prefix ⋅ number_if test 10 dec_literal ⋅ Unless exponent_suffix
-    ∣ number_if test 2 (with_prefix (codes "0b") 2) ∣ number_if test 8 (with_prefix (codes "0o") 8)
-    ∣ number_if test 16 (with_prefix (codes "0x") 16) ⋅ Unless (digit 16))
+    ⋅ (no_prefix ⋅ tested_number test 10 dec_literal ⋅ Unless exponent_suffix
+    ∣ tested_number test 2 (with_prefix (codes "0b") 2) ∣ tested_number test 8 (with_prefix (codes "0o") 8)
+    ∣ tested_number test 16 (with_prefix (codes "0x") 16) ⋅ Unless (digit 16))
 
 -- `parse_lit_float`. The number has no exponent only if its suffix doesn't begin like one.
 abbrev pub parse_lit_float : Rule

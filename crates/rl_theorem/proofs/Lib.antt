@@ -1,2 +1,14 @@
 mod HeadlineLemmas
 mod StepLemmas
+mod RuleParts
+mod WhiteLemmas
+mod SuffixRule
+mod TruthRule
+mod EscapeRules
+mod QuotedRules
+mod RawRules
+mod NumberRules
+mod RustLaw
+mod SynQuotedRules
+mod SynNumberRules
+mod SynLaw

@@ -1,2 +1,5 @@
 pub mod Headline
 pub mod Lists
+pub mod Notation
+pub mod RustRules
+pub mod SynRules

@@ -7,7 +7,10 @@
 //! - [`literal_at`]: the loop over a list, which takes no memory, returns the same items.
 //! - [`both_ways`]: of a printed list, both return the same literals.
 //! - [`read_again`]: the texts of literals that were read are read again as the same literals.
+//! - [`rules`]: the grammars are rules in a notation like that of the Rust Reference.
 #![tactic(auto)]
+
+pub mod rules;
 
 ghost use Rattle.std.specs.Prelude.{◌≡◌, ◌∷◌, [], ℕ, List, None, IfOk, IfErr};
 ghost use Rattle.std.specs.Str.{chars};

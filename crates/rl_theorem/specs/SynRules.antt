@@ -1,0 +1,155 @@
+-- The literals of `syn` 3.0.9, src/lit.rs. There is one rule for each function of `syn` that parses a literal or a part of
+-- it, under the function's name. The unescaped characters of bytes and byte strings are those that rustc accepts.
+use Rattle.std.specs.Prelude.{◌↔◌, ℕ, Bool, true, not, ◌&&◌, ◌==◌, nat_le, List, [], ◌∷◌, ◌++◌, codes, length, replicate, encode_utf8_all}
+use Rattle.std.specs.List.{list_all}
+use Rattle.std.specs.Char.{is_ascii}
+use Rattle.std.specs.Str.{all_scalars}
+use Prim.Native.Char.{code}
+use Rattle.rl_syntax.specs.declared.kind.Kind.{Kind}
+use Rattle.rl_syntax.specs.declared.kind.Kind.TheVariants.{Str, ByteStr, CStr, Byte, Char, Int, Float, Bool as BoolKind}
+use Rattle.rl_syntax.specs.Spelling.{place_value}
+use Rattle.rl_syntax.specs.Numbers.{limit}
+use Rattle.rl_syntax.specs.Reading.{Contents, Reads}
+use Rattle.rl_theorem.specs.Notation.{Rule, Text, One, Many, As, If, Some, Unless, ◌⋅◌, ◌∣◌, maybe, any_of, but, end, ◌is◌, skip}
+use Rattle.rl_theorem.specs.RustRules.{identifier_or_keyword, digit, digits, some_digits, byte_escape, not_nul, dec_literal, with_prefix, number, no_prefix, boolean_literal, IsLiteralBy}
+
+-- ---- characters and escapes
+
+-- CR LF is read as LF.
+abbrev pub cr_lf : Rule
+cr_lf = codes "\r\n" is code "\n"
+
+-- `backslash_x` and the escapes of one character, where values are characters: `\x` represents an ASCII character.
+abbrev pub ascii_only : Rule → Rule
+ascii_only a = If (list_all is_ascii) a
+
+-- `backslash_u`: one to six hexadecimal digits in braces, and any number of underscores after the first digit. The number
+-- is a Unicode scalar value.
+abbrev pub backslash_u : Rule
+backslash_u =
+    Text (codes "\\u{")
+    ⋅ As (λ ds. place_value 16 ds ∷ [])
+    (If (λ ds. nat_le (length ds) 6 && all_scalars (place_value 16 ds ∷ [])) (digit 16 ⋅ digits 16))
+    ⋅ Text (codes "}")
+
+-- A backslash, an LF or CR, and all spaces, TABs, LFs and CRs after them.
+abbrev pub line_continue : Rule
+line_continue =
+    skip (Text (codes "\\") ⋅ any_of (codes "\n\r") ⋅ Many (any_of (codes " \t\n\r"))) ⋅ Unless (any_of (codes " \t\n\r"))
+
+-- ---- quoted literals
+
+-- `parse_lit_char`
+abbrev pub char_inside : Rule
+char_inside = One (but (codes "\\")) ∣ ascii_only byte_escape ∣ backslash_u
+
+abbrev pub parse_lit_char : Rule
+parse_lit_char = Text (codes "'") ⋅ char_inside ⋅ Text (codes "'")
+
+-- `parse_lit_byte`
+abbrev pub byte_inside : Rule
+byte_inside = One (λ c. is_ascii c && but (codes "'\\\n\r\t") c) ∣ byte_escape
+
+abbrev pub parse_lit_byte : Rule
+parse_lit_byte = Text (codes "b'") ⋅ byte_inside ⋅ Text (codes "'")
+
+-- `parse_lit_str_cooked`
+abbrev pub str_inside : Rule
+str_inside = One (but (codes "\"\\\r")) ∣ cr_lf ∣ ascii_only byte_escape ∣ backslash_u ∣ line_continue
+
+abbrev pub parse_lit_str_cooked : Rule
+parse_lit_str_cooked = Text (codes "\"") ⋅ Many str_inside ⋅ Text (codes "\"")
+
+-- `parse_lit_byte_str_cooked`
+abbrev pub byte_str_inside : Rule
+byte_str_inside = One (λ c. is_ascii c && but (codes "\"\\\r") c) ∣ cr_lf ∣ byte_escape ∣ line_continue
+
+abbrev pub parse_lit_byte_str_cooked : Rule
+parse_lit_byte_str_cooked = Text (codes "b\"") ⋅ Many byte_str_inside ⋅ Text (codes "\"")
+
+-- `parse_lit_c_str_cooked`
+abbrev pub c_str_inside : Rule
+c_str_inside =
+    As encode_utf8_all (One (but (0 ∷ codes "\"\\\r"))) ∣ cr_lf ∣ not_nul byte_escape
+    ∣ As encode_utf8_all (not_nul backslash_u) ∣ line_continue
+
+abbrev pub parse_lit_c_str_cooked : Rule
+parse_lit_c_str_cooked = Text (codes "c\"") ⋅ Many c_str_inside ⋅ Text (codes "\"")
+
+-- `parse_lit_str_raw`, `parse_lit_byte_str_raw`, `parse_lit_c_str_raw`: the prefix, any number of hashes and `"`, characters
+-- that pass the test, and `"` with as many hashes. The closing quote is the last `"` of the whole text.
+abbrev pub raw_to_last : List ℕ → (ℕ → Bool) → Rule
+raw_to_last prefix test =
+    Some (λ hashes. (Text (prefix ++ replicate hashes (code "#") ++ codes "\"") ⋅ Many (One test)
+    ⋅ Text (code "\"" ∷ replicate hashes (code "#")))
+    ⋅ Unless (Many (One (λ c. true)) ⋅ Text (codes "\"")))
+
+abbrev pub parse_lit_str_raw : Rule
+parse_lit_str_raw = raw_to_last (codes "r") (λ c. true)
+
+abbrev pub parse_lit_byte_str_raw : Rule
+parse_lit_byte_str_raw = raw_to_last (codes "br") is_ascii
+
+abbrev pub parse_lit_c_str_raw : Rule
+parse_lit_c_str_raw = As encode_utf8_all (raw_to_last (codes "cr") (λ c. not (c == 0)))
+
+-- ---- numbers
+
+-- The suffix of a number is empty or an identifier (`xid_ok`), and doesn't begin with `_`.
+abbrev pub number_suffix : Rule
+number_suffix = Unless (any_of (codes "_")) ⋅ maybe identifier_or_keyword
+
+-- With a suffix of this form, a decimal number is a float.
+abbrev pub exponent_suffix : Rule
+exponent_suffix =
+    any_of (codes "eE") ⋅ some_digits 10 ⋅ Unless (digit 10 ∣ Text (codes "_")) ⋅ maybe identifier_or_keyword ⋅ end
+
+-- The value of digits whose number passes the test: the number in base ten.
+abbrev pub number_if : (ℕ → Bool) → ℕ → Rule → Rule
+number_if test base a = number base (If (λ ds. test (place_value base ds)) a)
+
+-- `parse_lit_int`. The number passes the test.
+abbrev pub parse_lit_int : (ℕ → Bool) → Rule
+parse_lit_int test =
+    maybe (any_of (codes "-"))
+    ⋅ (no_prefix ⋅ number_if test 10 dec_literal ⋅ Unless exponent_suffix
+    ∣ number_if test 2 (with_prefix (codes "0b") 2) ∣ number_if test 8 (with_prefix (codes "0o") 8)
+    ∣ number_if test 16 (with_prefix (codes "0x") 16) ⋅ Unless (digit 16))
+
+-- `parse_lit_float`. The number has no exponent only if its suffix doesn't begin like one.
+abbrev pub parse_lit_float : Rule
+parse_lit_float =
+    maybe (any_of (codes "-")) ⋅ dec_literal ⋅ maybe (any_of (codes ".") ⋅ digits 10)
+    ⋅ ((any_of (codes "e") ∣ codes "E" is code "e") ⋅ Many (Text (codes "_")) ⋅ maybe (Text (codes "+") ∣ any_of (codes "-"))
+    ⋅ some_digits 10
+    ∣ Unless (any_of (codes "eE") ⋅ Many (Text (codes "_")) ⋅ digit 10))
+
+-- ---- all literals
+
+-- An integer is within 128 bits. A number is a float only if it isn't an integer of any size.
+abbrev pub syn_literal : Kind → Rule
+syn_literal Str = parse_lit_str_cooked ∣ parse_lit_str_raw
+syn_literal ByteStr = parse_lit_byte_str_cooked ∣ parse_lit_byte_str_raw
+syn_literal CStr = parse_lit_c_str_cooked ∣ parse_lit_c_str_raw
+syn_literal Byte = parse_lit_byte
+syn_literal Char = parse_lit_char
+syn_literal Int = parse_lit_int (λ n. nat_le n limit)
+syn_literal Float = Unless (parse_lit_int (λ n. true) ⋅ number_suffix ⋅ end) ⋅ parse_lit_float
+syn_literal BoolKind = boolean_literal
+
+-- The suffix of a quoted literal is any text.
+abbrev pub syn_suffix : Kind → Rule
+syn_suffix Int = number_suffix
+syn_suffix Float = number_suffix
+syn_suffix kind = Many (One (λ c. true))
+
+-- By the rules of `syn`, the text is a literal of the kind, with the given value and suffix.
+abbrev pub IsSynLiteral : List ℕ → Kind → Contents → List ℕ → Type 0
+IsSynLiteral text kind contents suffix_text =
+    IsLiteralBy (syn_literal kind) (syn_suffix kind) kind text contents suffix_text
+
+-- `syn`'s grammar is the rules of `syn`.
+abbrev pub ReadsIsByTheRules : Type 0
+ReadsIsByTheRules =
+    (text : List ℕ) (kind : Kind) (contents : Contents) (suffix_text : List ℕ)
+    → Reads text kind contents suffix_text ↔ IsSynLiteral text kind contents suffix_text
