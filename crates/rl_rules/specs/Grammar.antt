@@ -1,4 +1,5 @@
--- The literals of the Rust Reference, chapter Tokens. There is one rule for each production, under the production's name.
+-- The literals of the Rust Reference, chapter Tokens. There is one rule for each production. The production has the same name
+-- in capital letters, or the name that begins the rule's comment.
 use Rattle.std.specs.Prelude.{◌≡◌, ◌↔◌, ℕ, Bool, true, not, ◌&&◌, ◌==◌, nat_lt, nat_le, List, [], ◌∷◌, ◌++◌, codes, length, replicate, encode_utf8_all}
 use Rattle.std.specs.List.{list_any, list_all}
 use Rattle.std.specs.Char.{digit_value, is_ascii}

@@ -6,7 +6,7 @@ use Rattle.rl_syntax.specs.Strict.{UnicodeEscape, LineBreak, strict_text, is_pla
 use Rattle.rl_syntax.proofs.Basics.{hex_is_sixteen, all_same, passes_same}
 use Rattle.rl_syntax.proofs.StrictQuoted.{digits_count}
 use Rattle.rl_theorem.specs.Notation.{Rule, Text, One, Many, As, If, Follow, Means, ◌⋅◌, skip}
-use Rattle.rl_theorem.specs.RustRules.{digit, quote_escape, letter_escape, hex_escape, unicode_escape, string_continue}
+use Rattle.rl_theorem.specs.RustRules.{digit, quote_escape, letter_escape, x_escape, u_escape, string_continue}
 use Rattle.rl_theorem.proofs.RuleParts.{text_then, then_text, close_then, then_close, unless_then, then_unless, none_passes, passes_none, IsRuleOf, many_to, many_from, row_from_all, all_from_row, run_to, run_from}
 
 -- ---- quotes and letters
@@ -67,7 +67,7 @@ abbrev pub hex_value : ℕ → ℕ → List ℕ
 hex_value high low = place_value 16 (high ∷ low ∷ []) ∷ []
 
 pub hex_to : (below high low : ℕ) (after : List ℕ) → nat_lt (digit_value high) below ≡ true → is_ascii_hexdigit low ≡ true
-    → Means (hex_escape below) (hex_text high low) after (hex_value high low)
+    → Means (x_escape below) (hex_text high low) after (hex_value high low)
 hex_to below high low after h l =
     text_then (92 ∷ 120 ∷ []) (As (λ ds. place_value 16 ds ∷ []) (digit below ⋅ digit 16)) (high ∷ low ∷ []) after (hex_value high low) (
       high ∷ low ∷ [],
@@ -75,7 +75,7 @@ hex_to below high low after h l =
       refl,
     )
 
-pub hex_from : (below : ℕ) (text after value : List ℕ) → Means (hex_escape below) text after value
+pub hex_from : (below : ℕ) (text after value : List ℕ) → Means (x_escape below) text after value
     → (high low : ℕ) × (nat_lt (digit_value high) below ≡ true) × (is_ascii_hexdigit low ≡ true)
     × (text ≡ hex_text high low) × (value ≡ hex_value high low)
 hex_from below text after value m =
@@ -172,7 +172,7 @@ abbrev scalar_digits : Rule
 scalar_digits = As (λ ds. place_value 16 ds ∷ []) (If is_scalar (Many spaced))
 
 pub unicode_to : (ds : List (ℕ × ℕ)) (after : List ℕ) → is_unicode_escape ds ≡ true
-    → Means unicode_escape (strict_text (UnicodeEscape ds)) after (spaced_value ds ∷ [])
+    → Means u_escape (strict_text (UnicodeEscape ds)) after (spaced_value ds ∷ [])
 unicode_to ds after h =
     let (each, scalar) = and_parts (list_all is_hex ds) (is_scalar (flat_map digit_of ds)) (sym (tested ds) ∙ h) in
     text_then (92 ∷ 117 ∷ 123 ∷ []) (scalar_digits ⋅ Text (125 ∷ [])) (flat_map spaced_digit ds ++ 125 ∷ []) after (spaced_value ds ∷ [])
@@ -182,7 +182,7 @@ unicode_to ds after h =
       ap (λ k. place_value 16 k ∷ []) (sym (digits_are ds)),
     ))
 
-pub unicode_from : (text after value : List ℕ) → Means unicode_escape text after value
+pub unicode_from : (text after value : List ℕ) → Means u_escape text after value
     → (ds : List (ℕ × ℕ)) × (is_unicode_escape ds ≡ true) × (text ≡ strict_text (UnicodeEscape ds)) × (value ≡ spaced_value ds ∷ [])
 unicode_from text after value m =
     let (w, text_is, rest) = then_text (92 ∷ 117 ∷ 123 ∷ []) (scalar_digits ⋅ Text (125 ∷ [])) text after value m in

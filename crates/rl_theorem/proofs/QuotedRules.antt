@@ -9,7 +9,7 @@ use Rattle.rl_syntax.specs.Strict.{StrictUnit, Itself, QuoteEscape, PlainEscape,
 use Rattle.rl_syntax.proofs.StrictQuoted.{one_unit, blanks_after}
 use Rattle.rl_syntax.proofs.Basics.{hex_is_sixteen}
 use Rattle.rl_theorem.specs.Notation.{Rule, Text, Many, Means, ◌⋅◌, but, maybe}
-use Rattle.rl_theorem.specs.RustRules.{char_content, string_content, byte_content, byte_string_content, c_string_content, quote_escape, letter_escape, ascii_escape, byte_escape, hex_escape, string_continue, suffix, contents_of, IsLiteralBy}
+use Rattle.rl_theorem.specs.RustRules.{char_content, string_content, byte_content, byte_string_content, c_string_content, quote_escape, letter_escape, ascii_escape, byte_escape, x_escape, string_continue, suffix, as_contents, IsLiteralBy}
 use Rattle.rl_theorem.proofs.RuleParts.{text_then, then_text, close_then, then_close, IsRuleOf, Row, many_to, many_from}
 use Rattle.rl_theorem.proofs.SuffixRule.{suffix_to, suffix_from}
 use Rattle.rl_theorem.proofs.EscapeRules.{quote_to, quote_from, letters, hex_text, hex_value, letter_to, letter_from, hex_to, hex_from, unicode_to, unicode_from, continue_to, continue_from}
@@ -98,7 +98,7 @@ byte_to high low after h =
     let (a, b) = and_parts (is_ascii_hexdigit high) (is_ascii_hexdigit low) h in
     inl (hex_to 16 high low after (sym (hex_is_sixteen high) ∙ a) b)
 
-byte_from : (text after value : List ℕ) → Means (hex_escape 16) text after value
+byte_from : (text after value : List ℕ) → Means (x_escape 16) text after value
     → (high low : ℕ) × ((is_ascii_hexdigit high && is_ascii_hexdigit low) ≡ true) × (text ≡ hex_text high low) × (value ≡ hex_value high low)
 byte_from text after value m =
     let (high, low, h, l, t, v) = hex_from 16 text after value m in
@@ -364,7 +364,7 @@ By kind a text contents x = IsLiteralBy a (maybe suffix) kind text contents x
 
 -- The value of a rule is that of a quoted literal.
 abbrev pub IsQuoted : Kind → Type 0
-IsQuoted kind = (v : List ℕ) → contents_of kind v ≡ quoted_contents kind v
+IsQuoted kind = (v : List ℕ) → as_contents kind v ≡ quoted_contents kind v
 
 cooked_to : (kind : Kind) (a : Rule) → Between kind a → IsQuoted kind → (text : List ℕ) (contents : Contents) (x : List ℕ)
     → StrictCooked text kind contents x → By kind (frame kind a) text contents x

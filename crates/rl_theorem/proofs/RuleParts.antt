@@ -1,4 +1,4 @@
--- What the parts of a rule mean, in the form that the other proofs use.
+-- The meaning of each part of a rule, in the form that the other proofs use.
 use Rattle.rl_syntax.proofs.Common.{◌≡◌, ℕ, Bool, true, false, not, eqb, List, [], ◌∷◌, ◌++◌, refl, sym, ap, subst, ◌∙◌, inl, inr, append-nil, list_all, flat_map, eqb-true, both_ways, and_parts, and_from, or_left, or_right, or_cases, if◌then◌else◌}
 use Rattle.std.proofs.lemmas.Bool.{false_from_ne_true}
 use Rattle.rl_syntax.specs.Texts.{first_passes, begins, is_run_part}

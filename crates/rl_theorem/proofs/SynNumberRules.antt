@@ -12,7 +12,7 @@ use Rattle.rl_syntax.proofs.Basics.{any_same, digit_is_ten}
 use Rattle.rl_syntax.proofs.Dec.{dec_is_decimal}
 use Rattle.rl_theorem.specs.Notation.{Rule, Text, Many, Unless, Means, ◌⋅◌, ◌∣◌, maybe, any_of, end}
 use Rattle.rl_theorem.specs.RustRules.{identifier_or_keyword, digit, digits, some_digits, dec_literal, with_prefix, no_prefix, IsLiteralBy}
-use Rattle.rl_theorem.specs.SynRules.{number_suffix, exponent_suffix, number_if, parse_lit_int, parse_lit_float, syn_literal}
+use Rattle.rl_theorem.specs.SynRules.{number_suffix, exponent_suffix, tested_number, parse_lit_int, parse_lit_float, syn_literal}
 use Rattle.rl_theorem.proofs.RuleParts.{text_then, then_text, NoneAt, unless_then, then_unless, unless_before, before_unless, none_passes, passes_none, one, kept, part, digit_part, parts_to, parts_from}
 use Rattle.rl_theorem.proofs.SuffixRule.{identifier_to, identifier_from, end_here, at_end, alone}
 use Rattle.rl_theorem.proofs.EscapeRules.{underscores_to, underscores_from}
@@ -128,9 +128,9 @@ minus_from u after v (inr (c, here, u_is, v_is)) =
 
 abbrev forms : (ℕ → Bool) → Rule
 forms test =
-    no_prefix ⋅ number_if test 10 dec_literal ⋅ Unless exponent_suffix
-    ∣ number_if test 2 (with_prefix (codes "0b") 2) ∣ number_if test 8 (with_prefix (codes "0o") 8)
-    ∣ number_if test 16 (with_prefix (codes "0x") 16) ⋅ Unless (digit 16)
+    no_prefix ⋅ tested_number test 10 dec_literal ⋅ Unless exponent_suffix
+    ∣ tested_number test 2 (with_prefix (codes "0b") 2) ∣ tested_number test 8 (with_prefix (codes "0o") 8)
+    ∣ tested_number test 16 (with_prefix (codes "0x") 16) ⋅ Unless (digit 16)
 
 -- The text is an integer's prefix and digits, the suffix `x` follows, and the value is the number in base ten.
 record IsForm (test : ℕ → Bool) (u x v : List ℕ) : Type 0 where
@@ -155,21 +155,21 @@ form_to : (test : ℕ → Bool) (base : Base) (run x : List ℕ) → IsAfterPref
     → Means (forms test) (prefix base ++ run) x (dec (place_value (radix base) (without_underscores run)))
 form_to test Decimal run x front each some of passes =
     let v = dec (place_value 10 (without_underscores run)) in
-    inl (unless_before (number_if test 10 dec_literal ⋅ Unless exponent_suffix) prefixes run x v (no_prefix_to (run ++ x) front.1)
-    (unless_then (number_if test 10 dec_literal) exponent_suffix run x v
+    inl (unless_before (tested_number test 10 dec_literal ⋅ Unless exponent_suffix) prefixes run x v (no_prefix_to (run ++ x) front.1)
+    (unless_then (tested_number test 10 dec_literal) exponent_suffix run x v
     (without_underscores run, (passes, dec_to run x (first_digit run x some front.0, decimal_parts run ∙ each)), refl) (no_exponent_to x of)))
 form_to test Binary run x front each some of passes =
     inr (inl (without_underscores run, (passes, text_then (codes "0b") (some_digits 2) run x (without_underscores run) (some_to 2 run x refl each some)), refl))
 form_to test Octal run x front each some of passes =
     inr (inr (inl (without_underscores run, (passes, text_then (codes "0o") (some_digits 8) run x (without_underscores run) (some_to 8 run x refl each some)), refl)))
 form_to test Hexadecimal run x front each some of passes =
-    inr (inr (inr (unless_then (number_if test 16 (with_prefix (codes "0x") 16)) (digit 16) (codes "0x" ++ run) x (dec (place_value 16 (without_underscores run)))
+    inr (inr (inr (unless_then (tested_number test 16 (with_prefix (codes "0x") 16)) (digit 16) (codes "0x" ++ run) x (dec (place_value 16 (without_underscores run)))
     (without_underscores run, (passes, text_then (codes "0x") (some_digits 16) run x (without_underscores run) (some_to 16 run x refl each some)), refl)
     (none_passes (of_base 16) x of))))
 
 based : (test : ℕ → Bool) (base : Base) (u x v : List ℕ) → is_digit base 95 ≡ false
     → ((run : List ℕ) → IsAfterPrefix base (run ++ x)) → AllowsSuffix base x
-    → Means (number_if test (radix base) (with_prefix (prefix base) (radix base))) u x v → IsForm test u x v
+    → Means (tested_number test (radix base) (with_prefix (prefix base) (radix base))) u x v → IsForm test u x v
 based test base u x v fails front of (ds, (passes, m), v_is) =
     let (run, u_is, rest) = then_text (prefix base) (some_digits (radix base)) u x ds m in
     let (all, any, ds_is) = some_from (radix base) run x ds fails rest in
@@ -187,8 +187,8 @@ based test base u x v fails front of (ds, (passes, m), v_is) =
 
 form_from : (test : ℕ → Bool) (u x v : List ℕ) → Means (forms test) u x v → IsForm test u x v
 form_from test u x v (inl m) =
-    let (none, rest) = before_unless (number_if test 10 dec_literal ⋅ Unless exponent_suffix) prefixes u x v m in
-    let ((ds, (passes, row), v_is), never) = then_unless (number_if test 10 dec_literal) exponent_suffix u x v rest in
+    let (none, rest) = before_unless (tested_number test 10 dec_literal ⋅ Unless exponent_suffix) prefixes u x v m in
+    let ((ds, (passes, row), v_is), never) = then_unless (tested_number test 10 dec_literal) exponent_suffix u x v rest in
     let (is_digits, ds_is) = dec_from u x ds row in
     record {
       base = Decimal;
@@ -208,7 +208,7 @@ form_from test u x v (inl m) =
 form_from test u x v (inr (inl m)) = based test Binary u x v refl (λ run. tt) tt m
 form_from test u x v (inr (inr (inl m))) = based test Octal u x v refl (λ run. tt) tt m
 form_from test u x v (inr (inr (inr m))) =
-    let (n, none) = then_unless (number_if test 16 (with_prefix (codes "0x") 16)) (digit 16) u x v m in
+    let (n, none) = then_unless (tested_number test 16 (with_prefix (codes "0x") 16)) (digit 16) u x v m in
     based test Hexadecimal u x v refl (λ run. tt) (passes_none (of_base 16) x none) n
 
 int_to : (test : ℕ → Bool) (text : List ℕ) (s : Sign) (m : ℕ) (x : List ℕ) → IntReads text s m x → test m ≡ true

@@ -5,7 +5,7 @@ use Rattle.rl_syntax.specs.declared.kind.Kind.TheVariants.{Bool as BoolKind}
 use Rattle.rl_syntax.specs.Reading.{Contents, Truth, ReadsBool, truth_text}
 use Rattle.rl_syntax.specs.Strict.{StrictBool}
 use Rattle.rl_theorem.specs.Notation.{Rule, One, Means, ◌∣◌, ◌is◌}
-use Rattle.rl_theorem.specs.RustRules.{IsLiteralBy, contents_of, boolean_literal}
+use Rattle.rl_theorem.specs.RustRules.{IsLiteralBy, as_contents, boolean_literal}
 use Rattle.rl_theorem.proofs.RuleParts.{then_unless, unless_then, none_passes}
 use Rattle.rl_theorem.proofs.SuffixRule.{at_end}
 
@@ -24,7 +24,7 @@ word_from : (u x v : List ℕ) → Means words u x v → (b : Bool) × (u ≡ tr
 word_from u x v (inl (y, (u_is, y_is), v_is)) = (true, u_is, v_is)
 word_from u x v (inr (y, (u_is, y_is), v_is)) = (false, u_is, v_is)
 
-told : (b : Bool) → Truth b ≡ contents_of BoolKind (value_of b)
+told : (b : Bool) → Truth b ≡ as_contents BoolKind (value_of b)
 told true = refl
 told false = refl
 
@@ -52,7 +52,7 @@ truth_rule tail no_suffix text contents x = (to, from)
           truth = b;
           text_is = l.text_is ∙ ap (λ k. l.body ++ k) x_is ∙ append-nil l.body ∙ body_is;
           suffix_is = x_is;
-          contents_is = l.contents_is ∙ ap (contents_of BoolKind) value_is ∙ sym (told b);
+          contents_is = l.contents_is ∙ ap (as_contents BoolKind) value_is ∙ sym (told b);
         }
 
 -- The two grammars have equal boolean literals.

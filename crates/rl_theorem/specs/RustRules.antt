@@ -1,4 +1,5 @@
--- The literals of the Rust Reference, chapter Tokens. There is one rule for each production, under the production's name.
+-- The literals of the Rust Reference, chapter Tokens. There is one rule for each production. The production has the same name
+-- in capital letters, or the name that begins the rule's comment.
 use Rattle.std.specs.Prelude.{◌≡◌, ◌↔◌, ℕ, Bool, true, not, ◌&&◌, ◌==◌, nat_lt, nat_le, List, [], ◌∷◌, ◌++◌, codes, length, replicate, encode_utf8_all}
 use Rattle.std.specs.List.{list_any, list_all}
 use Rattle.std.specs.Char.{digit_value, is_ascii}
@@ -49,21 +50,21 @@ letter_escape =
     ∣ codes "\\0" is 0
 
 -- `\x` and two hexadecimal digits. The first digit is below the limit.
-abbrev pub hex_escape : ℕ → Rule
-hex_escape below = Text (codes "\\x") ⋅ As (λ ds. place_value 16 ds ∷ []) (digit below ⋅ digit 16)
+abbrev pub x_escape : ℕ → Rule
+x_escape below = Text (codes "\\x") ⋅ As (λ ds. place_value 16 ds ∷ []) (digit below ⋅ digit 16)
 
 -- ASCII_ESCAPE: `\x`, an octal and a hexadecimal digit; or the escape of a letter.
 abbrev pub ascii_escape : Rule
-ascii_escape = hex_escape 8 ∣ letter_escape
+ascii_escape = x_escape 8 ∣ letter_escape
 
 -- BYTE_ESCAPE: `\x` and two hexadecimal digits; or the escape of a letter or of a quote.
 abbrev pub byte_escape : Rule
-byte_escape = hex_escape 16 ∣ letter_escape ∣ quote_escape
+byte_escape = x_escape 16 ∣ letter_escape ∣ quote_escape
 
 -- UNICODE_ESCAPE: `\u{`, one to six hexadecimal digits with any number of underscores after each, and `}`. The number is
 -- a Unicode scalar value.
-abbrev pub unicode_escape : Rule
-unicode_escape =
+abbrev pub u_escape : Rule
+u_escape =
     Text (codes "\\u{")
     ⋅ As (λ ds. place_value 16 ds ∷ [])
     (If (λ ds. nat_le 1 (length ds) && nat_le (length ds) 6 && all_scalars (place_value 16 ds ∷ []))
@@ -78,14 +79,14 @@ string_continue = skip (Text (codes "\\\n") ⋅ Many (any_of (codes " \t\n"))) �
 
 -- CHAR_LITERAL: between single quotes, a character other than `'`, `\`, LF, CR and TAB, or an escape.
 abbrev pub char_content : Rule
-char_content = One (but (codes "'\\\n\r\t")) ∣ quote_escape ∣ ascii_escape ∣ unicode_escape
+char_content = One (but (codes "'\\\n\r\t")) ∣ quote_escape ∣ ascii_escape ∣ u_escape
 
 abbrev pub char_literal : Rule
 char_literal = Text (codes "'") ⋅ char_content ⋅ Text (codes "'")
 
 -- STRING_LITERAL: between double quotes, any number of characters other than `"`, `\` and CR, and escapes.
 abbrev pub string_content : Rule
-string_content = One (but (codes "\"\\\r")) ∣ quote_escape ∣ ascii_escape ∣ unicode_escape ∣ string_continue
+string_content = One (but (codes "\"\\\r")) ∣ quote_escape ∣ ascii_escape ∣ u_escape ∣ string_continue
 
 abbrev pub string_literal : Rule
 string_literal = Text (codes "\"") ⋅ Many string_content ⋅ Text (codes "\"")
@@ -113,7 +114,7 @@ not_nul a = If (list_all (λ c. not (c == 0))) a
 abbrev pub c_string_content : Rule
 c_string_content =
     As encode_utf8_all (One (but (0 ∷ codes "\"\\\r"))) ∣ not_nul byte_escape
-    ∣ As encode_utf8_all (not_nul unicode_escape) ∣ string_continue
+    ∣ As encode_utf8_all (not_nul u_escape) ∣ string_continue
 
 abbrev pub c_string_literal : Rule
 c_string_literal = Text (codes "c\"") ⋅ Many c_string_content ⋅ Text (codes "\"")
@@ -195,11 +196,11 @@ literal Float = float_literal
 literal BoolKind = boolean_literal
 
 -- The value of a literal's rule as the value of the literal.
-abbrev pub contents_of : Kind → List ℕ → Contents
-contents_of Int value = Digits value
-contents_of Float value = Digits value
-contents_of BoolKind value = Truth (list_any (λ c. c == 1) value)
-contents_of kind value = quoted_contents kind value
+abbrev pub as_contents : Kind → List ℕ → Contents
+as_contents Int value = Digits value
+as_contents Float value = Digits value
+as_contents BoolKind value = Truth (list_any (λ c. c == 1) value)
+as_contents kind value = quoted_contents kind value
 
 -- By the rule, the text is a literal of the kind, with the given value and suffix. The suffix is a text of the rule `tail`.
 pub record IsLiteralBy (rule tail : Rule) (kind : Kind) (text : List ℕ) (contents : Contents) (suffix_text : List ℕ)
@@ -209,7 +210,7 @@ pub record IsLiteralBy (rule tail : Rule) (kind : Kind) (text : List ℕ) (conte
   pub text_is : text ≡ body ++ suffix_text
   pub is_body : Means rule body suffix_text value
   pub is_suffix : (v : List ℕ) × Means tail suffix_text [] v
-  pub contents_is : contents ≡ contents_of kind value
+  pub contents_is : contents ≡ as_contents kind value
 
 -- By the rules of the Reference, the text is a literal of the kind, with the given value and suffix.
 abbrev pub IsLiteral : List ℕ → Kind → Contents → List ℕ → Type 0

@@ -19,7 +19,7 @@ use Rattle.rl_theorem.specs.RustRules.{identifier_or_keyword, digit, digits, som
 abbrev pub cr_lf : Rule
 cr_lf = codes "\r\n" is code "\n"
 
--- `backslash_x` and the escapes of one character, where values are characters: `\x` represents an ASCII character.
+-- A text of the rule whose value is ASCII.
 abbrev pub ascii_only : Rule → Rule
 ascii_only a = If (list_all is_ascii) a
 
@@ -32,42 +32,43 @@ backslash_u =
     (If (λ ds. nat_le (length ds) 6 && all_scalars (place_value 16 ds ∷ [])) (digit 16 ⋅ digits 16))
     ⋅ Text (codes "}")
 
--- A backslash, an LF or CR, and all spaces, TABs, LFs and CRs after them.
+-- An escaped line end: a backslash, an LF or CR, and all spaces, TABs, LFs and CRs after them.
 abbrev pub line_continue : Rule
 line_continue =
     skip (Text (codes "\\") ⋅ any_of (codes "\n\r") ⋅ Many (any_of (codes " \t\n\r"))) ⋅ Unless (any_of (codes " \t\n\r"))
 
 -- ---- quoted literals
 
--- `parse_lit_char`
+-- `parse_lit_char`: between single quotes, a character other than `\`, or an escape. `\x` represents an ASCII character.
 abbrev pub char_inside : Rule
 char_inside = One (but (codes "\\")) ∣ ascii_only byte_escape ∣ backslash_u
 
 abbrev pub parse_lit_char : Rule
 parse_lit_char = Text (codes "'") ⋅ char_inside ⋅ Text (codes "'")
 
--- `parse_lit_byte`
+-- `parse_lit_byte`: `b`, and between single quotes an ASCII character other than `'`, `\`, LF, CR and TAB, or an escape.
 abbrev pub byte_inside : Rule
 byte_inside = One (λ c. is_ascii c && but (codes "'\\\n\r\t") c) ∣ byte_escape
 
 abbrev pub parse_lit_byte : Rule
 parse_lit_byte = Text (codes "b'") ⋅ byte_inside ⋅ Text (codes "'")
 
--- `parse_lit_str_cooked`
+-- `parse_lit_str_cooked`: between double quotes, any number of characters other than `"`, `\` and CR, of CR LF, and of
+-- escapes.
 abbrev pub str_inside : Rule
 str_inside = One (but (codes "\"\\\r")) ∣ cr_lf ∣ ascii_only byte_escape ∣ backslash_u ∣ line_continue
 
 abbrev pub parse_lit_str_cooked : Rule
 parse_lit_str_cooked = Text (codes "\"") ⋅ Many str_inside ⋅ Text (codes "\"")
 
--- `parse_lit_byte_str_cooked`
+-- `parse_lit_byte_str_cooked`: the same after `b`, where characters are ASCII. There is no escape `\u{..}`.
 abbrev pub byte_str_inside : Rule
 byte_str_inside = One (λ c. is_ascii c && but (codes "\"\\\r") c) ∣ cr_lf ∣ byte_escape ∣ line_continue
 
 abbrev pub parse_lit_byte_str_cooked : Rule
 parse_lit_byte_str_cooked = Text (codes "b\"") ⋅ Many byte_str_inside ⋅ Text (codes "\"")
 
--- `parse_lit_c_str_cooked`
+-- `parse_lit_c_str_cooked`: the same after `c`, without NUL. The value is bytes.
 abbrev pub c_str_inside : Rule
 c_str_inside =
     As encode_utf8_all (One (but (0 ∷ codes "\"\\\r"))) ∣ cr_lf ∣ not_nul byte_escape
@@ -99,24 +100,26 @@ parse_lit_c_str_raw = As encode_utf8_all (raw_to_last (codes "cr") (λ c. not (c
 abbrev pub number_suffix : Rule
 number_suffix = Unless (any_of (codes "_")) ⋅ maybe identifier_or_keyword
 
--- With a suffix of this form, a decimal number is a float.
+-- `e` or `E`, digits and underscores with at least one digit, and then nothing or an identifier. With a suffix of this
+-- form, a decimal number is a float.
 abbrev pub exponent_suffix : Rule
 exponent_suffix =
     any_of (codes "eE") ⋅ some_digits 10 ⋅ Unless (digit 10 ∣ Text (codes "_")) ⋅ maybe identifier_or_keyword ⋅ end
 
 -- The value of digits whose number passes the test: the number in base ten.
-abbrev pub number_if : (ℕ → Bool) → ℕ → Rule → Rule
-number_if test base a = number base (If (λ ds. test (place_value base ds)) a)
+abbrev pub tested_number : (ℕ → Bool) → ℕ → Rule → Rule
+tested_number test base a = number base (If (λ ds. test (place_value base ds)) a)
 
--- `parse_lit_int`. The number passes the test.
+-- `parse_lit_int`: perhaps a minus, and an integer of one of the four bases. Its number passes the test.
 abbrev pub parse_lit_int : (ℕ → Bool) → Rule
 parse_lit_int test =
     maybe (any_of (codes "-"))
-    ⋅ (no_prefix ⋅ number_if test 10 dec_literal ⋅ Unless exponent_suffix
-    ∣ number_if test 2 (with_prefix (codes "0b") 2) ∣ number_if test 8 (with_prefix (codes "0o") 8)
-    ∣ number_if test 16 (with_prefix (codes "0x") 16) ⋅ Unless (digit 16))
+    ⋅ (no_prefix ⋅ tested_number test 10 dec_literal ⋅ Unless exponent_suffix
+    ∣ tested_number test 2 (with_prefix (codes "0b") 2) ∣ tested_number test 8 (with_prefix (codes "0o") 8)
+    ∣ tested_number test 16 (with_prefix (codes "0x") 16) ⋅ Unless (digit 16))
 
--- `parse_lit_float`. The number has no exponent only if its suffix doesn't begin like one.
+-- `parse_lit_float`: perhaps a minus, digits, perhaps a dot and any number of digits, and perhaps an exponent. If there is
+-- no exponent, the suffix doesn't begin like one.
 abbrev pub parse_lit_float : Rule
 parse_lit_float =
     maybe (any_of (codes "-")) ⋅ dec_literal ⋅ maybe (any_of (codes ".") ⋅ digits 10)
