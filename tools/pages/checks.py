@@ -5,6 +5,7 @@ import os
 import re
 import textwrap
 
+from . import pictures, rules
 from .graph import graph
 from .items import LIBRARIES, TOP, code_files, core, definition_files, pages, paths, prose_pages, public_items, read, signature_end
 from .snippets import EXAMPLE, VALUE, Source, blanked, whole_items
@@ -273,8 +274,8 @@ def check_rules(tell):
 
 
 def check_diagrams(tell):
-    """Checks that each diagram shows a definition that is in a source and on a page, and that the diagram of the crates is up to
-    date."""
+    """Checks that each diagram is on a page and shows a definition that is in a source, and that the diagrams of the rules and of
+    the crates are up to date."""
     defined = set(re.findall(r'(?m)^(?:abbrev |unfoldable |opaque )*(?:pub )?(?:record|data|abbrev) (?:pub )?(\w+)',
                              '\n'.join(map(read, paths('crates/rl_syntax/specs/*.antt', 'crates/rl_lexer/specs/*.antt')))))
     shown = ''.join(map(read, paths('docs/*.md')))
@@ -285,6 +286,9 @@ def check_diagrams(tell):
         if name == 'crates':
             if graph().replace('->', 'to') not in read(path):
                 tell(f'{path}: it is not what crates.txt says: run tools/diagrams')
+        elif f'{name}.antt' in rules.FILES:
+            if pictures.mark(f'{name}.antt') not in read(path):
+                tell(f'{path}: it does not show the present rules: run tools/diagrams')
         elif name not in defined:
             tell(f'{path}: there is no definition of this name')
 

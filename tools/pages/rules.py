@@ -4,6 +4,8 @@ import re
 from .items import read
 
 PAGE, FOLDER = 'docs/GRAMMAR.md', 'crates/rl_theorem/specs'
+# The files of the rules of Rust's and of `syn`'s grammar.
+FILES = ('RustRules.antt', 'SynRules.antt')
 # A part of the page that shows a file: a comment with the file's name, and a block.
 SHOWN = re.compile(r'(?<=^<!-- )(\w+\.antt) -->\n\n```text\n.*?\n```$', re.M | re.S)
 TYPE = re.compile(r'^abbrev pub [^\n]* : [^\n]*\n(?:    [^\n]*\n)*(?=\S)', re.M)
@@ -13,7 +15,7 @@ def code_of(name):
     """Returns the definitions of a file of rules with their comments, without imports, types of rules and blank lines."""
     blocks = re.split(r'\n\n+(?=\S)', read(f'{FOLDER}/{name}').split('\n', 1)[1])
     kept = '\n'.join(it for it in blocks if not re.search(r'(?m)^(pub )?use ', it)).rstrip('\n')
-    return (TYPE.sub('', kept) if 'Rules' in name else kept).replace('\n-- ----', '\n\n-- ----')
+    return (TYPE.sub('', kept) if name in FILES else kept).replace('\n-- ----', '\n\n-- ----')
 
 
 def with_rules():
