@@ -7,7 +7,7 @@ use Rattle.rl_syntax.proofs.Basics.{hex_is_sixteen, all_same, passes_same}
 use Rattle.rl_syntax.proofs.StrictQuoted.{digits_count}
 use Rattle.rl_rules.specs.Notation.{Rule, Text, One, Many, As, If, Follow, Means, ◌⋅◌, skip}
 use Rattle.rl_rules.specs.Grammar.{digit, quote_escape, letter_escape, x_escape, u_escape, string_continue}
-use Rattle.rl_rules.proofs.RuleParts.{text_then, then_text, close_then, then_close, unless_then, then_unless, none_passes, passes_none, IsRuleOf, many_to, many_from, row_from_all, all_from_row, run_to, run_from}
+use Rattle.rl_rules.proofs.RuleParts.{text_then, then_text, close_then, then_close, unless_then, then_unless, none_passes, passes_none, IsRuleOf, many_to, many_from, row_from_all, all_from_row, run_to, run_from, or_same}
 
 -- ---- quotes and letters
 
@@ -201,13 +201,7 @@ abbrev is_space : ℕ → Bool
 is_space c = eqb c 32 || (eqb c 9 || (eqb c 10 || false))
 
 spaces : (c : ℕ) → is_dropped_blank c ≡ is_space c
-spaces c = go (eqb c 32) (eqb c 9) (eqb c 10)
-  where
-    go : (a b d : Bool) → ((a || b) || d) ≡ (a || (b || (d || false)))
-    go true b d = refl
-    go false true d = refl
-    go false false true = refl
-    go false false false = refl
+spaces c = or_same (eqb c 32) (eqb c 9 ∷ eqb c 10 ∷ [])
 
 abbrev line_break : Rule
 line_break = skip (Text (92 ∷ 10 ∷ []) ⋅ Many (One is_space))

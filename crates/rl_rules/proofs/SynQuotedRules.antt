@@ -12,7 +12,7 @@ use Rattle.rl_syntax.proofs.Basics.{all_same, passes_same}
 use Rattle.rl_rules.specs.Notation.{Rule, Text, One, Many, As, If, Means, ◌⋅◌, but, skip}
 use Rattle.rl_rules.specs.Grammar.{digit, digits, byte_escape}
 use Rattle.rl_rules.specs.SynGrammar.{backslash_u, line_continue, char_inside, byte_inside, str_inside, byte_str_inside, c_str_inside, raw_to_last}
-use Rattle.rl_rules.proofs.RuleParts.{text_then, then_text, close_then, then_close, NoneAt, unless_then, then_unless, none_passes, passes_none, IsRuleOf, Row, many_to, many_from, run_to, run_from, parts_to, parts_from, all_pass}
+use Rattle.rl_rules.proofs.RuleParts.{text_then, then_text, close_then, then_close, NoneAt, unless_then, then_unless, none_passes, passes_none, IsRuleOf, Row, many_to, many_from, run_to, run_from, parts_to, parts_from, all_pass, or_same}
 use Rattle.rl_rules.proofs.EscapeRules.{hex_text, hex_value}
 use Rattle.rl_rules.proofs.QuotedRules.{in_quotes, in_string, alone, passes_cut, passes_joined}
 use Rattle.rl_rules.proofs.NumberRules.{of_base, without_digit, split}
@@ -137,25 +137,13 @@ abbrev is_space : ℕ → Bool
 is_space c = eqb c 32 || (eqb c 9 || (eqb c 10 || (eqb c 13 || false)))
 
 spaces : (c : ℕ) → is_blank c ≡ is_space c
-spaces c = go (eqb c 32) (eqb c 9) (eqb c 10) (eqb c 13)
-  where
-    go : (a b d e : Bool) → (((a || b) || d) || e) ≡ (a || (b || (d || (e || false))))
-    go true b d e = refl
-    go false true d e = refl
-    go false false true e = refl
-    go false false false true = refl
-    go false false false false = refl
+spaces c = or_same (eqb c 32) (eqb c 9 ∷ eqb c 10 ∷ eqb c 13 ∷ [])
 
 abbrev is_end : ℕ → Bool
 is_end c = eqb c 10 || (eqb c 13 || false)
 
 line_ends : (c : ℕ) → is_line_end c ≡ is_end c
-line_ends c = go (eqb c 10) (eqb c 13)
-  where
-    go : (a b : Bool) → (a || b) ≡ (a || (b || false))
-    go true b = refl
-    go false true = refl
-    go false false = refl
+line_ends c = or_same (eqb c 10) (eqb c 13 ∷ [])
 
 abbrev line_break : Rule
 line_break = Text (92 ∷ []) ⋅ One is_end ⋅ Many (One is_space)
@@ -217,11 +205,7 @@ pub ascii_itself : (c : ℕ) → nat_lt c 128 ≡ true → encode_utf8_all (c �
 ascii_itself c h = (ap (λ z. z ++ []) (encode_ascii c (ltb-true c 128 h)))
 
 not_slash : (c : ℕ) → not (eqb c 92) ≡ but (codes "\\") c
-not_slash c = go (eqb c 92)
-  where
-    go : (b : Bool) → not b ≡ not (b || false)
-    go true = refl
-    go false = refl
+not_slash c = ap not (or_same (eqb c 92) [])
 
 char_unit : UnitRule Char char_inside
 char_unit = record { to = to; from = from }
@@ -317,18 +301,12 @@ byte_str_unit = record { to = to; from = from }
         let (end, run, ending, each, e, t, v) = continue_from text after value m in
         (Continuation end run, ((refl, ending, each), e), t, v)
 
-c_plain : (c : ℕ) → not (((eqb c 34 || eqb c 92) || eqb c 13) || eqb c 0) ≡ but (0 ∷ codes "\"\\\r") c
-c_plain c = ap not (go (eqb c 34) (eqb c 92) (eqb c 13) (eqb c 0))
+c_plain : (c : ℕ) → not (((eqb c 34 || eqb c 92) || eqb c 13) || eqb c 0) ≡ (but (codes "\"\\\r") c && not (eqb c 0))
+c_plain c = apart ((eqb c 34 || eqb c 92) || eqb c 13) (eqb c 0) ∙ ap (λ b. b && not (eqb c 0)) (in_string c)
   where
-    go : (a b d z : Bool) → (((a || b) || d) || z) ≡ (z || (a || (b || (d || false))))
-    go true b d true = refl
-    go true b d false = refl
-    go false true d true = refl
-    go false true d false = refl
-    go false false true true = refl
-    go false false true false = refl
-    go false false false true = refl
-    go false false false false = refl
+    apart : (a b : Bool) → not (a || b) ≡ (not a && not b)
+    apart true b = refl
+    apart false b = refl
 
 without_true : (a b : Bool) → (a && (true || b)) ≡ true → a ≡ true
 without_true true b h = refl

@@ -121,7 +121,7 @@ not_nul a = If (list_all (λ c. not (c == 0))) a
 -- escapes that aren't NUL. The value is bytes. Characters are encoded as UTF-8, and `\x` is one byte.
 abbrev pub c_string_content : Rule
 c_string_content =
-    As encode_utf8_all (One (but (0 ∷ codes "\"\\\r"))) ∣ not_nul byte_escape
+    As encode_utf8_all (One (λ c. but (codes "\"\\\r") c && not (c == 0))) ∣ not_nul byte_escape
     ∣ As encode_utf8_all (not_nul u_escape) ∣ string_continue
 
 abbrev pub c_string_literal : Rule

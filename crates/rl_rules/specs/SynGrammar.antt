@@ -71,7 +71,7 @@ parse_lit_byte_str_cooked = Text (codes "b\"") ⋅ Many byte_str_inside ⋅ Text
 -- `parse_lit_c_str_cooked`: the same after `c`, without NUL. The value is bytes.
 abbrev pub c_str_inside : Rule
 c_str_inside =
-    As encode_utf8_all (One (but (0 ∷ codes "\"\\\r"))) ∣ cr_lf ∣ not_nul byte_escape
+    As encode_utf8_all (One (λ c. but (codes "\"\\\r") c && not (c == 0))) ∣ cr_lf ∣ not_nul byte_escape
     ∣ As encode_utf8_all (not_nul backslash_u) ∣ line_continue
 
 abbrev pub parse_lit_c_str_cooked : Rule
