@@ -22,6 +22,7 @@ either kind a b text contents x cooked raw = (to, from)
     to : StrictCooked text kind contents x ⊎ StrictRaw text kind contents x → By kind (a ∣ b) text contents x
     to (inl s) = by_other (maybe suffix) a (a ∣ b) kind text contents x (λ u v m. inl m) (cooked.0 s)
     to (inr s) = by_other (maybe suffix) b (a ∣ b) kind text contents x (λ u v m. inr m) (raw.0 s)
+
     from : By kind (a ∣ b) text contents x → StrictCooked text kind contents x ⊎ StrictRaw text kind contents x
     from l = elim l.is_body [
       | inl m ↦ inl (cooked.1 (record { body = l.body; value = l.value; text_is = l.text_is; is_body = m; is_suffix = l.is_suffix; contents_is = l.contents_is }))

@@ -1,5 +1,5 @@
 -- Raw strings, by both definitions.
-use Rattle.rl_syntax.proofs.Common.{◌≡◌, ◌≢◌, ℕ, ◌&&◌, ◌||◌, Bool, true, false, not, eqb, List, [], ◌∷◌, ◌++◌, refl, sym, ap, subst, ◌∙◌, append_assoc, list_all, replicate, zero, suc, and_parts, and_from, ltb-true, lt-ltb, codes}
+use Rattle.rl_syntax.proofs.Common.{◌≡◌, ◌≢◌, ℕ, ◌&&◌, Bool, true, not, eqb, List, [], ◌∷◌, ◌++◌, refl, sym, ap, subst, ◌∙◌, append_assoc, list_all, replicate, zero, suc, and_parts, and_from, ltb-true, lt-ltb, codes}
 use Rattle.std.specs.Prelude.{◌↔◌}
 use Rattle.rl_syntax.specs.declared.kind.Kind.{Kind}
 use Rattle.rl_syntax.specs.Reading.{Contents, quoted_contents}

@@ -8,12 +8,12 @@ use Rattle.rl_syntax.specs.declared.kind.Kind.TheVariants.{Str, ByteStr, CStr, B
 use Rattle.rl_syntax.specs.Texts.{first_passes, is_blank, is_underscore, is_run_part}
 use Rattle.rl_syntax.specs.Spelling.{place_value, without_underscores}
 use Rattle.rl_syntax.specs.Quoted.{Letter, LowerN, LowerR, LowerT, Backslash, Apostrophe, Quote, Zero, letter_text, letter_value, QuotedUnit, Plain, CrLf, Named, Hex, Unicode, Continuation, unit_text, unit_value, unicode_value, is_hex_digit, is_line_end, IsUnit, texts, values, EndsBefore, ContinuationsEnd, opener, raw_opener, content_of, is_raw, is_string, is_single, Cooked, Raw, Single}
-use Rattle.rl_syntax.proofs.Basics.{all_same, passes_same}
+use Rattle.rl_syntax.proofs.Basics.{all_same, passes_same, hex_is_sixteen}
 use Rattle.rl_rules.specs.Notation.{Rule, Text, One, Many, As, If, Means, ◌⋅◌, but, skip}
 use Rattle.rl_rules.specs.Grammar.{digit, digits, byte_escape}
 use Rattle.rl_rules.specs.SynGrammar.{backslash_u, line_continue, char_inside, byte_inside, str_inside, byte_str_inside, c_str_inside, raw_to_last}
 use Rattle.rl_rules.proofs.RuleParts.{text_then, then_text, close_then, then_close, NoneAt, unless_then, then_unless, none_passes, passes_none, IsRuleOf, Row, many_to, many_from, run_to, run_from, parts_to, parts_from, all_pass, or_same}
-use Rattle.rl_rules.proofs.EscapeRules.{hex_text, hex_value}
+use Rattle.rl_rules.proofs.EscapeRules.{hex_text, hex_value, hex_to as x_to, hex_from as x_from}
 use Rattle.rl_rules.proofs.QuotedRules.{in_quotes, in_string, alone, passes_cut, passes_joined}
 use Rattle.rl_rules.proofs.NumberRules.{of_base, without_digit, split}
 
@@ -34,12 +34,7 @@ letter_to Quote after = inr (inr (inr ([], (refl, refl), refl)))
 
 hex_to : (high low : ℕ) (after : List ℕ) → is_hex_digit high ≡ true → is_hex_digit low ≡ true
     → Means byte_escape (hex_text high low) after (hex_value high low)
-hex_to high low after h l =
-    inl (text_then (92 ∷ 120 ∷ []) (As (λ ds. place_value 16 ds ∷ []) (digit 16 ⋅ digit 16)) (high ∷ low ∷ []) after (hex_value high low) (
-      high ∷ low ∷ [],
-      (high ∷ [], low ∷ [], high ∷ [], low ∷ [], refl, refl, (high, h, refl, refl), (low, l, refl, refl)),
-      refl,
-    ))
+hex_to high low after h l = inl (x_to 16 high low after h (hex_is_sixteen low ∙ l))
 
 -- An escape that BYTE_ESCAPE has: `\x`, or an escape of one character.
 abbrev Escape : List ℕ → List ℕ → Type 0
@@ -49,16 +44,8 @@ Escape text value =
 
 escape_from : (text after value : List ℕ) → Means byte_escape text after value → Escape text value
 escape_from text after value (inl m) =
-    let (w, text_is, (z, (a, b, p, q, w_is, z_is, (high, h, a_is, p_is), (low, l, b_is, q_is)), value_is)) =
-    then_text (92 ∷ 120 ∷ []) (As (λ ds. place_value 16 ds ∷ []) (digit 16 ⋅ digit 16)) text after value m in
-    inl (
-      high,
-      low,
-      h,
-      l,
-      text_is ∙ ap (λ k. 92 ∷ 120 ∷ k) (w_is ∙ ap (λ k. k ++ b) a_is ∙ ap (λ k. high ∷ k) b_is),
-      value_is ∙ ap (λ k. place_value 16 k ∷ []) (z_is ∙ ap (λ k. k ++ q) p_is ∙ ap (λ k. high ∷ k) q_is),
-    )
+    let (high, low, h, l, t, v) = x_from 16 text after value m in
+    inl (high, low, h, sym (hex_is_sixteen low) ∙ l, t, v)
 escape_from text after value (inr (inl (inl (x, (t, e), v)))) = inr (LowerN, t, v)
 escape_from text after value (inr (inl (inr (inl (x, (t, e), v))))) = inr (LowerR, t, v)
 escape_from text after value (inr (inl (inr (inr (inl (x, (t, e), v)))))) = inr (LowerT, t, v)
