@@ -16,14 +16,13 @@ use navyspindle::rendered::{
 };
 #[cfg(not(feature = "__rendered"))]
 use proved::{
-    rl_attributes, rl_files, rl_fronts, rl_program, rl_quoted, rl_restyle, rl_tokens,
-    rust_literals,
+    rl_attributes, rl_files, rl_fronts, rl_program, rl_quoted, rl_restyle, rl_tokens, rust_literals,
 };
 
 /// The libraries of the programs, for the tests.
 #[cfg(feature = "__rendered")]
 pub use proved::{
-    rl_attributes, rl_files, rl_fronts, rl_grammar, rl_program, rl_quoted, rl_restyle,
-    rl_tokens, rust_literals,
+    rl_attributes, rl_files, rl_fronts, rl_grammar, rl_program, rl_quoted, rl_restyle, rl_tokens,
+    rust_literals,
 };
 pub use proved::{rl_scan, rl_tool};
