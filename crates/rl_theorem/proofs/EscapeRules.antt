@@ -7,7 +7,7 @@ use Rattle.rl_syntax.proofs.Basics.{hex_is_sixteen, all_same, passes_same}
 use Rattle.rl_syntax.proofs.StrictQuoted.{digits_count}
 use Rattle.rl_theorem.specs.Notation.{Rule, Text, One, Many, As, If, Follow, Means, ◌⋅◌, skip}
 use Rattle.rl_theorem.specs.RustRules.{digit, quote_escape, letter_escape, x_escape, u_escape, string_continue}
-use Rattle.rl_theorem.proofs.RuleParts.{text_then, then_text, close_then, then_close, unless_then, then_unless, none_passes, passes_none, IsRuleOf, many_to, many_from, row_from_all, all_from_row, run_to, run_from}
+use Rattle.rl_theorem.proofs.RuleParts.{text_then, then_text, close_then, then_close, unless_then, then_unless, none_passes, passes_none, IsRuleOf, many_to, many_from, row_from_all, all_from_row, run_to, run_from, or_same}
 
 -- ---- quotes and letters
 
@@ -182,18 +182,20 @@ unicode_to ds after h =
       ap (λ k. place_value 16 k ∷ []) (sym (digits_are ds)),
     ))
 
-pub unicode_from : (text after value : List ℕ) → Means u_escape text after value
-    → (ds : List (ℕ × ℕ)) × (is_unicode_escape ds ≡ true) × (text ≡ strict_text (UnicodeEscape ds)) × (value ≡ spaced_value ds ∷ [])
+pub unicode_from : (text after value : List ℕ) → Means u_escape text after value → (ds : List (ℕ × ℕ))
+    × (is_unicode_escape ds ≡ true) × (text ≡ strict_text (UnicodeEscape ds)) × (value ≡ spaced_value ds ∷ [])
 unicode_from text after value m =
     let (w, text_is, rest) = then_text (92 ∷ 117 ∷ 123 ∷ []) (scalar_digits ⋅ Text (125 ∷ [])) text after value m in
     let (u, w_is, (x, (scalar, more), value_is)) = then_close (125 ∷ []) scalar_digits w after value rest in
     let (ds, row, u_is, x_is) = many_from spaced spaced_digit digit_of (λ d after. is_hex d ≡ true) spaced_rule u (125 ∷ after) x more in (
       ds,
-      tested ds ∙ and_from (list_all is_hex ds) (is_scalar (flat_map digit_of ds)) (all_from_row spaced_digit is_hex ds (125 ∷ after) row)
-          (ap is_scalar (sym x_is) ∙ scalar),
+      passes ds (all_from_row spaced_digit is_hex ds (125 ∷ after) row) (ap is_scalar (sym x_is) ∙ scalar),
       text_is ∙ ap (λ k. 92 ∷ 117 ∷ 123 ∷ k) (w_is ∙ ap (λ k. k ++ 125 ∷ []) u_is),
       value_is ∙ ap (λ k. place_value 16 k ∷ []) (x_is ∙ digits_are ds),
     )
+  where
+    passes : (ds : List (ℕ × ℕ)) → list_all is_hex ds ≡ true → is_scalar (flat_map digit_of ds) ≡ true → is_unicode_escape ds ≡ true
+    passes ds each scalar = tested ds ∙ and_from (list_all is_hex ds) (is_scalar (flat_map digit_of ds)) each scalar
 
 -- ---- escaped line ends
 
@@ -201,13 +203,7 @@ abbrev is_space : ℕ → Bool
 is_space c = eqb c 32 || (eqb c 9 || (eqb c 10 || false))
 
 spaces : (c : ℕ) → is_dropped_blank c ≡ is_space c
-spaces c = go (eqb c 32) (eqb c 9) (eqb c 10)
-  where
-    go : (a b d : Bool) → ((a || b) || d) ≡ (a || (b || (d || false)))
-    go true b d = refl
-    go false true d = refl
-    go false false true = refl
-    go false false false = refl
+spaces c = or_same (eqb c 32) (eqb c 9 ∷ eqb c 10 ∷ [])
 
 abbrev line_break : Rule
 line_break = skip (Text (92 ∷ 10 ∷ []) ⋅ Many (One is_space))

@@ -11,7 +11,7 @@ use Rattle.rl_syntax.specs.Strict.{dec, IsDigits, IsDecimalText, BasedPrefix, St
 use Rattle.rl_syntax.proofs.Basics.{apart, digit_is_ten, hex_is_sixteen, all_same, any_same, passes_same}
 use Rattle.rl_theorem.specs.Notation.{Rule, Text, One, As, Unless, Means, ◌⋅◌, ◌∣◌, maybe, any_of, end}
 use Rattle.rl_theorem.specs.RustRules.{digit, some_digits, dec_literal, with_prefix, number, no_prefix, float_exponent, IsLiteral}
-use Rattle.rl_theorem.proofs.RuleParts.{text_then, then_text, NoneAt, unless_then, then_unless, unless_before, before_unless, none_passes, passes_none, none_begins, begins_none, none_of_both, kept, kept_digit, kept_all, parts_to, parts_from}
+use Rattle.rl_theorem.proofs.RuleParts.{text_then, then_text, NoneAt, unless_then, then_unless, unless_before, before_unless, none_passes, passes_none, none_begins, begins_none, none_of_both, kept, kept_digit, kept_all, parts_to, parts_from, or_same}
 use Rattle.rl_theorem.proofs.SuffixRule.{suffix_to, suffix_from, at_end, alone}
 
 -- ---- rows of digits and underscores
@@ -402,12 +402,7 @@ abbrev IsNumeral : List ℕ → List ℕ → Type 0
 IsNumeral numeral x = IsDotAlone numeral x ⊎ (IsPointed numeral x ⊎ IsScientific numeral x)
 
 pub among_e : (c : ℕ) → is_e c ≡ is_among (codes "eE") c
-among_e c = go (eqb c 101) (eqb c 69)
-  where
-    go : (a b : Bool) → (a || b) ≡ (a || (b || false))
-    go true b = refl
-    go false true = refl
-    go false false = refl
+among_e c = or_same (eqb c 101) (eqb c 69 ∷ [])
 
 numeral_to : (t x : List ℕ) → IsNumeral t x → Means numerals t x (float_digits t)
 numeral_to t x (inl (d, is, t_is, x_is)) =
@@ -519,11 +514,7 @@ abbrev ended : Rule
 ended = numerals ⋅ Unless (any_of (codes "_"))
 
 pub underscores : (x : List ℕ) → begins_char 95 x ≡ first_passes (is_among (codes "_")) x
-underscores x = passes_same (λ c. eqb c 95) (is_among (codes "_")) (λ c. go (eqb c 95)) x
-  where
-    go : (b : Bool) → b ≡ (b || false)
-    go true = refl
-    go false = refl
+underscores x = passes_same (λ c. eqb c 95) (is_among (codes "_")) (λ c. or_same (eqb c 95) []) x
 
 float_to : (text : List ℕ) (contents : Contents) (x : List ℕ) → StrictFloat text contents x → IsLiteral text Float contents x
 float_to text contents x s =

@@ -10,7 +10,7 @@ use Rattle.rl_syntax.proofs.StrictQuoted.{one_unit, blanks_after}
 use Rattle.rl_syntax.proofs.Basics.{hex_is_sixteen}
 use Rattle.rl_theorem.specs.Notation.{Rule, Text, Many, Means, ◌⋅◌, but, maybe}
 use Rattle.rl_theorem.specs.RustRules.{char_content, string_content, byte_content, byte_string_content, c_string_content, quote_escape, letter_escape, ascii_escape, byte_escape, x_escape, string_continue, suffix, as_contents, IsLiteralBy}
-use Rattle.rl_theorem.proofs.RuleParts.{text_then, then_text, close_then, then_close, IsRuleOf, Row, many_to, many_from}
+use Rattle.rl_theorem.proofs.RuleParts.{text_then, then_text, close_then, then_close, IsRuleOf, Row, many_to, many_from, or_same}
 use Rattle.rl_theorem.proofs.SuffixRule.{suffix_to, suffix_from}
 use Rattle.rl_theorem.proofs.EscapeRules.{quote_to, quote_from, letters, hex_text, hex_value, letter_to, letter_from, hex_to, hex_from, unicode_to, unicode_from, continue_to, continue_from}
 
@@ -34,38 +34,13 @@ abbrev Found : Kind → List ℕ → List ℕ → List ℕ → Type 0
 Found kind text after value = (u : StrictUnit) × Fits kind u after × (text ≡ strict_text u) × (value ≡ unit_value kind u)
 
 pub in_quotes : (c : ℕ) → is_allowed_in_single_quotes c ≡ but (codes "'\\\n\r\t") c
-in_quotes c = ap not (go (eqb c 39) (eqb c 92) (eqb c 10) (eqb c 13) (eqb c 9))
-  where
-    go : (a b c d e : Bool) → (a || b || c || d || e) ≡ (a || (b || (c || (d || (e || false)))))
-    go true b c d e = refl
-    go false true c d e = refl
-    go false false true d e = refl
-    go false false false true e = refl
-    go false false false false true = refl
-    go false false false false false = refl
+in_quotes c = ap not (or_same (eqb c 39) (eqb c 92 ∷ eqb c 10 ∷ eqb c 13 ∷ eqb c 9 ∷ []))
 
 pub in_string : (c : ℕ) → is_bare_in_string c ≡ but (codes "\"\\\r") c
-in_string c = ap not (go (eqb c 34) (eqb c 92) (eqb c 13))
-  where
-    go : (a b c : Bool) → (a || b || c) ≡ (a || (b || (c || false)))
-    go true b c = refl
-    go false true c = refl
-    go false false true = refl
-    go false false false = refl
+in_string c = ap not (or_same (eqb c 34) (eqb c 92 ∷ eqb c 13 ∷ []))
 
-pub in_c_string : (c : ℕ) → (is_bare_in_string c && not (eqb c 0)) ≡ but (0 ∷ codes "\"\\\r") c
-in_c_string c = go (eqb c 34) (eqb c 92) (eqb c 13) (eqb c 0)
-  where
-    go : (a b c z : Bool) → (not (a || b || c) && not z) ≡ not (z || (a || (b || (c || false))))
-    go a b c true = never (not (a || b || c))
-      where
-        never : (b : Bool) → (b && false) ≡ false
-        never true = refl
-        never false = refl
-    go true b c false = refl
-    go false true c false = refl
-    go false false true false = refl
-    go false false false false = refl
+in_c_string : (c : ℕ) → (is_bare_in_string c && not (eqb c 0)) ≡ (but (codes "\"\\\r") c && not (eqb c 0))
+in_c_string c = ap (λ b. b && not (eqb c 0)) (in_string c)
 
 -- A text of a rule of escapes is that of a unit, if the kind allows the unit.
 quote : (kind : Kind) → ((c : ℕ) → (eqb c 39 || eqb c 34) ≡ true → is_strict_unit kind (QuoteEscape c) ≡ true)
@@ -361,6 +336,13 @@ frame kind a = Text (strict_opener kind) ⋅ a ⋅ Text (strict_closer kind)
 -- By a rule of Rust's grammar, the text is a literal.
 abbrev pub By : Kind → Rule → List ℕ → Contents → List ℕ → Type 0
 By kind a text contents x = IsLiteralBy a (maybe suffix) kind text contents x
+
+-- A literal by a rule is one by each rule that has its texts.
+pub by_other : (tail a b : Rule) (kind : Kind) (text : List ℕ) (contents : Contents) (x : List ℕ)
+    → ((u v : List ℕ) → Means a u x v → Means b u x v) → IsLiteralBy a tail kind text contents x
+    → IsLiteralBy b tail kind text contents x
+by_other tail a b kind text contents x more l =
+    record { body = l.body; value = l.value; text_is = l.text_is; is_body = more l.body l.value l.is_body; is_suffix = l.is_suffix; contents_is = l.contents_is }
 
 -- The value of a rule is that of a quoted literal.
 abbrev pub IsQuoted : Kind → Type 0

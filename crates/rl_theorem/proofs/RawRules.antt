@@ -1,5 +1,5 @@
 -- Raw strings, by both definitions.
-use Rattle.rl_syntax.proofs.Common.{◌≡◌, ◌≢◌, ℕ, ◌&&◌, ◌||◌, Bool, true, false, not, eqb, List, [], ◌∷◌, ◌++◌, refl, sym, ap, subst, ◌∙◌, append_assoc, list_all, replicate, zero, suc, and_parts, and_from, ltb-true, lt-ltb, codes}
+use Rattle.rl_syntax.proofs.Common.{◌≡◌, ◌≢◌, ℕ, ◌&&◌, Bool, true, not, eqb, List, [], ◌∷◌, ◌++◌, refl, sym, ap, subst, ◌∙◌, append_assoc, list_all, replicate, zero, suc, and_parts, and_from, ltb-true, lt-ltb, codes}
 use Rattle.std.specs.Prelude.{◌↔◌}
 use Rattle.rl_syntax.specs.declared.kind.Kind.{Kind}
 use Rattle.rl_syntax.specs.Reading.{Contents, quoted_contents}
@@ -9,7 +9,7 @@ use Rattle.std.proofs.lemmas.Bool.{false≢true}
 use Rattle.rl_syntax.specs.Texts.{first_passes}
 use Rattle.rl_theorem.specs.Notation.{Rule, Text, One, Many, Unless, Means, ◌⋅◌, but}
 use Rattle.rl_theorem.specs.RustRules.{raw, suffix}
-use Rattle.rl_theorem.proofs.RuleParts.{text_then, then_text, close_then, then_close, NoneAt, unless_before, before_unless, IsRuleOf, Row, many_to, many_from, one, ones}
+use Rattle.rl_theorem.proofs.RuleParts.{text_then, then_text, close_then, then_close, NoneAt, unless_before, before_unless, IsRuleOf, Row, many_to, many_from, one, ones, or_same}
 use Rattle.rl_theorem.proofs.SuffixRule.{suffix_to, suffix_from}
 use Rattle.rl_theorem.proofs.QuotedRules.{By, IsQuoted}
 
@@ -104,11 +104,7 @@ abbrev no_return : ℕ → Bool
 no_return c = not (eqb c 13)
 
 returns : (cs : List ℕ) → list_all no_return cs ≡ list_all (but (codes "\r")) cs
-returns cs = all_same no_return (but (codes "\r")) (λ c. go (eqb c 13)) cs
-  where
-    go : (b : Bool) → not b ≡ not (b || false)
-    go true = refl
-    go false = refl
+returns cs = all_same no_return (but (codes "\r")) (λ c. ap not (or_same (eqb c 13) [])) cs
 
 -- ---- the literal
 

@@ -1,11 +1,34 @@
 -- The meaning of each part of a rule, in the form that the other proofs use.
-use Rattle.rl_syntax.proofs.Common.{◌≡◌, ℕ, Bool, true, false, not, eqb, List, [], ◌∷◌, ◌++◌, refl, sym, ap, subst, ◌∙◌, inl, inr, append-nil, list_all, flat_map, eqb-true, both_ways, and_parts, and_from, or_left, or_right, or_cases, if◌then◌else◌}
+use Rattle.rl_syntax.proofs.Common.{◌≡◌, ◌||◌, ℕ, Bool, true, false, not, eqb, List, [], ◌∷◌, ◌++◌, refl, sym, ap, subst, ◌∙◌, inl, inr, append-nil, list_all, flat_map, eqb-true, both_ways, and_parts, and_from, or_left, or_right, or_cases, if◌then◌else◌}
 use Rattle.std.proofs.lemmas.Bool.{false_from_ne_true}
 use Rattle.rl_syntax.specs.Texts.{first_passes, begins, is_run_part}
 use Rattle.rl_syntax.specs.Spelling.{without_underscores}
 use Rattle.rl_syntax.proofs.Basics.{apart}
 use Rattle.rl_syntax.proofs.StrictNumbers.{begins_front}
 use Rattle.rl_theorem.specs.Notation.{Rule, Text, One, Many, Unless, ◌⋅◌, ◌∣◌, Follow, Means}
+
+-- ---- tests of several characters
+
+-- `((a || b) || c) || d`, as definitions write it, and `a || (b || (c || false))`, as `is_among` computes.
+abbrev pub ors : Bool → List Bool → Bool
+ors a [] = a
+ors a (b ∷ bs) = ors (a || b) bs
+
+abbrev pub or_all : List Bool → Bool
+or_all [] = false
+or_all (b ∷ bs) = b || or_all bs
+
+or_false : (a : Bool) → a ≡ (a || false)
+or_false true = refl
+or_false false = refl
+
+or_join : (a b c : Bool) → ((a || b) || c) ≡ (a || (b || c))
+or_join true b c = refl
+or_join false b c = refl
+
+pub or_same : (a : Bool) (bs : List Bool) → ors a bs ≡ (a || or_all bs)
+or_same a [] = or_false a
+or_same a (b ∷ bs) = or_same (a || b) bs ∙ or_join a b (or_all bs)
 
 -- ---- a text before and after a rule
 

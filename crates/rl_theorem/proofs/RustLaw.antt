@@ -8,7 +8,7 @@ use Rattle.rl_syntax.specs.Strict.{StrictCooked, StrictRaw, IsRawInside}
 use Rattle.rl_theorem.specs.Notation.{Rule, Many, ◌∣◌, maybe}
 use Rattle.rl_theorem.specs.RustRules.{char_content, byte_content, string_content, byte_string_content, c_string_content, raw_string_literal, raw_byte_string_literal, raw_c_string_literal, suffix, StrictIsByTheRules}
 use Rattle.rl_theorem.proofs.RuleParts.{all_pass}
-use Rattle.rl_theorem.proofs.QuotedRules.{By, frame, cooked_rule, char_between, byte_between, string_between, byte_string_between, c_string_between}
+use Rattle.rl_theorem.proofs.QuotedRules.{By, frame, cooked_rule, char_between, byte_between, string_between, byte_string_between, c_string_between, by_other}
 use Rattle.rl_theorem.proofs.RawRules.{raw_rule}
 use Rattle.rl_theorem.proofs.NumberRules.{int_rule, float_rule}
 use Rattle.rl_theorem.proofs.TruthRule.{truth_rule, strict_truth}
@@ -20,8 +20,8 @@ either : (kind : Kind) (a b : Rule) (text : List ℕ) (contents : Contents) (x :
 either kind a b text contents x cooked raw = (to, from)
   where
     to : StrictCooked text kind contents x ⊎ StrictRaw text kind contents x → By kind (a ∣ b) text contents x
-    to (inl s) = let l = cooked.0 s in record { body = l.body; value = l.value; text_is = l.text_is; is_body = inl l.is_body; is_suffix = l.is_suffix; contents_is = l.contents_is }
-    to (inr s) = let l = raw.0 s in record { body = l.body; value = l.value; text_is = l.text_is; is_body = inr l.is_body; is_suffix = l.is_suffix; contents_is = l.contents_is }
+    to (inl s) = by_other (maybe suffix) a (a ∣ b) kind text contents x (λ u v m. inl m) (cooked.0 s)
+    to (inr s) = by_other (maybe suffix) b (a ∣ b) kind text contents x (λ u v m. inr m) (raw.0 s)
 
     from : By kind (a ∣ b) text contents x → StrictCooked text kind contents x ⊎ StrictRaw text kind contents x
     from l = elim l.is_body [

@@ -6,7 +6,7 @@ use Rattle.rl_syntax.proofs.Basics.{word_continues, all_weaker}
 use Rattle.rl_theorem.specs.Notation.{Text, One, ◌⋅◌, ◌∣◌, Means, maybe, any_of, end}
 use Rattle.rl_theorem.specs.RustRules.{identifier_or_keyword, suffix}
 use Rattle.rl_theorem.proofs.WhiteLemmas.{continue_not_white}
-use Rattle.rl_theorem.proofs.RuleParts.{none_passes, passes_none, then_unless, unless_before, before_unless, run_to, run_from}
+use Rattle.rl_theorem.proofs.RuleParts.{none_passes, passes_none, then_unless, unless_before, before_unless, run_to, run_from, or_same}
 
 pub end_here : Means end [] [] []
 end_here = (refl, refl, none_passes (λ c. true) [] refl)
@@ -34,8 +34,7 @@ identifier_to (c ∷ cs) after h =
         ]
 
 pub alone : (b : Bool) → (b || false) ≡ true → b ≡ true
-alone true h = refl
-alone false h = h
+alone b h = or_same b [] ∙ h
 
 pub identifier_from : (x after v : List ℕ) → Means identifier_or_keyword x after v → xid_ok x ≡ true
 identifier_from x after v (u, w, p, q, x_is, v_is, first, more) =

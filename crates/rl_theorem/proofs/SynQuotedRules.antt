@@ -8,12 +8,12 @@ use Rattle.rl_syntax.specs.declared.kind.Kind.TheVariants.{Str, ByteStr, CStr, B
 use Rattle.rl_syntax.specs.Texts.{first_passes, is_blank, is_underscore, is_run_part}
 use Rattle.rl_syntax.specs.Spelling.{place_value, without_underscores}
 use Rattle.rl_syntax.specs.Quoted.{Letter, LowerN, LowerR, LowerT, Backslash, Apostrophe, Quote, Zero, letter_text, letter_value, QuotedUnit, Plain, CrLf, Named, Hex, Unicode, Continuation, unit_text, unit_value, unicode_value, is_hex_digit, is_line_end, IsUnit, texts, values, EndsBefore, ContinuationsEnd, opener, raw_opener, content_of, is_raw, is_string, is_single, Cooked, Raw, Single}
-use Rattle.rl_syntax.proofs.Basics.{all_same, passes_same}
+use Rattle.rl_syntax.proofs.Basics.{all_same, passes_same, hex_is_sixteen}
 use Rattle.rl_theorem.specs.Notation.{Rule, Text, One, Many, As, If, Means, ◌⋅◌, but, skip}
 use Rattle.rl_theorem.specs.RustRules.{digit, digits, byte_escape}
 use Rattle.rl_theorem.specs.SynRules.{backslash_u, line_continue, char_inside, byte_inside, str_inside, byte_str_inside, c_str_inside, raw_to_last}
-use Rattle.rl_theorem.proofs.RuleParts.{text_then, then_text, close_then, then_close, NoneAt, unless_then, then_unless, none_passes, passes_none, IsRuleOf, Row, many_to, many_from, run_to, run_from, parts_to, parts_from, all_pass}
-use Rattle.rl_theorem.proofs.EscapeRules.{hex_text, hex_value}
+use Rattle.rl_theorem.proofs.RuleParts.{text_then, then_text, close_then, then_close, NoneAt, unless_then, then_unless, none_passes, passes_none, IsRuleOf, Row, many_to, many_from, run_to, run_from, parts_to, parts_from, all_pass, or_same}
+use Rattle.rl_theorem.proofs.EscapeRules.{hex_text, hex_value, hex_to as x_to, hex_from as x_from}
 use Rattle.rl_theorem.proofs.QuotedRules.{in_quotes, in_string, alone, passes_cut, passes_joined}
 use Rattle.rl_theorem.proofs.NumberRules.{of_base, without_digit, split}
 
@@ -34,12 +34,7 @@ letter_to Quote after = inr (inr (inr ([], (refl, refl), refl)))
 
 hex_to : (high low : ℕ) (after : List ℕ) → is_hex_digit high ≡ true → is_hex_digit low ≡ true
     → Means byte_escape (hex_text high low) after (hex_value high low)
-hex_to high low after h l =
-    inl (text_then (92 ∷ 120 ∷ []) (As (λ ds. place_value 16 ds ∷ []) (digit 16 ⋅ digit 16)) (high ∷ low ∷ []) after (hex_value high low) (
-      high ∷ low ∷ [],
-      (high ∷ [], low ∷ [], high ∷ [], low ∷ [], refl, refl, (high, h, refl, refl), (low, l, refl, refl)),
-      refl,
-    ))
+hex_to high low after h l = inl (x_to 16 high low after h (hex_is_sixteen low ∙ l))
 
 -- An escape that BYTE_ESCAPE has: `\x`, or an escape of one character.
 abbrev Escape : List ℕ → List ℕ → Type 0
@@ -49,16 +44,8 @@ Escape text value =
 
 escape_from : (text after value : List ℕ) → Means byte_escape text after value → Escape text value
 escape_from text after value (inl m) =
-    let (w, text_is, (z, (a, b, p, q, w_is, z_is, (high, h, a_is, p_is), (low, l, b_is, q_is)), value_is)) =
-    then_text (92 ∷ 120 ∷ []) (As (λ ds. place_value 16 ds ∷ []) (digit 16 ⋅ digit 16)) text after value m in
-    inl (
-      high,
-      low,
-      h,
-      l,
-      text_is ∙ ap (λ k. 92 ∷ 120 ∷ k) (w_is ∙ ap (λ k. k ++ b) a_is ∙ ap (λ k. high ∷ k) b_is),
-      value_is ∙ ap (λ k. place_value 16 k ∷ []) (z_is ∙ ap (λ k. k ++ q) p_is ∙ ap (λ k. high ∷ k) q_is),
-    )
+    let (high, low, h, l, t, v) = x_from 16 text after value m in
+    inl (high, low, h, sym (hex_is_sixteen low) ∙ l, t, v)
 escape_from text after value (inr (inl (inl (x, (t, e), v)))) = inr (LowerN, t, v)
 escape_from text after value (inr (inl (inr (inl (x, (t, e), v))))) = inr (LowerR, t, v)
 escape_from text after value (inr (inl (inr (inr (inl (x, (t, e), v)))))) = inr (LowerT, t, v)
@@ -137,25 +124,13 @@ abbrev is_space : ℕ → Bool
 is_space c = eqb c 32 || (eqb c 9 || (eqb c 10 || (eqb c 13 || false)))
 
 spaces : (c : ℕ) → is_blank c ≡ is_space c
-spaces c = go (eqb c 32) (eqb c 9) (eqb c 10) (eqb c 13)
-  where
-    go : (a b d e : Bool) → (((a || b) || d) || e) ≡ (a || (b || (d || (e || false))))
-    go true b d e = refl
-    go false true d e = refl
-    go false false true e = refl
-    go false false false true = refl
-    go false false false false = refl
+spaces c = or_same (eqb c 32) (eqb c 9 ∷ eqb c 10 ∷ eqb c 13 ∷ [])
 
 abbrev is_end : ℕ → Bool
 is_end c = eqb c 10 || (eqb c 13 || false)
 
 line_ends : (c : ℕ) → is_line_end c ≡ is_end c
-line_ends c = go (eqb c 10) (eqb c 13)
-  where
-    go : (a b : Bool) → (a || b) ≡ (a || (b || false))
-    go true b = refl
-    go false true = refl
-    go false false = refl
+line_ends c = or_same (eqb c 10) (eqb c 13 ∷ [])
 
 abbrev line_break : Rule
 line_break = Text (92 ∷ []) ⋅ One is_end ⋅ Many (One is_space)
@@ -217,11 +192,7 @@ pub ascii_itself : (c : ℕ) → nat_lt c 128 ≡ true → encode_utf8_all (c �
 ascii_itself c h = (ap (λ z. z ++ []) (encode_ascii c (ltb-true c 128 h)))
 
 not_slash : (c : ℕ) → not (eqb c 92) ≡ but (codes "\\") c
-not_slash c = go (eqb c 92)
-  where
-    go : (b : Bool) → not b ≡ not (b || false)
-    go true = refl
-    go false = refl
+not_slash c = ap not (or_same (eqb c 92) [])
 
 char_unit : UnitRule Char char_inside
 char_unit = record { to = to; from = from }
@@ -317,18 +288,12 @@ byte_str_unit = record { to = to; from = from }
         let (end, run, ending, each, e, t, v) = continue_from text after value m in
         (Continuation end run, ((refl, ending, each), e), t, v)
 
-c_plain : (c : ℕ) → not (((eqb c 34 || eqb c 92) || eqb c 13) || eqb c 0) ≡ but (0 ∷ codes "\"\\\r") c
-c_plain c = ap not (go (eqb c 34) (eqb c 92) (eqb c 13) (eqb c 0))
+c_plain : (c : ℕ) → not (((eqb c 34 || eqb c 92) || eqb c 13) || eqb c 0) ≡ (but (codes "\"\\\r") c && not (eqb c 0))
+c_plain c = apart ((eqb c 34 || eqb c 92) || eqb c 13) (eqb c 0) ∙ ap (λ b. b && not (eqb c 0)) (in_string c)
   where
-    go : (a b d z : Bool) → (((a || b) || d) || z) ≡ (z || (a || (b || (d || false))))
-    go true b d true = refl
-    go true b d false = refl
-    go false true d true = refl
-    go false true d false = refl
-    go false false true true = refl
-    go false false true false = refl
-    go false false false true = refl
-    go false false false false = refl
+    apart : (a b : Bool) → not (a || b) ≡ (not a && not b)
+    apart true b = refl
+    apart false b = refl
 
 without_true : (a b : Bool) → (a && (true || b)) ≡ true → a ≡ true
 without_true true b h = refl

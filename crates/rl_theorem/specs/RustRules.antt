@@ -91,16 +91,24 @@ string_content = One (but (codes "\"\\\r")) ∣ quote_escape ∣ ascii_escape �
 abbrev pub string_literal : Rule
 string_literal = Text (codes "\"") ⋅ Many string_content ⋅ Text (codes "\"")
 
+-- ASCII_FOR_CHAR: an ASCII character other than `'`, `\`, LF, CR and TAB.
+abbrev pub ascii_for_char : Rule
+ascii_for_char = One (λ c. is_ascii c && but (codes "'\\\n\r\t") c)
+
 -- BYTE_LITERAL: `b`, and between single quotes ASCII_FOR_CHAR or BYTE_ESCAPE.
 abbrev pub byte_content : Rule
-byte_content = One (λ c. is_ascii c && but (codes "'\\\n\r\t") c) ∣ byte_escape
+byte_content = ascii_for_char ∣ byte_escape
 
 abbrev pub byte_literal : Rule
 byte_literal = Text (codes "b'") ⋅ byte_content ⋅ Text (codes "'")
 
+-- ASCII_FOR_STRING: an ASCII character other than `"`, `\` and CR.
+abbrev pub ascii_for_string : Rule
+ascii_for_string = One (λ c. is_ascii c && but (codes "\"\\\r") c)
+
 -- BYTE_STRING_LITERAL: `b`, and between double quotes any number of ASCII_FOR_STRING, BYTE_ESCAPE and STRING_CONTINUE.
 abbrev pub byte_string_content : Rule
-byte_string_content = One (λ c. is_ascii c && but (codes "\"\\\r") c) ∣ byte_escape ∣ string_continue
+byte_string_content = ascii_for_string ∣ byte_escape ∣ string_continue
 
 abbrev pub byte_string_literal : Rule
 byte_string_literal = Text (codes "b\"") ⋅ Many byte_string_content ⋅ Text (codes "\"")
@@ -113,7 +121,7 @@ not_nul a = If (list_all (λ c. not (c == 0))) a
 -- escapes that aren't NUL. The value is bytes. Characters are encoded as UTF-8, and `\x` is one byte.
 abbrev pub c_string_content : Rule
 c_string_content =
-    As encode_utf8_all (One (but (0 ∷ codes "\"\\\r"))) ∣ not_nul byte_escape
+    As encode_utf8_all (One (λ c. but (codes "\"\\\r") c && not (c == 0))) ∣ not_nul byte_escape
     ∣ As encode_utf8_all (not_nul u_escape) ∣ string_continue
 
 abbrev pub c_string_literal : Rule
@@ -143,9 +151,18 @@ raw_c_string_literal = As encode_utf8_all (raw (codes "cr") (λ c. not (c == 0))
 abbrev pub dec_literal : Rule
 dec_literal = digit 10 ⋅ digits 10
 
--- BIN_LITERAL, OCT_LITERAL, HEX_LITERAL: the prefix, and digits and underscores with at least one digit.
 abbrev pub with_prefix : List ℕ → ℕ → Rule
 with_prefix prefix base = Text prefix ⋅ some_digits base
+
+-- BIN_LITERAL, OCT_LITERAL, HEX_LITERAL: the prefix, and digits and underscores with at least one digit.
+abbrev pub bin_literal : Rule
+bin_literal = with_prefix (codes "0b") 2
+
+abbrev pub oct_literal : Rule
+oct_literal = with_prefix (codes "0o") 8
+
+abbrev pub hex_literal : Rule
+hex_literal = with_prefix (codes "0x") 16
 
 -- The value of digits: their number in base ten.
 abbrev pub number : ℕ → Rule → Rule
@@ -159,8 +176,7 @@ no_prefix = Unless (Text (codes "0b") ∣ Text (codes "0o") ∣ Text (codes "0x"
 -- `_` nor, in base 16, a digit begins the suffix.
 abbrev pub integer_literal : Rule
 integer_literal =
-    (no_prefix ⋅ number 10 dec_literal ∣ number 2 (with_prefix (codes "0b") 2)
-    ∣ number 8 (with_prefix (codes "0o") 8) ∣ number 16 (with_prefix (codes "0x") 16) ⋅ Unless (digit 16))
+    (no_prefix ⋅ number 10 dec_literal ∣ number 2 bin_literal ∣ number 8 oct_literal ∣ number 16 hex_literal ⋅ Unless (digit 16))
     ⋅ Unless (any_of (codes "eE_"))
 
 -- FLOAT_EXPONENT: `e` or `E`, perhaps a sign, and digits and underscores with at least one digit. Its value has `e`, and

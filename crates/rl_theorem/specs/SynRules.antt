@@ -11,7 +11,7 @@ use Rattle.rl_syntax.specs.Spelling.{place_value}
 use Rattle.rl_syntax.specs.Numbers.{limit}
 use Rattle.rl_syntax.specs.Reading.{Contents, Reads}
 use Rattle.rl_theorem.specs.Notation.{Rule, Text, One, Many, As, If, Some, Unless, ◌⋅◌, ◌∣◌, maybe, any_of, but, end, ◌is◌, skip}
-use Rattle.rl_theorem.specs.RustRules.{identifier_or_keyword, digit, digits, some_digits, byte_escape, not_nul, dec_literal, with_prefix, number, no_prefix, boolean_literal, IsLiteralBy}
+use Rattle.rl_theorem.specs.RustRules.{identifier_or_keyword, digit, digits, some_digits, byte_escape, not_nul, ascii_for_char, ascii_for_string, dec_literal, bin_literal, oct_literal, hex_literal, number, no_prefix, boolean_literal, IsLiteralBy}
 
 -- ---- characters and escapes
 
@@ -46,9 +46,9 @@ char_inside = One (but (codes "\\")) ∣ ascii_only byte_escape ∣ backslash_u
 abbrev pub parse_lit_char : Rule
 parse_lit_char = Text (codes "'") ⋅ char_inside ⋅ Text (codes "'")
 
--- `parse_lit_byte`: `b`, and between single quotes an ASCII character other than `'`, `\`, LF, CR and TAB, or an escape.
+-- `parse_lit_byte`: `b`, and between single quotes ASCII_FOR_CHAR or an escape.
 abbrev pub byte_inside : Rule
-byte_inside = One (λ c. is_ascii c && but (codes "'\\\n\r\t") c) ∣ byte_escape
+byte_inside = ascii_for_char ∣ byte_escape
 
 abbrev pub parse_lit_byte : Rule
 parse_lit_byte = Text (codes "b'") ⋅ byte_inside ⋅ Text (codes "'")
@@ -63,7 +63,7 @@ parse_lit_str_cooked = Text (codes "\"") ⋅ Many str_inside ⋅ Text (codes "\"
 
 -- `parse_lit_byte_str_cooked`: the same after `b`, where characters are ASCII. There is no escape `\u{..}`.
 abbrev pub byte_str_inside : Rule
-byte_str_inside = One (λ c. is_ascii c && but (codes "\"\\\r") c) ∣ cr_lf ∣ byte_escape ∣ line_continue
+byte_str_inside = ascii_for_string ∣ cr_lf ∣ byte_escape ∣ line_continue
 
 abbrev pub parse_lit_byte_str_cooked : Rule
 parse_lit_byte_str_cooked = Text (codes "b\"") ⋅ Many byte_str_inside ⋅ Text (codes "\"")
@@ -71,7 +71,7 @@ parse_lit_byte_str_cooked = Text (codes "b\"") ⋅ Many byte_str_inside ⋅ Text
 -- `parse_lit_c_str_cooked`: the same after `c`, without NUL. The value is bytes.
 abbrev pub c_str_inside : Rule
 c_str_inside =
-    As encode_utf8_all (One (but (0 ∷ codes "\"\\\r"))) ∣ cr_lf ∣ not_nul byte_escape
+    As encode_utf8_all (One (λ c. but (codes "\"\\\r") c && not (c == 0))) ∣ cr_lf ∣ not_nul byte_escape
     ∣ As encode_utf8_all (not_nul backslash_u) ∣ line_continue
 
 abbrev pub parse_lit_c_str_cooked : Rule
@@ -115,8 +115,8 @@ abbrev pub parse_lit_int : (ℕ → Bool) → Rule
 parse_lit_int test =
     maybe (any_of (codes "-"))
     ⋅ (no_prefix ⋅ tested_number test 10 dec_literal ⋅ Unless exponent_suffix
-    ∣ tested_number test 2 (with_prefix (codes "0b") 2) ∣ tested_number test 8 (with_prefix (codes "0o") 8)
-    ∣ tested_number test 16 (with_prefix (codes "0x") 16) ⋅ Unless (digit 16))
+    ∣ tested_number test 2 bin_literal ∣ tested_number test 8 oct_literal
+    ∣ tested_number test 16 hex_literal ⋅ Unless (digit 16))
 
 -- `parse_lit_float`: perhaps a minus, digits, perhaps a dot and any number of digits, and perhaps an exponent. If there is
 -- no exponent, the suffix doesn't begin like one.

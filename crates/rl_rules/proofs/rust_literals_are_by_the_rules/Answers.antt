@@ -1,5 +1,0 @@
-use Rattle.rl_rules.proofs.LiteralRules.{strict_is_by_the_rules}
-use Rattle.rl_rules.proofs.rust_literals_are_by_the_rules.Goals as goal
-
-pub returns : goal.returns
-returns c = strict_is_by_the_rules

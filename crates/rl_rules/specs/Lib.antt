@@ -1,3 +1,0 @@
-pub mod Notation
-pub mod Grammar
-pub mod SynGrammar
