@@ -53,11 +53,11 @@ letter_escape =
 abbrev pub x_escape : ℕ → Rule
 x_escape below = Text (codes "\\x") ⋅ As (λ ds. place_value 16 ds ∷ []) (digit below ⋅ digit 16)
 
--- ASCII_ESCAPE: `\x`, an octal and a hexadecimal digit; or the escape of a letter.
+-- ASCII_ESCAPE: `\x` with an octal and a hexadecimal digit, or the escape of a letter.
 abbrev pub ascii_escape : Rule
 ascii_escape = x_escape 8 ∣ letter_escape
 
--- BYTE_ESCAPE: `\x` and two hexadecimal digits; or the escape of a letter or of a quote.
+-- BYTE_ESCAPE: `\x` with two hexadecimal digits, or the escape of a letter or of a quote.
 abbrev pub byte_escape : Rule
 byte_escape = x_escape 16 ∣ letter_escape ∣ quote_escape
 
@@ -71,7 +71,7 @@ u_escape =
     (Many (digit 16 ⋅ Many (Text (codes "_")))))
     ⋅ Text (codes "}")
 
--- STRING_CONTINUE: a backslash and an LF. Chapter Literal expressions drops all spaces, TABs and LFs after them too.
+-- STRING_CONTINUE: a backslash and an LF. By chapter Literal expressions, all spaces, TABs and LFs after them are dropped.
 abbrev pub string_continue : Rule
 string_continue = skip (Text (codes "\\\n") ⋅ Many (any_of (codes " \t\n"))) ⋅ Unless (any_of (codes " \t\n"))
 
@@ -151,10 +151,11 @@ raw_c_string_literal = As encode_utf8_all (raw (codes "cr") (λ c. not (c == 0))
 abbrev pub dec_literal : Rule
 dec_literal = digit 10 ⋅ digits 10
 
+-- A prefix, and digits and underscores with at least one digit.
 abbrev pub with_prefix : List ℕ → ℕ → Rule
 with_prefix prefix base = Text prefix ⋅ some_digits base
 
--- BIN_LITERAL, OCT_LITERAL, HEX_LITERAL: the prefix, and digits and underscores with at least one digit.
+-- BIN_LITERAL, OCT_LITERAL, HEX_LITERAL.
 abbrev pub bin_literal : Rule
 bin_literal = with_prefix (codes "0b") 2
 
@@ -185,8 +186,8 @@ abbrev pub float_exponent : Rule
 float_exponent =
     (any_of (codes "e") ∣ codes "E" is code "e") ⋅ maybe (Text (codes "+") ∣ any_of (codes "-")) ⋅ some_digits 10
 
--- FLOAT_LITERAL: digits and a dot at the end of the text; digits, a dot and digits, with SUFFIX_NO_E; or digits, perhaps a
--- dot and digits, and an exponent.
+-- FLOAT_LITERAL, in three forms. The first is digits and a dot at the end of the text. The second is digits, a dot and
+-- digits, with SUFFIX_NO_E. The third is digits, perhaps a dot and digits, and an exponent.
 abbrev pub float_literal : Rule
 float_literal =
     no_prefix
