@@ -5,7 +5,8 @@ from .rules import FILES, code_of
 
 # Rules that a diagram shows by their parts, since they have parameters or stand for what is between quotes.
 PARTS = ('char_content string_content byte_content byte_string_content c_string_content char_inside str_inside byte_inside '
-         'byte_str_inside c_str_inside raw raw_to_last x_escape not_nul ascii_only digits some_digits with_prefix number tested_number').split()
+         'byte_str_inside c_str_inside raw raw_to_last x_escape not_nul ascii_only digits some_digits with_prefix number '
+         'tested_number').split()
 # Rules of which there is no diagram: conditions on the text that follows, and the choice by kind.
 HIDDEN = 'digit no_prefix exponent_suffix literal as_contents syn_literal syn_suffix IsLiteral IsSynLiteral'.split()
 CLASSES = {'is_xid_start': 'XID_Start', 'is_xid_continue': 'XID_Continue'}
