@@ -23,8 +23,8 @@ use proc_macro::{Delimiter, Group, Spacing, Span, TokenStream, TokenTree};
 /// A value is an expression, or a type such as `HashMap<K, V>`. It ends at the next comma outside of brackets and of the parameters
 /// of a closure. `<` opens brackets where Rust reads it so: where an operand or a type is expected, after `::`, and in the return type
 /// of a closure. After a name, `<` opens brackets if a comma, `+`, `::` or the end follows the `>` that closes them, since an operand
-/// follows an operator `>`. So the value of `a = x < y, b = z > w` is `x < y`. `I<A, B = C>::D` is the one type that isn't read as
-/// one, because `x < y, b = z > ::w` are two entries. Write `<I<A, B = C>>::D`.
+/// follows an operator `>`. So the value of `a = x < y, b = z > w` is `x < y`. `a = x < y, b = z > ::w` is an error, because it may be
+/// one type or two comparisons. Write `x::<y, b = z>::w`, or `(x < y)`.
 ///
 /// The methods `string`, `number`, `flag` and `literal_of` read a value that is one literal. A number may follow a minus.
 /// `macro_rules!` may pass the literal on as `$e:literal`.
@@ -143,15 +143,14 @@ impl Meta {
         let (mut trees, mut metas) = (Trees::of(input), Vec::new());
         while trees.peek().is_some() {
             metas.push(next_meta(&mut trees)?);
-            match trees.next() {
-                None => break,
-                Some(tree) if is_mark(&tree, ',') => {}
-                Some(tree) if is_mark(&tree, '>') => {
-                    let message = "expected `,`: before `<` with a comma inside, write `::`";
-                    return Err(MacroError::new(message, tree.span()));
-                }
-                Some(tree) => return Err(MacroError::new("expected `,`", tree.span())),
-            }
+            let Some(tree) = trees.next() else { break };
+            let message = match mark_of(&tree) {
+                Some(',') => continue,
+                Some('>') => "expected `,`: before `<` with a comma inside, write `::`",
+                Some('<') => "ambiguous `<`: write `::<`, or a comparison in parentheses",
+                _ => "expected `,`",
+            };
+            return Err(MacroError::new(message, tree.span()));
         }
         Ok(metas)
     }
@@ -556,8 +555,8 @@ struct Trees {
 /// The trees of the input, or of a group without brackets.
 struct Level {
     trees: Peekable<IntoIter>,
-    /// Whether each of the trees is a `<` that opens angle brackets.
-    opens: vec::IntoIter<bool>,
+    /// For each of the trees `Open` or `Ambiguous`, if it is a `<` of this class.
+    opens: vec::IntoIter<Option<Shape>>,
 }
 
 impl Level {
@@ -570,15 +569,10 @@ impl Level {
     }
 }
 
-/// Returns for each of the trees whether it is a `<` that opens angle brackets: what follows the matching `>` is no operand. So the
-/// `>` is no operator.
-fn opening(input: TokenStream) -> Vec<bool> {
-    let mark_of = |tree| match tree {
-        TokenTree::Punct(punct) => Some(punct.as_char()),
-        _ => None,
-    };
-    let marks: Vec<Option<char>> = input.into_iter().map(mark_of).collect();
-    let mut opens = vec![false; marks.len()];
+/// Returns `Open` for each `<` of the trees that opens angle brackets: no operand follows the matching `>`, so the `>` is no operator.
+fn opening(input: TokenStream) -> Vec<Option<Shape>> {
+    let marks: Vec<Option<char>> = input.into_iter().map(|tree| mark_of(&tree)).collect();
+    let mut opens = vec![None; marks.len()];
     let (mut open, mut equals) = (Vec::new(), 0);
     for (at, &mark) in marks.iter().enumerate() {
         match mark {
@@ -589,10 +583,11 @@ fn opening(input: TokenStream) -> Vec<bool> {
                     continue;
                 };
                 opens[from] = match marks.get(at + 1) {
-                    None | Some(Some(',' | '+')) => true,
-                    // With `=` inside, `::` may be an operand, and the `=` that of the next entry.
-                    Some(Some(':')) => equals == before,
-                    Some(_) => false,
+                    None | Some(Some(',' | '+')) => Some(Shape::Open),
+                    Some(Some(':')) if equals == before => Some(Shape::Open),
+                    // The `::` may begin an operand, and the `=` inside may be that of the next entry.
+                    Some(Some(':')) => Some(Shape::Ambiguous),
+                    Some(_) => None,
                 };
             }
             _ => {}
@@ -629,7 +624,7 @@ impl Trees {
     fn shape(&mut self) -> Option<Shape> {
         let level = self.innermost()?;
         match level.opens.as_slice() {
-            [true, ..] => Some(Shape::Open),
+            [Some(shape), ..] => Some(*shape),
             _ => level.trees.peek().map(shape_of),
         }
     }
@@ -678,8 +673,16 @@ impl Trees {
 }
 
 #[inline]
+fn mark_of(tree: &TokenTree) -> Option<char> {
+    match tree {
+        TokenTree::Punct(punct) => Some(punct.as_char()),
+        _ => None,
+    }
+}
+
+#[inline]
 fn is_mark(tree: &TokenTree, mark: char) -> bool {
-    matches!(tree, TokenTree::Punct(punct) if punct.as_char() == mark)
+    mark_of(tree) == Some(mark)
 }
 
 /// Consumes and returns the next entry.
