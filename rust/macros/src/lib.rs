@@ -471,3 +471,15 @@ pub fn digits(input: TokenStream) -> TokenStream {
         Err(error) => shown_errors(error),
     }
 }
+
+/// Returns the array of `digits`.
+#[proc_macro]
+pub fn checked_digits(input: TokenStream) -> TokenStream {
+    or_error(attributes::digits(input))
+}
+
+/// Returns the string of `without_brace`.
+#[proc_macro]
+pub fn checked_text(input: TokenStream) -> TokenStream {
+    or_error(places::without_brace(input))
+}
