@@ -96,23 +96,26 @@ fn styles() -> Vec<Style> {
     styles.concat()
 }
 
-/// Returns pairs of literals for the number: as the compiler's own function writes it, and as the package writes it with a suffix, and
-/// in each base and style. In base ten the texts of a pair must be the same.
+/// Returns pairs of literals for the number: as the compiler's own function writes it, and as the package writes it in each base and
+/// style, with a suffix and without. In base ten the texts of a pair must be the same.
 fn of_integer<N: Integer>(
     value: N,
     suffixed: &Literal,
     unsuffixed: &Literal,
 ) -> Vec<(String, String)> {
     let theirs = suffixed.to_string();
-    assert_eq!(LitInt::suffixed(value).text(), theirs);
+    let written = LitInt::suffixed(value);
+    assert_eq!(written.text(), theirs);
     assert_eq!(LitInt::unsuffixed(value).text(), unsuffixed.to_string());
-    let bases = [Base::Binary, Base::Octal, Base::Decimal, Base::Hexadecimal];
-    let written = |base| {
-        let write = move |style| write_integer(value, base, style);
-        styles().into_iter().map(write)
-    };
-    let ours = bases.into_iter().flat_map(written);
-    ours.map(|ours| (theirs.clone(), ours)).collect()
+    let mut pairs = Vec::new();
+    for base in [Base::Binary, Base::Octal, Base::Decimal, Base::Hexadecimal] {
+        for style in styles() {
+            let ours = write_integer(value, base, style);
+            pairs.push((theirs.clone(), ours.clone() + written.suffix()));
+            pairs.push((theirs.clone(), ours));
+        }
+    }
+    pairs
 }
 
 macro_rules! integers {
