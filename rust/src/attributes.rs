@@ -70,6 +70,26 @@ impl Attrs {
         Ok(Attrs::of(Meta::parse_all(input)?, None))
     }
 
+    /// Parses the entries of a text, such as in a test of a function that reads attributes. They can be read outside of a macro too,
+    /// except as tokens or with spans of the compiler. This method needs the feature `sources` or `settings`.
+    ///
+    /// # Errors
+    ///
+    /// Returns the error of [`Meta::parse_all`], or an error if the text isn't tokens.
+    ///
+    /// ```
+    /// let attrs = navyspindle::Attrs::parse_text("name = \"a\", inner(size = 1)")?;
+    /// assert_eq!(attrs.string("name")?.as_deref(), Some("a"));
+    /// assert_eq!(attrs.list("inner")?.unwrap().number::<u8>("size")?, Some(1));
+    /// assert_eq!(attrs.flag("inner").unwrap_err().to_string(), "unexpected list");
+    /// # Ok::<(), navyspindle::MacroError>(())
+    /// ```
+    #[cfg(any(feature = "sources", feature = "settings"))]
+    pub fn parse_text(text: &str) -> Result<Attrs, MacroError> {
+        let trees = crate::trees::of_text(text)?;
+        Ok(Attrs::of(crate::meta::entries_of(trees)?, None))
+    }
+
     /// Joins the entries of the lists with the name `name` among `metas`, such as those of `#[opt(a = 1)] #[opt(b = 2)]`. Other
     /// names are ignored. Without a list, the result has no entries.
     ///
@@ -337,8 +357,8 @@ impl Attrs {
     /// ```
     #[must_use]
     pub fn error(&self, message: impl fmt::Display) -> MacroError {
-        let (first, last) = self.place.unwrap_or((Span::call_site(), Span::call_site()));
-        MacroError::between(message, first, last)
+        let (first, last) = self.place.unzip();
+        MacroError::near(message, first, last)
     }
 }
 

@@ -102,6 +102,8 @@ mod strings;
 mod style;
 #[cfg(all(feature = "settings", feature = "style"))]
 mod style_settings;
+#[cfg(feature = "proc-macro")]
+mod trees;
 #[cfg(feature = "flaws")]
 mod types;
 mod unicode;

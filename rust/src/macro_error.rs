@@ -114,7 +114,20 @@ impl MacroError {
     /// ```
     #[must_use]
     pub fn between(message: impl fmt::Display, first: Span, last: Span) -> Self {
-        MacroError::of(&message, Some(Place::between(first, last)))
+        MacroError::near(message, Some(first), Some(last))
+    }
+
+    /// Creates an error at the tokens from `first` to `last`, or at the macro's call.
+    pub(crate) fn near(
+        message: impl fmt::Display,
+        first: Option<Span>,
+        last: Option<Span>,
+    ) -> Self {
+        let place = first.zip(last);
+        MacroError::of(
+            &message,
+            place.map(|(first, last)| Place::between(first, last)),
+        )
     }
 
     #[inline]

@@ -3,17 +3,17 @@
 use crate::attributes::Attrs;
 use crate::located::Located;
 use crate::macro_error::{MacroError, Mismatch};
-use crate::proc_macros::{next_placed, LitOfKind, Placed};
+use crate::proc_macros::{at, next_placed, LitOfKind, Placed};
+use crate::trees::{self, Tree};
 use crate::value::Number;
 use crate::value_end::{Shape, ValueEnd};
-use crate::{Kind, Lit, LitFloat, LitStr};
-use alloc::string::{String, ToString};
+use crate::{Kind, Lit, LitBool, LitFloat, LitStr};
+use alloc::string::String;
 use alloc::vec;
 use alloc::vec::Vec;
 use core::fmt;
 use core::iter::Peekable;
-use proc_macro::token_stream::IntoIter;
-use proc_macro::{Delimiter, Group, Spacing, Span, TokenStream, TokenTree};
+use proc_macro::{Delimiter, Spacing, Span, TokenStream, TokenTree};
 
 /// An entry of an attribute: a flag (`verbose`), a value (`name = "x"`, `max = u8::MAX`) or a list (`inner(a = 1)`).
 ///
@@ -61,8 +61,8 @@ use proc_macro::{Delimiter, Group, Spacing, Span, TokenStream, TokenTree};
 #[derive(Clone)]
 pub struct Meta {
     name: String,
-    first: Span,
-    last: Span,
+    first: Option<Span>,
+    last: Option<Span>,
     form: Form,
 }
 
@@ -70,8 +70,8 @@ pub struct Meta {
 #[derive(Clone)]
 enum Form {
     Flag,
-    Value(Vec<TokenTree>),
-    List(Group),
+    Value(Vec<Tree>),
+    List(Tree),
 }
 
 /// The form of an entry of an attribute.
@@ -116,11 +116,11 @@ impl Meta {
     /// ```
     #[inline]
     pub fn parse(input: TokenStream) -> Result<Meta, MacroError> {
-        let mut trees = Trees::of(input);
+        let mut trees = Trees::of(trees::of_tokens(input));
         let meta = next_meta(&mut trees)?;
         match trees.next() {
             None => Ok(meta),
-            Some(tree) => Err(MacroError::new("unexpected token", tree.span())),
+            Some(tree) => Err(tree.error("unexpected token")),
         }
     }
 
@@ -140,19 +140,7 @@ impl Meta {
     /// ```
     #[inline]
     pub fn parse_all(input: TokenStream) -> Result<Vec<Meta>, MacroError> {
-        let (mut trees, mut metas) = (Trees::of(input), Vec::new());
-        while trees.peek().is_some() {
-            metas.push(next_meta(&mut trees)?);
-            let Some(tree) = trees.next() else { break };
-            let message = match mark_of(&tree) {
-                Some(',') => continue,
-                Some('>') => "expected `,`: before `<` with a comma inside, write `::`",
-                Some('<') => "ambiguous `<`: write `::<`, or a comparison in parentheses",
-                _ => "expected `,`",
-            };
-            return Err(MacroError::new(message, tree.span()));
-        }
-        Ok(metas)
+        entries_of(trees::of_tokens(input))
     }
 
     /// Returns the entry's name, without `r#`. The parts of a path have `::` between them.
@@ -206,7 +194,7 @@ impl Meta {
     #[inline]
     #[must_use]
     pub fn span(&self) -> Span {
-        self.first
+        at(self.first)
     }
 
     /// Creates an error at the entry's name.
@@ -219,7 +207,7 @@ impl Meta {
     /// ```
     #[must_use]
     pub fn error(&self, message: impl fmt::Display) -> MacroError {
-        MacroError::between(message, self.first, self.last)
+        MacroError::near(message, self.first, self.last)
     }
 
     /// Creates an error at the value, from its first token to its last. For a list, the error is at the whole list. For a flag, the
@@ -241,9 +229,9 @@ impl Meta {
         match &self.form {
             Form::Value(trees) => {
                 let (first, last) = (&trees[0], &trees[trees.len() - 1]);
-                MacroError::between(message, first.span(), last.span())
+                MacroError::near(message, first.span(), last.span())
             }
-            Form::List(group) => MacroError::new(message, group.span()),
+            Form::List(group) => group.error(message),
             Form::Flag => self.error(message),
         }
     }
@@ -277,7 +265,7 @@ impl Meta {
     #[must_use]
     pub fn literal(&self) -> Option<(Lit<'static>, Span)> {
         let placed = self.placed("literal").ok()?;
-        Some((placed.literal, placed.span))
+        Some((placed.literal, at(placed.span)))
     }
 
     /// Returns the entry's value as a literal of kind `L`, and the span of the literal's token, without its minus.
@@ -296,7 +284,7 @@ impl Meta {
     /// # Ok::<(), navyspindle::MacroError>(())
     /// ```
     pub fn literal_of<L: LitOfKind>(&self) -> Result<(L, Span), MacroError> {
-        self.placed(L::KIND)?.of_kind()
+        self.located().map(Located::into_parts)
     }
 
     /// Returns the entry's value as a literal of kind `L`, with its spans.
@@ -343,24 +331,25 @@ impl Meta {
         let group = match &self.form {
             Form::List(group) => group,
             Form::Value(trees) => match &trees[..] {
-                [TokenTree::Group(group)] if group.delimiter() == Delimiter::Bracket => group,
+                [group] if group.delimiter() == Some(Delimiter::Bracket) => group,
                 _ => return Err(self.value_error("expected an array: `[..]`")),
             },
-            Form::Flag => {
-                return Err(self.error(format_args!("expected a list: `{}(..)`", self.name)))
-            }
+            Form::Flag => return Err(self.list_error()),
         };
-        let (mut trees, mut literals) = (group.stream().into_iter().peekable(), Vec::new());
-        while trees.peek().is_some() {
-            literals.push(Located::next(&mut trees)?);
+        let (mut trees, mut literals) = (group.inside().into_iter(), Vec::new());
+        while !trees.as_slice().is_empty() {
+            literals.push(Located::of(next_placed(&mut trees, L::KIND)?)?);
             match trees.next() {
-                Some(tree) if !is_mark(&tree, ',') => {
-                    return Err(MacroError::new("expected `,`", tree.span()))
-                }
+                Some(tree) if !tree.is_mark(',') => return Err(tree.error("expected `,`")),
                 _ => {}
             }
         }
         Ok(literals)
+    }
+
+    /// Creates the error that a flag should be a list.
+    fn list_error(&self) -> MacroError {
+        self.error(format_args!("expected a list: `{}(..)`", self.name))
     }
 
     /// Returns the value of the entry's string literal. The literal must have no suffix.
@@ -377,13 +366,10 @@ impl Meta {
     /// ```
     #[inline]
     pub fn string(&self) -> Result<String, MacroError> {
-        let (literal, span) = self.literal_of::<LitStr>()?;
+        let literal = self.located::<LitStr>()?;
         match literal.suffix() {
-            "" => Ok(literal.into_value().into_owned()),
-            suffix => Err(MacroError::new(
-                format_args!("unexpected suffix `{suffix}`"),
-                span,
-            )),
+            "" => Ok(literal.into_literal().into_value().into_owned()),
+            suffix => Err(literal.error(format_args!("unexpected suffix `{suffix}`"))),
         }
     }
 
@@ -409,18 +395,14 @@ impl Meta {
             false => Kind::Int,
         };
         let placed = self.placed(expected)?;
-        let (first, span) = (placed.first, placed.span);
         let number = match &placed.literal {
             Lit::Int(literal) => literal.value_or_float(),
             Lit::Float(literal) => literal.value(),
             // An integer above 128 bits that is a float by its suffix.
             Lit::Verbatim(large) => LitFloat::of_text(large.text())?.value(),
-            other => {
-                let message = Mismatch(expected, other.kind());
-                return Err(MacroError::between(message, first, span));
-            }
+            other => return Err(placed.error(Mismatch(expected, other.kind()))),
         };
-        number.map_err(|error| MacroError::between(error.message(), first, span))
+        number.map_err(|error| placed.error(error.message()))
     }
 
     /// Returns `true` for a flag and for the value `true`, and `false` for the value `false`.
@@ -441,14 +423,14 @@ impl Meta {
     pub fn flag(&self) -> Result<bool, MacroError> {
         match &self.form {
             Form::Flag => Ok(true),
-            Form::Value(_) => match self.literal() {
-                Some((Lit::Bool(literal), _)) => Ok(literal.value()),
+            Form::Value(_) => match self.located::<LitBool>() {
+                Ok(literal) => Ok(literal.value()),
                 _ => {
                     let message = format_args!("unexpected value: write `{}` alone", self.name);
                     Err(self.value_error(message))
                 }
             },
-            Form::List(group) => Err(MacroError::new("unexpected list", group.span_open())),
+            Form::List(group) => Err(at_opening(group, "unexpected list")),
         }
     }
 
@@ -467,7 +449,7 @@ impl Meta {
     /// ```
     #[inline]
     pub fn value(&self) -> Result<TokenStream, MacroError> {
-        Ok(self.value_trees()?.iter().cloned().collect())
+        trees::tokens_of(self.value_trees()?)
     }
 
     /// Returns the tokens inside the entry's list.
@@ -487,11 +469,7 @@ impl Meta {
     /// ```
     #[inline]
     pub fn tokens(&self) -> Result<TokenStream, MacroError> {
-        match &self.form {
-            Form::List(group) => Ok(group.stream()),
-            Form::Flag => Err(self.error(format_args!("expected a list: `{}(..)`", self.name))),
-            Form::Value(trees) => Err(MacroError::new("expected a list", trees[0].span())),
-        }
+        trees::tokens_of(&self.list_trees()?)
     }
 
     /// Parses the tokens inside the entry's list as entries.
@@ -508,16 +486,24 @@ impl Meta {
     /// ```
     #[inline]
     pub fn list(&self) -> Result<Attrs, MacroError> {
-        let entries = Meta::parse_all(self.tokens()?)?;
-        Ok(Attrs::of(entries, Some((self.first, self.last))))
+        let entries = entries_of(self.list_trees()?)?;
+        Ok(Attrs::of(entries, self.first.zip(self.last)))
+    }
+
+    fn list_trees(&self) -> Result<Vec<Tree>, MacroError> {
+        match &self.form {
+            Form::List(group) => Ok(group.inside()),
+            Form::Flag => Err(self.list_error()),
+            Form::Value(trees) => Err(trees[0].error("expected a list")),
+        }
     }
 
     #[inline]
-    fn value_trees(&self) -> Result<&[TokenTree], MacroError> {
+    fn value_trees(&self) -> Result<&[Tree], MacroError> {
         match &self.form {
             Form::Value(trees) => Ok(trees),
             Form::Flag => Err(self.error(format_args!("expected a value: `{} = ..`", self.name))),
-            Form::List(group) => Err(MacroError::new("expected a value", group.span_open())),
+            Form::List(group) => Err(at_opening(group, "expected a value")),
         }
     }
 
@@ -528,7 +514,7 @@ impl Meta {
         let placed = next_placed(&mut trees, expected)?;
         match trees.next() {
             None => Ok(placed),
-            Some(tree) => Err(MacroError::new("expected `,`", tree.span())),
+            Some(tree) => Err(tree.error("expected `,`")),
         }
     }
 }
@@ -545,6 +531,11 @@ impl fmt::Debug for Meta {
     }
 }
 
+/// Creates an error at a group's opening delimiter.
+fn at_opening(group: &Tree, message: &str) -> MacroError {
+    MacroError::near(message, group.span_open(), group.span_open())
+}
+
 /// A cursor over token trees, with a view of the next tree and the span of the previous one. `open` is a stack: below the innermost
 /// opened group without brackets are the trees that follow the group.
 struct Trees {
@@ -554,53 +545,54 @@ struct Trees {
 
 /// The trees of the input, or of a group without brackets.
 struct Level {
-    trees: Peekable<IntoIter>,
+    trees: vec::IntoIter<Tree>,
     /// For each of the trees `Open` or `Ambiguous`, if it is a `<` of this class.
     opens: vec::IntoIter<Option<Shape>>,
 }
 
 impl Level {
     #[inline]
-    fn of(input: TokenStream) -> Level {
+    fn of(trees: Vec<Tree>) -> Level {
         Level {
-            opens: opening(input.clone()).into_iter(),
-            trees: input.into_iter().peekable(),
+            opens: opening(&trees).into_iter(),
+            trees: trees.into_iter(),
         }
     }
 }
 
 /// Returns `Open` for each `<` of the trees that opens angle brackets: no operand follows the matching `>`, so the `>` is no operator.
-fn opening(input: TokenStream) -> Vec<Option<Shape>> {
-    let marks: Vec<Option<char>> = input.into_iter().map(|tree| mark_of(&tree)).collect();
-    let mut opens = vec![None; marks.len()];
-    let (mut open, mut equals) = (Vec::new(), 0);
-    for (at, &mark) in marks.iter().enumerate() {
+fn opening(trees: &[Tree]) -> Vec<Option<Shape>> {
+    let mark_at = |at: usize| trees.get(at).map(|tree| tree.mark().map(|it| it.0));
+    let mut opens = vec![None; trees.len()];
+    let (mut open, mut equals, mut before) = (Vec::new(), 0, None);
+    for (at, tree) in trees.iter().enumerate() {
+        let mark = tree.mark().map(|it| it.0);
         match mark {
             Some('=') => equals += 1,
             Some('<') => open.push((at, equals)),
-            Some('>') if at == 0 || marks[at - 1] != Some('-') => {
-                let Some((from, before)) = open.pop() else {
-                    continue;
-                };
-                opens[from] = match marks.get(at + 1) {
-                    None | Some(Some(',' | '+')) => Some(Shape::Open),
-                    Some(Some(':')) if equals == before => Some(Shape::Open),
-                    // The `::` may begin an operand, and the `=` inside may be that of the next entry.
-                    Some(Some(':')) => Some(Shape::Ambiguous),
-                    Some(_) => None,
-                };
+            Some('>') if before != Some('-') => {
+                if let Some((from, equals_before)) = open.pop() {
+                    opens[from] = match mark_at(at + 1) {
+                        None | Some(Some(',' | '+')) => Some(Shape::Open),
+                        Some(Some(':')) if equals == equals_before => Some(Shape::Open),
+                        // The `::` may begin an operand, and the `=` inside may be that of the next entry.
+                        Some(Some(':')) => Some(Shape::Ambiguous),
+                        Some(_) => None,
+                    };
+                }
             }
             _ => {}
         }
+        before = mark;
     }
     opens
 }
 
 impl Trees {
     #[inline]
-    fn of(input: TokenStream) -> Trees {
+    fn of(trees: Vec<Tree>) -> Trees {
         Trees {
-            open: vec![Level::of(input)],
+            open: vec![Level::of(trees)],
             before: None,
         }
     }
@@ -608,15 +600,15 @@ impl Trees {
     /// Returns the innermost opened group that has trees left, after dropping the groups at their end.
     #[inline]
     fn innermost(&mut self) -> Option<&mut Level> {
-        while self.open.last_mut()?.trees.peek().is_none() {
+        while self.open.last()?.trees.as_slice().is_empty() {
             self.open.pop();
         }
         self.open.last_mut()
     }
 
     #[inline]
-    fn peek(&mut self) -> Option<&TokenTree> {
-        self.innermost()?.trees.peek()
+    fn peek(&mut self) -> Option<&Tree> {
+        self.innermost()?.trees.as_slice().first()
     }
 
     /// Returns the class of the next tree.
@@ -625,34 +617,34 @@ impl Trees {
         let level = self.innermost()?;
         match level.opens.as_slice() {
             [Some(shape), ..] => Some(*shape),
-            _ => level.trees.peek().map(shape_of),
+            _ => level.trees.as_slice().first().map(Tree::shape),
         }
     }
 
     #[inline]
-    fn next(&mut self) -> Option<TokenTree> {
+    fn next(&mut self) -> Option<Tree> {
         let level = self.innermost()?;
         level.opens.next();
         let tree = level.trees.next()?;
-        self.before = Some(tree.span());
+        self.before = tree.span();
         Some(tree)
     }
 
+    /// Consumes and returns the next tree, if it is the punctuation character.
     #[inline]
-    fn begins_with_kind(&mut self, mark: char) -> bool {
-        self.peek().is_some_and(|tree| is_mark(tree, mark))
+    fn next_mark(&mut self, mark: char) -> Option<Tree> {
+        match self.peek()?.is_mark(mark) {
+            true => self.next(),
+            false => None,
+        }
     }
 
     /// Enters the groups without brackets that are next. `macro_rules!` passes a path on in such a group.
     #[inline]
     fn open_groups(&mut self) {
-        while let Some(TokenTree::Group(group)) = self.peek() {
-            if group.delimiter() != Delimiter::None {
-                return;
-            }
-            let inside = Level::of(group.stream());
-            self.next();
-            self.open.push(inside);
+        while self.peek().and_then(Tree::delimiter) == Some(Delimiter::None) {
+            let inside = self.next().map_or(Vec::new(), |group| group.inside());
+            self.open.push(Level::of(inside));
         }
     }
 
@@ -660,87 +652,76 @@ impl Trees {
     #[inline]
     fn expected(&mut self, what: &str) -> MacroError {
         match self.peek() {
-            Some(tree) => MacroError::new(format_args!("expected {what}"), tree.span()),
+            Some(tree) => tree.error(format_args!("expected {what}")),
             None => {
-                let span = self.before.unwrap_or_else(Span::call_site);
-                MacroError::new(
-                    format_args!("unexpected end of input, expected {what}"),
-                    span,
-                )
+                let message = format_args!("unexpected end of input, expected {what}");
+                MacroError::near(message, self.before, self.before)
             }
         }
     }
 }
 
-#[inline]
-fn mark_of(tree: &TokenTree) -> Option<char> {
-    match tree {
-        TokenTree::Punct(punct) => Some(punct.as_char()),
-        _ => None,
+/// Returns the entries of the trees, with commas between them.
+pub(crate) fn entries_of(trees: Vec<Tree>) -> Result<Vec<Meta>, MacroError> {
+    let (mut trees, mut metas) = (Trees::of(trees), Vec::new());
+    while trees.peek().is_some() {
+        metas.push(next_meta(&mut trees)?);
+        let Some(tree) = trees.next() else { break };
+        return Err(tree.error(match tree.mark() {
+            Some((',', _)) => continue,
+            Some(('>', _)) => "expected `,`: before `<` with a comma inside, write `::`",
+            Some(('<', _)) => "ambiguous `<`: write `::<`, or a comparison in parentheses",
+            _ => "expected `,`",
+        }));
     }
-}
-
-#[inline]
-fn is_mark(tree: &TokenTree, mark: char) -> bool {
-    mark_of(tree) == Some(mark)
+    Ok(metas)
 }
 
 /// Consumes and returns the next entry.
 #[inline]
 fn next_meta(trees: &mut Trees) -> Result<Meta, MacroError> {
     let (name, first, last) = next_name(trees)?;
-    let form = match trees.peek() {
-        Some(TokenTree::Group(group)) if group.delimiter() != Delimiter::None => {
-            let group = group.clone();
-            trees.next();
-            Form::List(group)
-        }
-        Some(tree) if is_mark(tree, '=') => {
-            trees.next();
-            Form::Value(value_of_entry(trees)?)
-        }
-        _ => Form::Flag,
+    let form = match trees.peek().and_then(Tree::delimiter) {
+        Some(delimiter) if delimiter != Delimiter::None => trees.next().map(Form::List),
+        _ => match trees.next_mark('=') {
+            Some(_) => Some(Form::Value(value_of_entry(trees)?)),
+            None => None,
+        },
     };
     Ok(Meta {
         name,
         first,
         last,
-        form,
+        form: form.unwrap_or(Form::Flag),
     })
 }
 
 /// Consumes a path. Returns it as text, with its first and its last span.
 #[inline]
-fn next_name(trees: &mut Trees) -> Result<(String, Span, Span), MacroError> {
+fn next_name(trees: &mut Trees) -> Result<(String, Option<Span>, Option<Span>), MacroError> {
     trees.open_groups();
     let (mut name, mut first) = (String::new(), None);
     loop {
-        if let Some(TokenTree::Punct(mark)) = trees.peek().filter(|tree| is_mark(tree, ':')) {
-            let (colon, is_joint) = (mark.span(), mark.spacing() == Spacing::Joint);
-            first = first.or(Some(colon));
-            trees.next();
-            if !is_joint || !trees.begins_with_kind(':') {
+        if let Some(colon) = trees.next_mark(':') {
+            first = first.or(colon.span());
+            if colon.mark() != Some((':', Spacing::Joint)) || trees.next_mark(':').is_none() {
                 // One colon after a name is a mistake for `=`, as in `name: "a"`.
                 let is_named = !name.is_empty();
                 let expected = if is_named { "`=`" } else { "identifier" };
-                return Err(MacroError::new(format_args!("expected {expected}"), colon));
+                return Err(colon.error(format_args!("expected {expected}")));
             }
-            trees.next();
             name.push_str("::");
         }
-        let Some(TokenTree::Ident(word)) = trees.peek() else {
+        let word = trees.peek().and_then(Tree::word).filter(|it| it != "_");
+        let Some(word) = word else {
             return Err(trees.expected("identifier"));
         };
-        let (text, span) = (word.to_string(), word.span());
-        if text == "_" {
-            return Err(trees.expected("identifier"));
+        let span = trees.next().and_then(|tree| tree.span());
+        name.push_str(word.strip_prefix("r#").unwrap_or(&word));
+        first = first.or(span);
+        if !trees.peek().is_some_and(|tree| tree.is_mark(':')) {
+            return Ok((name, first, span));
         }
-        trees.next();
-        name.push_str(text.strip_prefix("r#").unwrap_or(&text));
-        if !trees.begins_with_kind(':') {
-            return Ok((name, first.unwrap_or(span), span));
-        }
-        first = first.or(Some(span));
     }
 }
 
@@ -768,7 +749,8 @@ pub fn next_attributes(
     tokens: &mut Peekable<impl Iterator<Item = TokenTree>>,
 ) -> Result<Vec<Meta>, MacroError> {
     let mut metas = Vec::new();
-    while let Some(hash) = tokens.next_if(|tree| is_mark(tree, '#')) {
+    let is_hash = |tree: &TokenTree| matches!(tree, TokenTree::Punct(it) if it.as_char() == '#');
+    while let Some(hash) = tokens.next_if(is_hash) {
         match tokens.next() {
             Some(TokenTree::Group(group)) if group.delimiter() == Delimiter::Bracket => {
                 metas.push(Meta::parse(group.stream())?);
@@ -814,52 +796,32 @@ pub fn next_attributes(
 pub fn next_value(
     tokens: &mut Peekable<impl Iterator<Item = TokenTree>>,
 ) -> Result<TokenStream, MacroError> {
-    let value = before_comma(|end| tokens.next_if(|tree| !end.is_at(shape_of(tree))));
+    let mut end = ValueEnd::default();
+    let mut is_inside = |tree: &TokenTree| !end.is_at(Tree::Token(tree.clone()).shape());
+    let value: Vec<_> = core::iter::from_fn(|| tokens.next_if(&mut is_inside)).collect();
     if !value.is_empty() {
         return Ok(value.into_iter().collect());
     }
     Err(match tokens.peek() {
         Some(tree) => MacroError::new("expected a value", tree.span()),
-        None => MacroError::new(
-            "unexpected end of input, expected a value",
-            Span::call_site(),
-        ),
+        None => {
+            let message = "unexpected end of input, expected a value";
+            MacroError::near(message, None, None)
+        }
     })
 }
 
-/// Returns the token trees before the comma or semicolon that ends a value. `next` consumes and returns the next tree, unless it is that comma.
-fn before_comma(mut next: impl FnMut(&mut ValueEnd) -> Option<TokenTree>) -> Vec<TokenTree> {
-    let mut end = ValueEnd::default();
-    core::iter::from_fn(|| next(&mut end)).collect()
-}
-
-/// Consumes and returns the value of an entry: all token trees up to the comma or semicolon that ends it.
+/// Consumes and returns the value of an entry: all token trees up to the one that ends it.
 #[inline]
-fn value_of_entry(trees: &mut Trees) -> Result<Vec<TokenTree>, MacroError> {
-    let value = before_comma(|end| match end.is_at(trees.shape()?) {
-        true => None,
-        false => trees.next(),
-    });
+fn value_of_entry(trees: &mut Trees) -> Result<Vec<Tree>, MacroError> {
+    let (mut end, mut value) = (ValueEnd::default(), Vec::new());
+    while trees.shape().is_some_and(|shape| !end.is_at(shape)) {
+        value.extend(trees.next());
+    }
     // A value that begins with `=` or `>` belongs to the token `==` or `=>`, which can't follow a name.
     match value.first() {
-        Some(tree) if is_mark(tree, '=') || is_mark(tree, '>') => {
-            Err(MacroError::new("expected a value", tree.span()))
-        }
+        Some(tree) if tree.is_mark('=') || tree.is_mark('>') => Err(tree.error("expected a value")),
         Some(_) => Ok(value),
         None => Err(trees.expected("a value")),
-    }
-}
-
-/// Classifies a token tree for the search for the end of a value.
-#[inline]
-fn shape_of(tree: &TokenTree) -> Shape {
-    match tree {
-        TokenTree::Punct(punct) => match (punct.as_char(), punct.spacing()) {
-            ('<', Spacing::Joint) => Shape::Joint,
-            (mark, _) => Shape::Mark(mark),
-        },
-        TokenTree::Group(group) if group.delimiter() == Delimiter::Brace => Shape::Braces,
-        TokenTree::Ident(word) => Shape::of_word(&word.to_string()),
-        _ => Shape::Other,
     }
 }
