@@ -16,19 +16,15 @@ use proc_macro::{Span, TokenStream, TokenTree};
 ///
 /// ```no_run
 /// extern crate proc_macro;
-/// use navyspindle::{LitInt, LitStr, Located, MacroError};
+/// use navyspindle::{LitStr, Located, MacroError};
 ///
-/// /// Reads `"{} a {", 3`: a text without an open brace, and a number.
-/// fn read(input: proc_macro::TokenStream) -> Result<(String, u8), MacroError> {
-///     let mut tokens = input.into_iter();
-///     let text = Located::<LitStr>::next(&mut tokens)?;
-///     if let Some(at) = text.value().rfind('{').filter(|at| !text.value()[*at..].contains('}')) {
-///         return Err(text.error_inside(at..at + 1, "unclosed `{`"));
+/// /// Reads a string without a brace.
+/// fn read(input: proc_macro::TokenStream) -> Result<String, MacroError> {
+///     let text = Located::<LitStr>::only(input)?;
+///     match text.value().find('{') {
+///         Some(at) => Err(text.error_inside(at..at + 1, "unexpected `{`")),
+///         None => Ok(text.value().into_owned()),
 ///     }
-///     tokens.next();
-///     let count = Located::<LitInt>::next(&mut tokens)?;
-///     let number = count.value().map_err(|error| count.error(error.message()))?;
-///     Ok((text.value().into_owned(), number))
 /// }
 /// ```
 #[derive(Clone, Debug)]

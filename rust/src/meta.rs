@@ -31,28 +31,21 @@ use proc_macro::{Delimiter, Spacing, Span, TokenStream, TokenTree};
 ///
 /// ```no_run
 /// extern crate proc_macro;
-/// use navyspindle::{LitStr, MacroError, Meta};
+/// use navyspindle::{MacroError, Meta};
 /// use proc_macro::TokenStream;
 ///
-/// #[derive(Default)]
-/// struct Options {
-///     skip: bool,
-///     rename: Option<String>,
-///     with: Option<TokenStream>,
-/// }
-///
 /// /// Reads `skip`, `rename = "x"` and `with = path::to::function`, in any order.
-/// fn options(input: TokenStream) -> Result<Options, MacroError> {
-///     let mut options = Options::default();
+/// fn options(input: TokenStream) -> Result<(bool, Option<String>, Option<TokenStream>), MacroError> {
+///     let (mut skip, mut rename, mut with) = (false, None, None);
 ///     for meta in Meta::parse_all(input)? {
 ///         match meta.name() {
-///             "skip" => options.skip = meta.flag()?,
-///             "rename" => options.rename = Some(meta.string()?),
-///             "with" => options.with = Some(meta.value()?),
+///             "skip" => skip = meta.flag()?,
+///             "rename" => rename = Some(meta.string()?),
+///             "with" => with = Some(meta.value()?),
 ///             _ => return Err(meta.unknown()),
 ///         }
 ///     }
-///     Ok(options)
+///     Ok((skip, rename, with))
 /// }
 /// ```
 #[doc(alias = "MetaNameValue")]
@@ -76,14 +69,12 @@ enum Form {
 
 /// The form of an entry of an attribute.
 ///
-/// ```no_run
-/// extern crate proc_macro;
-/// use navyspindle::{Meta, MetaForm};
+/// ```
+/// use navyspindle::{Attrs, MetaForm};
 ///
-/// let form = |text: &str| Meta::parse(text.parse().unwrap()).map(|meta| meta.form());
-/// assert_eq!(form("long")?, MetaForm::Flag);
-/// assert_eq!(form("long = \"x\"")?, MetaForm::Value);
-/// assert_eq!(form("long(\"x\")")?, MetaForm::List);
+/// let attrs = Attrs::parse_text(r#"a, b = "x", c("x")"#)?;
+/// let forms: Vec<_> = attrs.entries().iter().map(|meta| meta.form()).collect();
+/// assert_eq!(forms, [MetaForm::Flag, MetaForm::Value, MetaForm::List]);
 /// # Ok::<(), navyspindle::MacroError>(())
 /// ```
 #[derive(Clone, Copy, Debug, PartialEq, Eq, Hash)]
@@ -145,9 +136,8 @@ impl Meta {
 
     /// Returns the entry's name, without `r#`. The parts of a path have `::` between them.
     ///
-    /// ```no_run
-    /// extern crate proc_macro;
-    /// assert_eq!(navyspindle::Meta::parse("r#type = 1".parse().unwrap())?.name(), "type");
+    /// ```
+    /// assert_eq!(navyspindle::Attrs::parse_text("r#type = 1")?.entries()[0].name(), "type");
     /// # Ok::<(), navyspindle::MacroError>(())
     /// ```
     #[inline]
@@ -158,18 +148,11 @@ impl Meta {
 
     /// Returns the form of the entry. [`Meta::value`] and [`Meta::tokens`] return an error for an entry of another form.
     ///
-    /// ```no_run
-    /// extern crate proc_macro;
-    /// use navyspindle::{Attrs, MacroError, MetaForm};
+    /// ```
+    /// use navyspindle::{Attrs, MetaForm};
     ///
-    /// /// Reads `long`, which is the name of the field, or `long = "x"`.
-    /// fn long(attrs: &Attrs, field: &str) -> Result<Option<String>, MacroError> {
-    ///     match attrs.get("long")? {
-    ///         Some(meta) if meta.form() == MetaForm::Flag => Ok(Some(field.to_string())),
-    ///         Some(meta) => meta.string().map(Some),
-    ///         None => Ok(None),
-    ///     }
-    /// }
+    /// assert_eq!(Attrs::parse_text("long")?.entries()[0].form(), MetaForm::Flag);
+    /// # Ok::<(), navyspindle::MacroError>(())
     /// ```
     #[inline]
     #[must_use]
@@ -199,9 +182,8 @@ impl Meta {
 
     /// Creates an error at the entry's name.
     ///
-    /// ```no_run
-    /// extern crate proc_macro;
-    /// let meta = navyspindle::Meta::parse("a = 1".parse().unwrap())?;
+    /// ```
+    /// let meta = navyspindle::Attrs::parse_text("a = 1")?.entries()[0].clone();
     /// assert_eq!(meta.error("use `b`").to_string(), "use `b`");
     /// # Ok::<(), navyspindle::MacroError>(())
     /// ```
@@ -213,16 +195,11 @@ impl Meta {
     /// Creates an error at the value, from its first token to its last. For a list, the error is at the whole list. For a flag, the
     /// error is at the name.
     ///
-    /// ```no_run
-    /// extern crate proc_macro;
-    /// use navyspindle::{MacroError, Meta};
-    ///
-    /// fn size(meta: &Meta) -> Result<u8, MacroError> {
-    ///     match meta.number()? {
-    ///         0 => Err(meta.value_error("expected a positive number")),
-    ///         size => Ok(size),
-    ///     }
-    /// }
+    /// ```
+    /// let attrs = navyspindle::Attrs::parse_text("size = 0")?;
+    /// let error = attrs.entries()[0].value_error("expected a positive number");
+    /// assert_eq!(error.to_string(), "expected a positive number");
+    /// # Ok::<(), navyspindle::MacroError>(())
     /// ```
     #[must_use]
     pub fn value_error(&self, message: impl fmt::Display) -> MacroError {
@@ -238,9 +215,8 @@ impl Meta {
 
     /// Creates the error that the entry's name is unknown. The error is at the name.
     ///
-    /// ```no_run
-    /// extern crate proc_macro;
-    /// let meta = navyspindle::Meta::parse("nme = 1".parse().unwrap())?;
+    /// ```
+    /// let meta = navyspindle::Attrs::parse_text("nme = 1")?.entries()[0].clone();
     /// assert_eq!(meta.unknown().to_string(), "unknown name `nme`");
     /// # Ok::<(), navyspindle::MacroError>(())
     /// ```
@@ -293,18 +269,12 @@ impl Meta {
     ///
     /// Returns the errors of [`Meta::literal_of`].
     ///
-    /// ```no_run
-    /// extern crate proc_macro;
-    /// use navyspindle::{LitStr, MacroError, Meta};
+    /// ```
+    /// use navyspindle::{Attrs, LitStr};
     ///
-    /// /// Reads a path without a colon.
-    /// fn path(meta: &Meta) -> Result<String, MacroError> {
-    ///     let path = meta.located::<LitStr>()?;
-    ///     match path.value().find(':') {
-    ///         Some(at) => Err(path.error_inside(at..at + 1, "unexpected `:`")),
-    ///         None => Ok(path.value().into_owned()),
-    ///     }
-    /// }
+    /// let path = Attrs::parse_text(r#"path = "a:b""#)?.entries()[0].located::<LitStr>()?;
+    /// assert_eq!(path.error_inside(1..2, "unexpected `:`").to_string(), "unexpected `:`\n\"a:b\"\n  ^");
+    /// # Ok::<(), navyspindle::MacroError>(())
     /// ```
     #[inline]
     pub fn located<L: LitOfKind>(&self) -> Result<Located<L>, MacroError> {
@@ -318,11 +288,10 @@ impl Meta {
     ///
     /// Returns an error if the entry is a flag, or has another value or list.
     ///
-    /// ```no_run
-    /// extern crate proc_macro;
-    /// use navyspindle::{LitStr, Meta};
+    /// ```
+    /// use navyspindle::{LitStr};
     ///
-    /// let meta = Meta::parse(r#"alias("a", "b")"#.parse().unwrap())?;
+    /// let meta = navyspindle::Attrs::parse_text(r#"alias("a", "b")"#)?.entries()[0].clone();
     /// let aliases = meta.literals::<LitStr>()?;
     /// assert_eq!(aliases[1].value(), "b");
     /// # Ok::<(), navyspindle::MacroError>(())
@@ -358,9 +327,8 @@ impl Meta {
     ///
     /// Returns an error if there is no value, or if it isn't one string literal without a suffix.
     ///
-    /// ```no_run
-    /// extern crate proc_macro;
-    /// let meta = navyspindle::Meta::parse(r#"rename = "a\x41""#.parse().unwrap())?;
+    /// ```
+    /// let meta = navyspindle::Attrs::parse_text(r#"rename = "a\x41""#)?.entries()[0].clone();
     /// assert_eq!(meta.string()?, "aA");
     /// # Ok::<(), navyspindle::MacroError>(())
     /// ```
@@ -382,9 +350,8 @@ impl Meta {
     ///
     /// Returns an error if there is no value, if it isn't one number, or if the number isn't of the type.
     ///
-    /// ```no_run
-    /// extern crate proc_macro;
-    /// let meta = navyspindle::Meta::parse("size = 0x1F".parse().unwrap())?;
+    /// ```
+    /// let meta = navyspindle::Attrs::parse_text("size = 0x1F")?.entries()[0].clone();
     /// assert_eq!(meta.number::<u8>()?, 31);
     /// assert_eq!(meta.number::<f64>()?, 31.0);
     /// # Ok::<(), navyspindle::MacroError>(())
@@ -411,11 +378,8 @@ impl Meta {
     ///
     /// Returns an error if the entry is a list, or has a value other than `true` and `false`.
     ///
-    /// ```no_run
-    /// extern crate proc_macro;
-    /// use navyspindle::Meta;
-    ///
-    /// let flag = |text: &str| Meta::parse(text.parse().unwrap())?.flag();
+    /// ```
+    /// let flag = |text: &str| navyspindle::Attrs::parse_text(text)?.entries()[0].flag();
     /// assert_eq!((flag("verbose")?, flag("verbose = false")?), (true, false));
     /// # Ok::<(), navyspindle::MacroError>(())
     /// ```
@@ -460,12 +424,9 @@ impl Meta {
     ///
     /// ```no_run
     /// extern crate proc_macro;
-    /// use navyspindle::{next_literal_of, LitStr, MacroError, Meta};
-    ///
-    /// /// `"x"` of `alias("x")`.
-    /// fn alias(meta: &Meta) -> Result<LitStr<'static>, MacroError> {
-    ///     Ok(next_literal_of(&mut meta.tokens()?.into_iter())?.0)
-    /// }
+    /// let meta = navyspindle::Meta::parse("ops(a + b)".parse().unwrap())?;
+    /// assert_eq!(meta.tokens()?.into_iter().count(), 3);
+    /// # Ok::<(), navyspindle::MacroError>(())
     /// ```
     #[inline]
     pub fn tokens(&self) -> Result<TokenStream, MacroError> {
@@ -478,9 +439,8 @@ impl Meta {
     ///
     /// Returns an error if the entry is a flag or has a value. Otherwise returns the error of [`Meta::parse_all`].
     ///
-    /// ```no_run
-    /// extern crate proc_macro;
-    /// let meta = navyspindle::Meta::parse("inner(a = 1)".parse().unwrap())?;
+    /// ```
+    /// let meta = navyspindle::Attrs::parse_text("inner(a = 1)")?.entries()[0].clone();
     /// assert_eq!(meta.list()?.number::<u8>("a")?, Some(1));
     /// # Ok::<(), navyspindle::MacroError>(())
     /// ```

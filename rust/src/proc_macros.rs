@@ -33,21 +33,11 @@ fn parsed(text: String, span: Option<Span>) -> Result<Lit<'static>, MacroError> 
 /// ```no_run
 /// extern crate proc_macro;
 /// use navyspindle::{next_literal, MacroError};
-/// use proc_macro::{TokenStream, TokenTree};
 ///
-/// /// Counts the literals of `1, "a", -2.5`.
-/// fn count(input: TokenStream) -> Result<usize, MacroError> {
-///     let (mut tokens, mut count) = (input.into_iter().peekable(), 0);
-///     while tokens.peek().is_some() {
-///         next_literal(&mut tokens)?;
-///         count += 1;
-///         match tokens.next() {
-///             None => break,
-///             Some(TokenTree::Punct(mark)) if mark.as_char() == ',' => {}
-///             Some(tree) => return Err(MacroError::new("expected `,`", tree.span())),
-///         }
-///     }
-///     Ok(count)
+/// /// Returns the text of the first literal of `-2.5, 1`.
+/// fn first(input: proc_macro::TokenStream) -> Result<String, MacroError> {
+///     let (literal, _) = next_literal(&mut input.into_iter())?;
+///     Ok(literal.text().to_string())
 /// }
 /// ```
 pub fn next_literal(
@@ -95,13 +85,10 @@ pub fn next_literal_of<L: LitOfKind>(
 /// extern crate proc_macro;
 /// use navyspindle::{only_literal_of, LitStr, MacroError};
 ///
-/// /// Reads the input `"a"`. An empty path is an error at the string.
+/// /// Reads the input `"a"`.
 /// fn path(input: proc_macro::TokenStream) -> Result<String, MacroError> {
-///     let (path, span) = only_literal_of::<LitStr>(input)?;
-///     match path.into_value().into_owned() {
-///         path if path.is_empty() => Err(MacroError::new("empty path", span)),
-///         path => Ok(path),
-///     }
+///     let (path, _) = only_literal_of::<LitStr>(input)?;
+///     Ok(path.into_value().into_owned())
 /// }
 /// ```
 pub fn only_literal_of<L: LitOfKind>(input: TokenStream) -> Result<(L, Span), MacroError> {
@@ -128,15 +115,10 @@ mod sealed {
 /// ```no_run
 /// extern crate proc_macro;
 /// use navyspindle::{next_literal_of, LitOfKind, MacroError};
-/// use proc_macro::TokenStream;
 ///
-/// /// All literals, of one kind.
-/// fn all<L: LitOfKind>(input: TokenStream) -> Result<Vec<L>, MacroError> {
-///     let (mut tokens, mut all) = (input.into_iter().peekable(), Vec::new());
-///     while tokens.peek().is_some() {
-///         all.push(next_literal_of::<L>(&mut tokens)?.0);
-///     }
-///     Ok(all)
+/// /// Returns the first literal, which must be of kind `L`.
+/// fn first<L: LitOfKind>(input: proc_macro::TokenStream) -> Result<L, MacroError> {
+///     next_literal_of(&mut input.into_iter()).map(|(literal, _)| literal)
 /// }
 /// ```
 pub trait LitOfKind: sealed::Kinded + TryFrom<Lit<'static>, Error = Lit<'static>> {}
