@@ -130,10 +130,9 @@ mod text {
     use super::Tree;
     use crate::macro_error::MacroError;
     use crate::rl_lexer::{first_source_token, is_opener, whitespace, Form, SourceForm};
-    use alloc::format;
     use alloc::string::ToString;
     use alloc::vec::Vec;
-    use core::mem;
+    use core::{fmt, mem};
     use proc_macro::{Delimiter, Spacing};
 
     /// Returns the token trees of a text.
@@ -141,6 +140,7 @@ mod text {
         let (mut rest, mut trees, mut open) = (whitespace::skip(text), Vec::new(), Vec::new());
         while let Some((form, after)) = first_source_token(rest) {
             let token = &rest[..rest.len() - after.len()];
+            let unexpected = || unexpected(format_args!("`{token}`"));
             rest = whitespace::skip(after);
             let tree = match form {
                 SourceForm::Token(Form::Literal) => Tree::Literal(token.to_string()),
@@ -165,22 +165,22 @@ mod text {
                         ('(', ')') => Delimiter::Parenthesis,
                         ('[', ']') => Delimiter::Bracket,
                         ('{', '}') => Delimiter::Brace,
-                        _ => return Err(unexpected(token)),
+                        _ => return Err(unexpected()),
                     };
                     Tree::Group(delimiter, mem::replace(&mut trees, before))
                 }
-                _ => return Err(unexpected(token)),
+                _ => return Err(unexpected()),
             };
             trees.push(tree);
         }
         match open.is_empty() && rest.is_empty() {
             true => Ok(trees),
-            false => Err(unexpected("end of input")),
+            false => Err(unexpected(format_args!("end of input"))),
         }
     }
 
     /// Creates the error for a text that isn't token trees.
-    fn unexpected(found: &str) -> MacroError {
-        MacroError::near(format!("unexpected {found}"), None, None)
+    fn unexpected(found: fmt::Arguments<'_>) -> MacroError {
+        MacroError::near(format_args!("unexpected {found}"), None, None)
     }
 }

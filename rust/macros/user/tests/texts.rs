@@ -1,5 +1,4 @@
 //! Tests of attributes that are read from a text, outside of a macro.
-#![cfg(feature = "proc-macro")]
 
 use navyspindle::{Attrs, LitInt, LitStr, MacroError, MetaForm};
 
@@ -77,7 +76,7 @@ fn errors_have_the_messages_of_macros() {
         ("name = \"a\", verbose(1)", "unexpected list"),
         ("name : : x = 1", "expected `=`"),
         ("alias(\"a\"", "unexpected end of input"),
-        ("alias(\"a\"]", "unexpected ]"),
+        ("alias(\"a\"]", "unexpected `]`"),
         ("name = \"a", "unexpected end of input"),
         (
             "a = I<A, B = C>::D",
