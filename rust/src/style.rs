@@ -600,7 +600,7 @@ impl Style {
     /// without a width, such as a joiner of emoji. The variation selectors from U+FE00 to U+FE0F aren't replaced.
     ///
     /// A raw string that contains such a character becomes a string with escapes. A raw string without the prefix `b` or `c` that
-    /// follows a hash or a dot is left unchanged ([`rewrite_in_context`]).
+    /// follows a hash or a dot is left unchanged ([`rewrite_in_context`](crate::rewrite_in_context)).
     ///
     /// ```
     /// use navyspindle::{rewrite, Style};
