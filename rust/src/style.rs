@@ -575,7 +575,7 @@ impl Style {
 
     /// Sets whether the `r` and the hashes are removed from raw strings that contain neither a backslash nor a quote.
     ///
-    /// After a hash or a dot, a raw string without the prefix `b` or `c` is left unchanged ([`rewrite_in_context`]).
+    /// After a hash or a dot, a raw string without the prefix `b` or `c` is left unchanged ([`rewrite_in_context`](crate::rewrite_in_context)).
     ///
     /// ```
     /// use navyspindle::{rewrite, Style};
