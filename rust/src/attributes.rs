@@ -17,29 +17,18 @@ use proc_macro::{Span, TokenStream};
 ///
 /// Reading a name that is set twice is an error. [`Attrs::all`] returns each entry of a name that may be repeated.
 ///
-/// ```no_run
-/// extern crate proc_macro;
+/// ```
 /// use navyspindle::{Attrs, MacroError};
-/// use proc_macro::TokenStream;
 ///
-/// struct Options {
-///     name: String,
-///     size: u8,
-///     verbose: bool,
-///     default: Option<TokenStream>,
+/// /// Reads `name = "x", size = 10, verbose`. The name is required.
+/// fn options(attrs: &Attrs) -> Result<(String, u8, bool), MacroError> {
+///     attrs.check(&["name", "size", "verbose"])?;
+///     let name = attrs.string("name")?.ok_or_else(|| attrs.missing_error("name"))?;
+///     Ok((name, attrs.number("size")?.unwrap_or(1), attrs.flag("verbose")?))
 /// }
 ///
-/// /// Reads `name = "x", size = 10, verbose, default = "x".to_string()`. The name is required.
-/// fn options(input: TokenStream) -> Result<Options, MacroError> {
-///     let attrs = Attrs::parse(input)?;
-///     attrs.check(&["name", "size", "verbose", "default"])?;
-///     Ok(Options {
-///         name: attrs.string("name")?.ok_or_else(|| attrs.missing_error("name"))?,
-///         size: attrs.number("size")?.unwrap_or(1),
-///         verbose: attrs.flag("verbose")?,
-///         default: attrs.value("default")?,
-///     })
-/// }
+/// assert_eq!(options(&Attrs::parse_text(r#"name = "a", verbose"#)?)?, ("a".to_string(), 1, true));
+/// # Ok::<(), MacroError>(())
 /// ```
 #[doc(alias = "parse_nested_meta")]
 #[derive(Clone, Debug)]
@@ -70,6 +59,26 @@ impl Attrs {
         Ok(Attrs::of(Meta::parse_all(input)?, None))
     }
 
+    /// Parses the entries of a text, such as in a test of a function that reads attributes. They can be read outside of a macro too,
+    /// except as tokens or with spans of the compiler. This method needs the feature `sources` or `settings`.
+    ///
+    /// # Errors
+    ///
+    /// Returns the error of [`Meta::parse_all`], or an error if the text isn't tokens.
+    ///
+    /// ```
+    /// let attrs = navyspindle::Attrs::parse_text("name = \"a\", inner(size = 1)")?;
+    /// assert_eq!(attrs.string("name")?.as_deref(), Some("a"));
+    /// assert_eq!(attrs.list("inner")?.unwrap().number::<u8>("size")?, Some(1));
+    /// assert_eq!(attrs.flag("inner").unwrap_err().to_string(), "unexpected list");
+    /// # Ok::<(), navyspindle::MacroError>(())
+    /// ```
+    #[cfg(any(feature = "sources", feature = "settings"))]
+    pub fn parse_text(text: &str) -> Result<Attrs, MacroError> {
+        let trees = crate::trees::of_text(text)?;
+        Ok(Attrs::of(crate::meta::entries_of(trees)?, None))
+    }
+
     /// Joins the entries of the lists with the name `name` among `metas`, such as those of `#[opt(a = 1)] #[opt(b = 2)]`. Other
     /// names are ignored. Without a list, the result has no entries.
     ///
@@ -85,11 +94,9 @@ impl Attrs {
     /// use navyspindle::{next_attributes, Attrs, MacroError};
     ///
     /// /// Reads the size of `#[opt(size = 1)] #[opt(verbose)] struct A;`.
-    /// fn size(item: proc_macro::TokenStream) -> Result<u8, MacroError> {
+    /// fn size(item: proc_macro::TokenStream) -> Result<Option<u8>, MacroError> {
     ///     let metas = next_attributes(&mut item.into_iter().peekable())?;
-    ///     let attrs = Attrs::join("opt", &metas)?;
-    ///     attrs.check(&["size", "verbose"])?;
-    ///     attrs.number("size")?.ok_or_else(|| attrs.missing_error("size"))
+    ///     Attrs::join("opt", &metas)?.number("size")
     /// }
     /// ```
     pub fn join<'m>(
@@ -117,9 +124,8 @@ impl Attrs {
 
     /// Returns the entries in the order of the input.
     ///
-    /// ```no_run
-    /// extern crate proc_macro;
-    /// let attrs = navyspindle::Attrs::parse("a = 1, verbose".parse().unwrap())?;
+    /// ```
+    /// let attrs = navyspindle::Attrs::parse_text("a = 1, verbose")?;
     /// assert_eq!(attrs.entries()[1].name(), "verbose");
     /// # Ok::<(), navyspindle::MacroError>(())
     /// ```
@@ -150,9 +156,8 @@ impl Attrs {
     ///
     /// Returns an error if the name is repeated. The error is at the second entry.
     ///
-    /// ```no_run
-    /// extern crate proc_macro;
-    /// let attrs = navyspindle::Attrs::parse("a = 1, b, b".parse().unwrap())?;
+    /// ```
+    /// let attrs = navyspindle::Attrs::parse_text("a = 1, b, b")?;
     /// assert!(attrs.get("a")?.is_some());
     /// assert!(attrs.get("c")?.is_none());
     /// assert_eq!(attrs.get("b").unwrap_err().to_string(), "repeated name `b`");
@@ -187,9 +192,8 @@ impl Attrs {
     /// Returns an error for each unknown name, combined into one. The message of an error has the known name that is most like the
     /// unknown one.
     ///
-    /// ```no_run
-    /// extern crate proc_macro;
-    /// let attrs = navyspindle::Attrs::parse("size = 1, nme = \"a\"".parse().unwrap())?;
+    /// ```
+    /// let attrs = navyspindle::Attrs::parse_text("size = 1, nme = \"a\"")?;
     /// let error = attrs.check(&["name", "size"]).unwrap_err();
     /// assert_eq!(error.to_string(), "unknown name `nme`: did you mean `name`?");
     /// # Ok::<(), navyspindle::MacroError>(())
@@ -212,9 +216,8 @@ impl Attrs {
     ///
     /// Returns an error if the name is repeated, or if its value isn't one string literal without a suffix.
     ///
-    /// ```no_run
-    /// extern crate proc_macro;
-    /// let attrs = navyspindle::Attrs::parse(r#"name = "a""#.parse().unwrap())?;
+    /// ```
+    /// let attrs = navyspindle::Attrs::parse_text(r#"name = "a""#)?;
     /// assert_eq!(attrs.string("name")?.as_deref(), Some("a"));
     /// # Ok::<(), navyspindle::MacroError>(())
     /// ```
@@ -230,9 +233,8 @@ impl Attrs {
     ///
     /// Returns an error if the name is repeated, or if its value isn't one number that Rust accepts for the type.
     ///
-    /// ```no_run
-    /// extern crate proc_macro;
-    /// let attrs = navyspindle::Attrs::parse("size = 10".parse().unwrap())?;
+    /// ```
+    /// let attrs = navyspindle::Attrs::parse_text("size = 10")?;
     /// assert_eq!(attrs.number::<u8>("size")?.unwrap_or(1), 10);
     /// # Ok::<(), navyspindle::MacroError>(())
     /// ```
@@ -246,9 +248,8 @@ impl Attrs {
     ///
     /// Returns an error if the name is repeated, or if it is a list or has a value other than `true` and `false`.
     ///
-    /// ```no_run
-    /// extern crate proc_macro;
-    /// let attrs = navyspindle::Attrs::parse("verbose".parse().unwrap())?;
+    /// ```
+    /// let attrs = navyspindle::Attrs::parse_text("verbose")?;
     /// assert_eq!((attrs.flag("verbose")?, attrs.flag("quiet")?), (true, false));
     /// # Ok::<(), navyspindle::MacroError>(())
     /// ```
@@ -299,9 +300,8 @@ impl Attrs {
     ///
     /// Returns an error if the name is repeated, or if it isn't a list of entries.
     ///
-    /// ```no_run
-    /// extern crate proc_macro;
-    /// let attrs = navyspindle::Attrs::parse("inner(a = 1)".parse().unwrap())?;
+    /// ```
+    /// let attrs = navyspindle::Attrs::parse_text("inner(a = 1)")?;
     /// let inner = attrs.list("inner")?.unwrap();
     /// assert_eq!(inner.number::<u8>("a")?, Some(1));
     /// # Ok::<(), navyspindle::MacroError>(())
@@ -314,9 +314,8 @@ impl Attrs {
     /// Creates the error for a required name that isn't set. For entries of [`Meta::list`] or [`Attrs::list`], the error is at the
     /// list's name. For entries of [`Attrs::parse`], the error is at the macro's call.
     ///
-    /// ```no_run
-    /// extern crate proc_macro;
-    /// let attrs = navyspindle::Attrs::parse("size = 1".parse().unwrap())?;
+    /// ```
+    /// let attrs = navyspindle::Attrs::parse_text("size = 1")?;
     /// assert_eq!(attrs.missing_error("name").to_string(), "missing `name`");
     /// # Ok::<(), navyspindle::MacroError>(())
     /// ```
@@ -329,16 +328,15 @@ impl Attrs {
     /// Creates an error about all entries. For entries of [`Meta::list`] or [`Attrs::list`], the error is at the list's name. For
     /// entries of [`Attrs::parse`], the error is at the macro's call.
     ///
-    /// ```no_run
-    /// extern crate proc_macro;
-    /// let attrs = navyspindle::Attrs::parse("min = 2, max = 1".parse().unwrap())?;
+    /// ```
+    /// let attrs = navyspindle::Attrs::parse_text("min = 2, max = 1")?;
     /// assert_eq!(attrs.error("empty range").to_string(), "empty range");
     /// # Ok::<(), navyspindle::MacroError>(())
     /// ```
     #[must_use]
     pub fn error(&self, message: impl fmt::Display) -> MacroError {
-        let (first, last) = self.place.unwrap_or((Span::call_site(), Span::call_site()));
-        MacroError::between(message, first, last)
+        let (first, last) = self.place.unzip();
+        MacroError::near(message, first, last)
     }
 }
 

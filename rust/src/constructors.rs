@@ -1,9 +1,12 @@
 //! Constructors that make a literal from a value, such as `LitStr::new`.
 
+use crate::rl_lenient;
+use crate::style::Style;
 use crate::value::{Float, Integer};
+use crate::write::written_integer;
 use crate::{
-    write_byte, write_byte_str, write_c_str, write_char, write_integer, write_str, IntegerStyle,
-    LitBool, LitByte, LitByteStr, LitCStr, LitChar, LitFloat, LitInt, LitStr,
+    write_byte, write_byte_str, write_c_str, write_char, write_integer, write_str, Base, LitBool,
+    LitByte, LitByteStr, LitCStr, LitChar, LitFloat, LitInt, LitStr,
 };
 use alloc::borrow::Cow;
 use alloc::format;
@@ -82,7 +85,8 @@ impl LitInt<'static> {
     /// ```
     #[must_use]
     pub fn suffixed<N: Integer>(value: N) -> Self {
-        let text = write_integer(value, IntegerStyle::new().suffixed(true));
+        let style = Style::new().of_integers(Base::Decimal);
+        let text = written_integer(value, style, Some(<N as rl_lenient::Integer>::TYPE));
         LitInt::try_from(text).expect(WRITTEN)
     }
 
@@ -95,7 +99,7 @@ impl LitInt<'static> {
     /// ```
     #[must_use]
     pub fn unsuffixed<N: Integer>(value: N) -> Self {
-        let text = write_integer(value, IntegerStyle::new());
+        let text = write_integer(value, Base::Decimal, Style::new());
         LitInt::try_from(text).expect(WRITTEN)
     }
 }

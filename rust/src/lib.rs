@@ -87,6 +87,8 @@ mod segments;
 mod proved;
 #[cfg(all(feature = "sources", feature = "style"))]
 mod restyle;
+#[cfg(feature = "style")]
+mod rewrite;
 #[cfg(feature = "settings")]
 mod setting;
 #[cfg(feature = "settings")]
@@ -96,10 +98,12 @@ mod slices;
 #[cfg(feature = "sources")]
 mod source;
 mod strings;
-#[cfg(feature = "style")]
+#[cfg(any(feature = "style", feature = "writers"))]
 mod style;
 #[cfg(all(feature = "settings", feature = "style"))]
 mod style_settings;
+#[cfg(feature = "proc-macro")]
+mod trees;
 #[cfg(feature = "flaws")]
 mod types;
 mod unicode;
@@ -163,6 +167,8 @@ pub use prefix::{leading_comments, skip_token, skip_trivia};
 pub use proc_macros::{next_literal, next_literal_of, only_literal_of, LitOfKind};
 #[cfg(all(feature = "sources", feature = "style"))]
 pub use restyle::{rewrite_source, Edit, Edits};
+#[cfg(feature = "style")]
+pub use rewrite::{rewrite, rewrite_in_context};
 /// The reason why a literal has no type in Rust. [`Lit::type_error`] returns it.
 ///
 /// ```
@@ -182,14 +188,14 @@ pub use settings::{parse_settings, Entry};
 #[cfg(feature = "sources")]
 pub use source::{source, Recover, Source};
 pub use strings::{LitByteStr, LitCStr, LitStr};
-#[cfg(feature = "style")]
-pub use style::{rewrite, rewrite_in_context, Case, DigitGroups, Separator, Style};
+#[cfg(any(feature = "style", feature = "writers"))]
+pub use style::{Case, DigitGroups, Separator, Style};
 pub use value::{Float, Integer, Number, ValueError, ValueErrorKind};
 pub use words::{LitBool, LitVerbatim};
 #[cfg(feature = "writers")]
 pub use write::{
     write_byte, write_byte_str, write_c_str, write_char, write_char_ascii, write_integer,
-    write_raw_byte_str, write_raw_c_str, write_raw_str, write_str, write_str_ascii, IntegerStyle,
+    write_raw_byte_str, write_raw_c_str, write_raw_str, write_str, write_str_ascii,
 };
 
 /// Returns `true` if the text is a literal token of the Rust Reference.

@@ -81,6 +81,20 @@ macro_rules! each_kind {
     };
 }
 
+/// Evaluates one expression with the literal of a quoted variant. The result is `None` for any other variant.
+macro_rules! each_quoted {
+    ($lit:expr, $literal:ident => $result:expr) => {
+        match $lit {
+            Lit::Str($literal) => Some($result),
+            Lit::ByteStr($literal) => Some($result),
+            Lit::CStr($literal) => Some($result),
+            Lit::Byte($literal) => Some($result),
+            Lit::Char($literal) => Some($result),
+            _ => None,
+        }
+    };
+}
+
 impl<'t> Lit<'t> {
     /// Reads the text as `syn` reads a token. It never fails: a text without a meaning to `syn`, and an integer above 128 bits,
     /// become [`Lit::Verbatim`].
@@ -214,14 +228,7 @@ impl<'t> Lit<'t> {
     #[inline]
     #[must_use]
     pub fn segments(&self) -> Option<Segments<'_>> {
-        match self {
-            Lit::Str(literal) => Some(literal.segments()),
-            Lit::ByteStr(literal) => Some(literal.segments()),
-            Lit::CStr(literal) => Some(literal.segments()),
-            Lit::Byte(literal) => Some(literal.segments()),
-            Lit::Char(literal) => Some(literal.segments()),
-            _ => None,
-        }
+        each_quoted!(self, literal => literal.segments())
     }
 
     /// Returns a map from each byte of the value to its range in the literal's text, or `None` for a literal without quotes. See
@@ -236,14 +243,7 @@ impl<'t> Lit<'t> {
     #[inline]
     #[must_use]
     pub fn offset_map(&self) -> Option<OffsetMap> {
-        match self {
-            Lit::Str(literal) => Some(literal.offset_map()),
-            Lit::ByteStr(literal) => Some(literal.offset_map()),
-            Lit::CStr(literal) => Some(literal.offset_map()),
-            Lit::Byte(literal) => Some(literal.offset_map()),
-            Lit::Char(literal) => Some(literal.offset_map()),
-            _ => None,
-        }
+        each_quoted!(self, literal => literal.offset_map())
     }
 
     /// Creates the literal of a text from Rust's parse result for it.
@@ -401,15 +401,10 @@ impl<'t> Lit<'t> {
     #[must_use]
     pub fn suffix_range(&self) -> Option<Range<usize>> {
         match self {
-            Lit::Str(literal) => Some(literal.suffix_range()),
-            Lit::ByteStr(literal) => Some(literal.suffix_range()),
-            Lit::CStr(literal) => Some(literal.suffix_range()),
-            Lit::Byte(literal) => Some(literal.suffix_range()),
-            Lit::Char(literal) => Some(literal.suffix_range()),
             Lit::Int(literal) => Some(literal.suffix_range()),
             Lit::Float(literal) => Some(literal.suffix_range()),
             Lit::Bool(literal) => Some(literal.suffix_range()),
-            Lit::Verbatim(_) => None,
+            _ => each_quoted!(self, literal => literal.suffix_range()),
         }
     }
 
@@ -425,14 +420,7 @@ impl<'t> Lit<'t> {
     #[inline]
     #[must_use]
     pub fn body_range(&self) -> Option<Range<usize>> {
-        match self {
-            Lit::Str(literal) => Some(literal.body_range()),
-            Lit::ByteStr(literal) => Some(literal.body_range()),
-            Lit::CStr(literal) => Some(literal.body_range()),
-            Lit::Byte(literal) => Some(literal.body_range()),
-            Lit::Char(literal) => Some(literal.body_range()),
-            _ => None,
-        }
+        each_quoted!(self, literal => literal.body_range())
     }
 
     /// Returns the text between the quotes, or `None` for a literal without quotes.

@@ -1,7 +1,8 @@
 //! A literal among the tokens of a macro, with its spans.
 
-use crate::macro_error::{spanned, MacroError};
-use crate::proc_macros::{next_placed, whole, LitOfKind, Placed};
+use crate::macro_error::{spanned, MacroError, Mismatch};
+use crate::proc_macros::{at, next_placed, whole, LitOfKind, Placed};
+use crate::trees::Tree;
 use alloc::format;
 use alloc::string::String;
 use core::fmt;
@@ -15,38 +16,50 @@ use proc_macro::{Span, TokenStream, TokenTree};
 ///
 /// ```no_run
 /// extern crate proc_macro;
-/// use navyspindle::{LitInt, LitStr, Located, MacroError};
+/// use navyspindle::{LitStr, Located, MacroError};
 ///
-/// /// Reads `"{} a {", 3`: a text without an open brace, and a number.
-/// fn read(input: proc_macro::TokenStream) -> Result<(String, u8), MacroError> {
-///     let mut tokens = input.into_iter();
-///     let text = Located::<LitStr>::next(&mut tokens)?;
-///     if let Some(at) = text.value().rfind('{').filter(|at| !text.value()[*at..].contains('}')) {
-///         return Err(text.error_inside(at..at + 1, "unclosed `{`"));
+/// /// Reads a string without a brace.
+/// fn read(input: proc_macro::TokenStream) -> Result<String, MacroError> {
+///     let text = Located::<LitStr>::only(input)?;
+///     match text.value().find('{') {
+///         Some(at) => Err(text.error_inside(at..at + 1, "unexpected `{`")),
+///         None => Ok(text.value().into_owned()),
 ///     }
-///     tokens.next();
-///     let count = Located::<LitInt>::next(&mut tokens)?;
-///     let number = count.value().map_err(|error| count.error(error.message()))?;
-///     Ok((text.value().into_owned(), number))
 /// }
 /// ```
 #[derive(Clone, Debug)]
 pub struct Located<L> {
     literal: L,
-    first: Span,
-    span: Span,
+    first: Option<Span>,
+    span: Option<Span>,
 }
 
 impl<L: LitOfKind> Located<L> {
-    #[inline]
+    /// Returns the literal, or an error if it is of another kind.
     pub(crate) fn of(placed: Placed) -> Result<Self, MacroError> {
-        let first = placed.first;
-        let (literal, span) = placed.of_kind()?;
-        Ok(Located {
+        let Placed {
             literal,
             first,
             span,
-        })
+        } = placed;
+        match L::try_from(literal) {
+            Ok(literal) => Ok(Located {
+                literal,
+                first,
+                span,
+            }),
+            Err(other) => {
+                let message = Mismatch(L::KIND, other.kind());
+                Err(MacroError::near(message, first, span))
+            }
+        }
+    }
+
+    /// Returns the literal, and the span of its own token.
+    #[inline]
+    pub(crate) fn into_parts(self) -> (L, Span) {
+        let span = self.span();
+        (self.literal, span)
     }
 
     /// Consumes and returns the next literal, as [`next_literal_of`](crate::next_literal_of) does.
@@ -65,7 +78,7 @@ impl<L: LitOfKind> Located<L> {
     /// ```
     #[inline]
     pub fn next(tokens: &mut impl Iterator<Item = TokenTree>) -> Result<Self, MacroError> {
-        Located::of(next_placed(tokens, L::KIND)?)
+        Located::of(next_placed(&mut tokens.map(Tree::Token), L::KIND)?)
     }
 
     /// Returns the literal that is the whole input of a macro, as [`only_literal_of`](crate::only_literal_of) does.
@@ -112,7 +125,7 @@ impl<L: LitOfKind> Located<L> {
     #[inline]
     #[must_use]
     pub fn span(&self) -> Span {
-        self.span
+        at(self.span)
     }
 
     /// Creates an error at the literal, with its minus.
@@ -125,7 +138,7 @@ impl<L: LitOfKind> Located<L> {
     /// ```
     #[must_use]
     pub fn error(&self, message: impl fmt::Display) -> MacroError {
-        MacroError::between(message, self.first, self.span)
+        MacroError::near(message, self.first, self.span)
     }
 
     /// Creates an error at the literal, whose message shows a part of the literal: a line of the literal's text, and carets below the
@@ -167,10 +180,10 @@ impl<L: LitOfKind> Located<L> {
     /// # Ok::<(), navyspindle::MacroError>(())
     /// ```
     pub fn to_token_stream(&self) -> Result<TokenStream, MacroError> {
-        let trees = crate::proc_macros::tokens_of(self.literal.text_of(), self.span)?.into_iter();
+        let trees = crate::proc_macros::tokens_of(self.literal.text_of(), self.span())?.into_iter();
         Ok(trees
             .map(|tree| match tree {
-                TokenTree::Punct(_) => spanned(tree, self.first),
+                TokenTree::Punct(_) => spanned(tree, at(self.first)),
                 _ => tree,
             })
             .collect())

@@ -114,7 +114,20 @@ impl MacroError {
     /// ```
     #[must_use]
     pub fn between(message: impl fmt::Display, first: Span, last: Span) -> Self {
-        MacroError::of(&message, Some(Place::between(first, last)))
+        MacroError::near(message, Some(first), Some(last))
+    }
+
+    /// Creates an error at the tokens from `first` to `last`, or at the macro's call.
+    pub(crate) fn near(
+        message: impl fmt::Display,
+        first: Option<Span>,
+        last: Option<Span>,
+    ) -> Self {
+        let place = first.zip(last);
+        MacroError::of(
+            &message,
+            place.map(|(first, last)| Place::between(first, last)),
+        )
     }
 
     #[inline]
@@ -149,21 +162,12 @@ impl MacroError {
 
     /// Appends another error, so that the compiler reports all combined errors.
     ///
-    /// ```no_run
-    /// extern crate proc_macro;
-    /// use navyspindle::{Attrs, MacroError};
-    ///
-    /// /// Reads `width = 1, height = 2`. If both numbers are wrong, both are reported.
-    /// fn size(attrs: &Attrs) -> Result<(Option<u8>, Option<u8>), MacroError> {
-    ///     match (attrs.number("width"), attrs.number("height")) {
-    ///         (Ok(width), Ok(height)) => Ok((width, height)),
-    ///         (Err(mut first), Err(second)) => {
-    ///             first.combine(second);
-    ///             Err(first)
-    ///         }
-    ///         (Err(error), _) | (_, Err(error)) => Err(error),
-    ///     }
-    /// }
+    /// ```
+    /// let attrs = navyspindle::Attrs::parse_text("width = 256, height = -1")?;
+    /// let mut error = attrs.number::<u8>("width").unwrap_err();
+    /// error.combine(attrs.number::<u8>("height").unwrap_err());
+    /// assert_eq!(error.into_iter().count(), 2);
+    /// # Ok::<(), navyspindle::MacroError>(())
     /// ```
     #[inline]
     pub fn combine(&mut self, other: MacroError) {
@@ -177,15 +181,13 @@ impl MacroError {
     ///
     /// Returns the combined error if `errors` has at least one error.
     ///
-    /// ```no_run
-    /// extern crate proc_macro;
-    /// use navyspindle::{LitInt, MacroError};
-    /// use proc_macro::TokenStream;
+    /// ```
+    /// use navyspindle::{Attrs, MacroError};
     ///
-    /// /// Checks that each token is an integer. Each other token is an error.
-    /// fn integers(input: TokenStream) -> Result<(), MacroError> {
-    ///     MacroError::combine_all(input.into_iter().filter_map(|tree| LitInt::try_from(&tree).err()))
-    /// }
+    /// let attrs = Attrs::parse_text("a = 256, b = 1, c")?;
+    /// let errors = attrs.entries().iter().filter_map(|meta| meta.number::<u8>().err());
+    /// assert_eq!(MacroError::combine_all(errors).unwrap_err().into_iter().count(), 2);
+    /// # Ok::<(), MacroError>(())
     /// ```
     pub fn combine_all(errors: impl IntoIterator<Item = MacroError>) -> Result<(), MacroError> {
         let combined = errors.into_iter().reduce(|mut first, other| {
@@ -333,9 +335,8 @@ impl core::error::Error for MacroError {}
 
 /// Iterates over the combined errors, each as an error of its own, in order.
 ///
-/// ```no_run
-/// extern crate proc_macro;
-/// let attrs = navyspindle::Attrs::parse("a, b".parse().unwrap())?;
+/// ```
+/// let attrs = navyspindle::Attrs::parse_text("a, b")?;
 /// let errors = attrs.check(&[]).unwrap_err();
 /// let messages: Vec<_> = errors.into_iter().map(|error| error.to_string()).collect();
 /// assert_eq!(messages, ["unknown name `a`", "unknown name `b`"]);

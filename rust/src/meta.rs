@@ -3,17 +3,17 @@
 use crate::attributes::Attrs;
 use crate::located::Located;
 use crate::macro_error::{MacroError, Mismatch};
-use crate::proc_macros::{next_placed, LitOfKind, Placed};
+use crate::proc_macros::{at, next_placed, LitOfKind, Placed};
+use crate::trees::{self, Tree};
 use crate::value::Number;
 use crate::value_end::{Shape, ValueEnd};
-use crate::{Kind, Lit, LitFloat, LitStr};
-use alloc::string::{String, ToString};
+use crate::{Kind, Lit, LitBool, LitFloat, LitStr};
+use alloc::string::String;
 use alloc::vec;
 use alloc::vec::Vec;
 use core::fmt;
 use core::iter::Peekable;
-use proc_macro::token_stream::IntoIter;
-use proc_macro::{Delimiter, Group, Spacing, Span, TokenStream, TokenTree};
+use proc_macro::{Delimiter, Spacing, Span, TokenStream, TokenTree};
 
 /// An entry of an attribute: a flag (`verbose`), a value (`name = "x"`, `max = u8::MAX`) or a list (`inner(a = 1)`).
 ///
@@ -23,36 +23,29 @@ use proc_macro::{Delimiter, Group, Spacing, Span, TokenStream, TokenTree};
 /// A value is an expression, or a type such as `HashMap<K, V>`. It ends at the next comma outside of brackets and of the parameters
 /// of a closure. `<` opens brackets where Rust reads it so: where an operand or a type is expected, after `::`, and in the return type
 /// of a closure. After a name, `<` opens brackets if a comma, `+`, `::` or the end follows the `>` that closes them, since an operand
-/// follows an operator `>`. So the value of `a = x < y, b = z > w` is `x < y`. `I<A, B = C>::D` is the one type that isn't read as
-/// one, because `x < y, b = z > ::w` are two entries. Write `<I<A, B = C>>::D`.
+/// follows an operator `>`. So the value of `a = x < y, b = z > w` is `x < y`. `a = x < y, b = z > ::w` is an error, because it may be
+/// one type or two comparisons. Write `x::<y, b = z>::w`, or `(x < y)`.
 ///
 /// The methods `string`, `number`, `flag` and `literal_of` read a value that is one literal. A number may follow a minus.
 /// `macro_rules!` may pass the literal on as `$e:literal`.
 ///
 /// ```no_run
 /// extern crate proc_macro;
-/// use navyspindle::{LitStr, MacroError, Meta};
+/// use navyspindle::{MacroError, Meta};
 /// use proc_macro::TokenStream;
 ///
-/// #[derive(Default)]
-/// struct Options {
-///     skip: bool,
-///     rename: Option<String>,
-///     with: Option<TokenStream>,
-/// }
-///
 /// /// Reads `skip`, `rename = "x"` and `with = path::to::function`, in any order.
-/// fn options(input: TokenStream) -> Result<Options, MacroError> {
-///     let mut options = Options::default();
+/// fn options(input: TokenStream) -> Result<(bool, Option<String>, Option<TokenStream>), MacroError> {
+///     let (mut skip, mut rename, mut with) = (false, None, None);
 ///     for meta in Meta::parse_all(input)? {
 ///         match meta.name() {
-///             "skip" => options.skip = meta.flag()?,
-///             "rename" => options.rename = Some(meta.string()?),
-///             "with" => options.with = Some(meta.value()?),
+///             "skip" => skip = meta.flag()?,
+///             "rename" => rename = Some(meta.string()?),
+///             "with" => with = Some(meta.value()?),
 ///             _ => return Err(meta.unknown()),
 ///         }
 ///     }
-///     Ok(options)
+///     Ok((skip, rename, with))
 /// }
 /// ```
 #[doc(alias = "MetaNameValue")]
@@ -61,8 +54,8 @@ use proc_macro::{Delimiter, Group, Spacing, Span, TokenStream, TokenTree};
 #[derive(Clone)]
 pub struct Meta {
     name: String,
-    first: Span,
-    last: Span,
+    first: Option<Span>,
+    last: Option<Span>,
     form: Form,
 }
 
@@ -70,20 +63,18 @@ pub struct Meta {
 #[derive(Clone)]
 enum Form {
     Flag,
-    Value(Vec<TokenTree>),
-    List(Group),
+    Value(Vec<Tree>),
+    List(Tree),
 }
 
 /// The form of an entry of an attribute.
 ///
-/// ```no_run
-/// extern crate proc_macro;
-/// use navyspindle::{Meta, MetaForm};
+/// ```
+/// use navyspindle::{Attrs, MetaForm};
 ///
-/// let form = |text: &str| Meta::parse(text.parse().unwrap()).map(|meta| meta.form());
-/// assert_eq!(form("long")?, MetaForm::Flag);
-/// assert_eq!(form("long = \"x\"")?, MetaForm::Value);
-/// assert_eq!(form("long(\"x\")")?, MetaForm::List);
+/// let attrs = Attrs::parse_text(r#"a, b = "x", c("x")"#)?;
+/// let forms: Vec<_> = attrs.entries().iter().map(|meta| meta.form()).collect();
+/// assert_eq!(forms, [MetaForm::Flag, MetaForm::Value, MetaForm::List]);
 /// # Ok::<(), navyspindle::MacroError>(())
 /// ```
 #[derive(Clone, Copy, Debug, PartialEq, Eq, Hash)]
@@ -116,11 +107,11 @@ impl Meta {
     /// ```
     #[inline]
     pub fn parse(input: TokenStream) -> Result<Meta, MacroError> {
-        let mut trees = Trees::of(input);
+        let mut trees = Trees::of(trees::of_tokens(input));
         let meta = next_meta(&mut trees)?;
         match trees.next() {
             None => Ok(meta),
-            Some(tree) => Err(MacroError::new("unexpected token", tree.span())),
+            Some(tree) => Err(tree.error("unexpected token")),
         }
     }
 
@@ -140,27 +131,13 @@ impl Meta {
     /// ```
     #[inline]
     pub fn parse_all(input: TokenStream) -> Result<Vec<Meta>, MacroError> {
-        let (mut trees, mut metas) = (Trees::of(input), Vec::new());
-        while trees.peek().is_some() {
-            metas.push(next_meta(&mut trees)?);
-            match trees.next() {
-                None => break,
-                Some(tree) if is_mark(&tree, ',') => {}
-                Some(tree) if is_mark(&tree, '>') => {
-                    let message = "expected `,`: before `<` with a comma inside, write `::`";
-                    return Err(MacroError::new(message, tree.span()));
-                }
-                Some(tree) => return Err(MacroError::new("expected `,`", tree.span())),
-            }
-        }
-        Ok(metas)
+        entries_of(trees::of_tokens(input))
     }
 
     /// Returns the entry's name, without `r#`. The parts of a path have `::` between them.
     ///
-    /// ```no_run
-    /// extern crate proc_macro;
-    /// assert_eq!(navyspindle::Meta::parse("r#type = 1".parse().unwrap())?.name(), "type");
+    /// ```
+    /// assert_eq!(navyspindle::Attrs::parse_text("r#type = 1")?.entries()[0].name(), "type");
     /// # Ok::<(), navyspindle::MacroError>(())
     /// ```
     #[inline]
@@ -171,18 +148,11 @@ impl Meta {
 
     /// Returns the form of the entry. [`Meta::value`] and [`Meta::tokens`] return an error for an entry of another form.
     ///
-    /// ```no_run
-    /// extern crate proc_macro;
-    /// use navyspindle::{Attrs, MacroError, MetaForm};
+    /// ```
+    /// use navyspindle::{Attrs, MetaForm};
     ///
-    /// /// Reads `long`, which is the name of the field, or `long = "x"`.
-    /// fn long(attrs: &Attrs, field: &str) -> Result<Option<String>, MacroError> {
-    ///     match attrs.get("long")? {
-    ///         Some(meta) if meta.form() == MetaForm::Flag => Ok(Some(field.to_string())),
-    ///         Some(meta) => meta.string().map(Some),
-    ///         None => Ok(None),
-    ///     }
-    /// }
+    /// assert_eq!(Attrs::parse_text("long")?.entries()[0].form(), MetaForm::Flag);
+    /// # Ok::<(), navyspindle::MacroError>(())
     /// ```
     #[inline]
     #[must_use]
@@ -207,53 +177,46 @@ impl Meta {
     #[inline]
     #[must_use]
     pub fn span(&self) -> Span {
-        self.first
+        at(self.first)
     }
 
     /// Creates an error at the entry's name.
     ///
-    /// ```no_run
-    /// extern crate proc_macro;
-    /// let meta = navyspindle::Meta::parse("a = 1".parse().unwrap())?;
+    /// ```
+    /// let meta = navyspindle::Attrs::parse_text("a = 1")?.entries()[0].clone();
     /// assert_eq!(meta.error("use `b`").to_string(), "use `b`");
     /// # Ok::<(), navyspindle::MacroError>(())
     /// ```
     #[must_use]
     pub fn error(&self, message: impl fmt::Display) -> MacroError {
-        MacroError::between(message, self.first, self.last)
+        MacroError::near(message, self.first, self.last)
     }
 
     /// Creates an error at the value, from its first token to its last. For a list, the error is at the whole list. For a flag, the
     /// error is at the name.
     ///
-    /// ```no_run
-    /// extern crate proc_macro;
-    /// use navyspindle::{MacroError, Meta};
-    ///
-    /// fn size(meta: &Meta) -> Result<u8, MacroError> {
-    ///     match meta.number()? {
-    ///         0 => Err(meta.value_error("expected a positive number")),
-    ///         size => Ok(size),
-    ///     }
-    /// }
+    /// ```
+    /// let attrs = navyspindle::Attrs::parse_text("size = 0")?;
+    /// let error = attrs.entries()[0].value_error("expected a positive number");
+    /// assert_eq!(error.to_string(), "expected a positive number");
+    /// # Ok::<(), navyspindle::MacroError>(())
     /// ```
     #[must_use]
     pub fn value_error(&self, message: impl fmt::Display) -> MacroError {
         match &self.form {
             Form::Value(trees) => {
                 let (first, last) = (&trees[0], &trees[trees.len() - 1]);
-                MacroError::between(message, first.span(), last.span())
+                MacroError::near(message, first.span(), last.span())
             }
-            Form::List(group) => MacroError::new(message, group.span()),
+            Form::List(group) => group.error(message),
             Form::Flag => self.error(message),
         }
     }
 
     /// Creates the error that the entry's name is unknown. The error is at the name.
     ///
-    /// ```no_run
-    /// extern crate proc_macro;
-    /// let meta = navyspindle::Meta::parse("nme = 1".parse().unwrap())?;
+    /// ```
+    /// let meta = navyspindle::Attrs::parse_text("nme = 1")?.entries()[0].clone();
     /// assert_eq!(meta.unknown().to_string(), "unknown name `nme`");
     /// # Ok::<(), navyspindle::MacroError>(())
     /// ```
@@ -278,7 +241,7 @@ impl Meta {
     #[must_use]
     pub fn literal(&self) -> Option<(Lit<'static>, Span)> {
         let placed = self.placed("literal").ok()?;
-        Some((placed.literal, placed.span))
+        Some((placed.literal, at(placed.span)))
     }
 
     /// Returns the entry's value as a literal of kind `L`, and the span of the literal's token, without its minus.
@@ -297,7 +260,7 @@ impl Meta {
     /// # Ok::<(), navyspindle::MacroError>(())
     /// ```
     pub fn literal_of<L: LitOfKind>(&self) -> Result<(L, Span), MacroError> {
-        self.placed(L::KIND)?.of_kind()
+        self.located().map(Located::into_parts)
     }
 
     /// Returns the entry's value as a literal of kind `L`, with its spans.
@@ -306,18 +269,12 @@ impl Meta {
     ///
     /// Returns the errors of [`Meta::literal_of`].
     ///
-    /// ```no_run
-    /// extern crate proc_macro;
-    /// use navyspindle::{LitStr, MacroError, Meta};
+    /// ```
+    /// use navyspindle::{Attrs, LitStr};
     ///
-    /// /// Reads a path without a colon.
-    /// fn path(meta: &Meta) -> Result<String, MacroError> {
-    ///     let path = meta.located::<LitStr>()?;
-    ///     match path.value().find(':') {
-    ///         Some(at) => Err(path.error_inside(at..at + 1, "unexpected `:`")),
-    ///         None => Ok(path.value().into_owned()),
-    ///     }
-    /// }
+    /// let path = Attrs::parse_text(r#"path = "a:b""#)?.entries()[0].located::<LitStr>()?;
+    /// assert_eq!(path.error_inside(1..2, "unexpected `:`").to_string(), "unexpected `:`\n\"a:b\"\n  ^");
+    /// # Ok::<(), navyspindle::MacroError>(())
     /// ```
     #[inline]
     pub fn located<L: LitOfKind>(&self) -> Result<Located<L>, MacroError> {
@@ -331,11 +288,10 @@ impl Meta {
     ///
     /// Returns an error if the entry is a flag, or has another value or list.
     ///
-    /// ```no_run
-    /// extern crate proc_macro;
-    /// use navyspindle::{LitStr, Meta};
+    /// ```
+    /// use navyspindle::{LitStr};
     ///
-    /// let meta = Meta::parse(r#"alias("a", "b")"#.parse().unwrap())?;
+    /// let meta = navyspindle::Attrs::parse_text(r#"alias("a", "b")"#)?.entries()[0].clone();
     /// let aliases = meta.literals::<LitStr>()?;
     /// assert_eq!(aliases[1].value(), "b");
     /// # Ok::<(), navyspindle::MacroError>(())
@@ -344,24 +300,25 @@ impl Meta {
         let group = match &self.form {
             Form::List(group) => group,
             Form::Value(trees) => match &trees[..] {
-                [TokenTree::Group(group)] if group.delimiter() == Delimiter::Bracket => group,
+                [group] if group.delimiter() == Some(Delimiter::Bracket) => group,
                 _ => return Err(self.value_error("expected an array: `[..]`")),
             },
-            Form::Flag => {
-                return Err(self.error(format_args!("expected a list: `{}(..)`", self.name)))
-            }
+            Form::Flag => return Err(self.list_error()),
         };
-        let (mut trees, mut literals) = (group.stream().into_iter().peekable(), Vec::new());
-        while trees.peek().is_some() {
-            literals.push(Located::next(&mut trees)?);
+        let (mut trees, mut literals) = (group.inside().into_iter(), Vec::new());
+        while !trees.as_slice().is_empty() {
+            literals.push(Located::of(next_placed(&mut trees, L::KIND)?)?);
             match trees.next() {
-                Some(tree) if !is_mark(&tree, ',') => {
-                    return Err(MacroError::new("expected `,`", tree.span()))
-                }
+                Some(tree) if !tree.is_mark(',') => return Err(tree.error("expected `,`")),
                 _ => {}
             }
         }
         Ok(literals)
+    }
+
+    /// Creates the error that a flag should be a list.
+    fn list_error(&self) -> MacroError {
+        self.error(format_args!("expected a list: `{}(..)`", self.name))
     }
 
     /// Returns the value of the entry's string literal. The literal must have no suffix.
@@ -370,21 +327,17 @@ impl Meta {
     ///
     /// Returns an error if there is no value, or if it isn't one string literal without a suffix.
     ///
-    /// ```no_run
-    /// extern crate proc_macro;
-    /// let meta = navyspindle::Meta::parse(r#"rename = "a\x41""#.parse().unwrap())?;
+    /// ```
+    /// let meta = navyspindle::Attrs::parse_text(r#"rename = "a\x41""#)?.entries()[0].clone();
     /// assert_eq!(meta.string()?, "aA");
     /// # Ok::<(), navyspindle::MacroError>(())
     /// ```
     #[inline]
     pub fn string(&self) -> Result<String, MacroError> {
-        let (literal, span) = self.literal_of::<LitStr>()?;
+        let literal = self.located::<LitStr>()?;
         match literal.suffix() {
-            "" => Ok(literal.into_value().into_owned()),
-            suffix => Err(MacroError::new(
-                format_args!("unexpected suffix `{suffix}`"),
-                span,
-            )),
+            "" => Ok(literal.into_literal().into_value().into_owned()),
+            suffix => Err(literal.error(format_args!("unexpected suffix `{suffix}`"))),
         }
     }
 
@@ -397,9 +350,8 @@ impl Meta {
     ///
     /// Returns an error if there is no value, if it isn't one number, or if the number isn't of the type.
     ///
-    /// ```no_run
-    /// extern crate proc_macro;
-    /// let meta = navyspindle::Meta::parse("size = 0x1F".parse().unwrap())?;
+    /// ```
+    /// let meta = navyspindle::Attrs::parse_text("size = 0x1F")?.entries()[0].clone();
     /// assert_eq!(meta.number::<u8>()?, 31);
     /// assert_eq!(meta.number::<f64>()?, 31.0);
     /// # Ok::<(), navyspindle::MacroError>(())
@@ -410,18 +362,14 @@ impl Meta {
             false => Kind::Int,
         };
         let placed = self.placed(expected)?;
-        let (first, span) = (placed.first, placed.span);
         let number = match &placed.literal {
             Lit::Int(literal) => literal.value_or_float(),
             Lit::Float(literal) => literal.value(),
             // An integer above 128 bits that is a float by its suffix.
             Lit::Verbatim(large) => LitFloat::of_text(large.text())?.value(),
-            other => {
-                let message = Mismatch(expected, other.kind());
-                return Err(MacroError::between(message, first, span));
-            }
+            other => return Err(placed.error(Mismatch(expected, other.kind()))),
         };
-        number.map_err(|error| MacroError::between(error.message(), first, span))
+        number.map_err(|error| placed.error(error.message()))
     }
 
     /// Returns `true` for a flag and for the value `true`, and `false` for the value `false`.
@@ -430,11 +378,8 @@ impl Meta {
     ///
     /// Returns an error if the entry is a list, or has a value other than `true` and `false`.
     ///
-    /// ```no_run
-    /// extern crate proc_macro;
-    /// use navyspindle::Meta;
-    ///
-    /// let flag = |text: &str| Meta::parse(text.parse().unwrap())?.flag();
+    /// ```
+    /// let flag = |text: &str| navyspindle::Attrs::parse_text(text)?.entries()[0].flag();
     /// assert_eq!((flag("verbose")?, flag("verbose = false")?), (true, false));
     /// # Ok::<(), navyspindle::MacroError>(())
     /// ```
@@ -442,14 +387,14 @@ impl Meta {
     pub fn flag(&self) -> Result<bool, MacroError> {
         match &self.form {
             Form::Flag => Ok(true),
-            Form::Value(_) => match self.literal() {
-                Some((Lit::Bool(literal), _)) => Ok(literal.value()),
+            Form::Value(_) => match self.located::<LitBool>() {
+                Ok(literal) => Ok(literal.value()),
                 _ => {
                     let message = format_args!("unexpected value: write `{}` alone", self.name);
                     Err(self.value_error(message))
                 }
             },
-            Form::List(group) => Err(MacroError::new("unexpected list", group.span_open())),
+            Form::List(group) => Err(at_opening(group, "unexpected list")),
         }
     }
 
@@ -468,7 +413,7 @@ impl Meta {
     /// ```
     #[inline]
     pub fn value(&self) -> Result<TokenStream, MacroError> {
-        Ok(self.value_trees()?.iter().cloned().collect())
+        trees::tokens_of(self.value_trees()?)
     }
 
     /// Returns the tokens inside the entry's list.
@@ -479,20 +424,13 @@ impl Meta {
     ///
     /// ```no_run
     /// extern crate proc_macro;
-    /// use navyspindle::{next_literal_of, LitStr, MacroError, Meta};
-    ///
-    /// /// `"x"` of `alias("x")`.
-    /// fn alias(meta: &Meta) -> Result<LitStr<'static>, MacroError> {
-    ///     Ok(next_literal_of(&mut meta.tokens()?.into_iter())?.0)
-    /// }
+    /// let meta = navyspindle::Meta::parse("ops(a + b)".parse().unwrap())?;
+    /// assert_eq!(meta.tokens()?.into_iter().count(), 3);
+    /// # Ok::<(), navyspindle::MacroError>(())
     /// ```
     #[inline]
     pub fn tokens(&self) -> Result<TokenStream, MacroError> {
-        match &self.form {
-            Form::List(group) => Ok(group.stream()),
-            Form::Flag => Err(self.error(format_args!("expected a list: `{}(..)`", self.name))),
-            Form::Value(trees) => Err(MacroError::new("expected a list", trees[0].span())),
-        }
+        trees::tokens_of(&self.list_trees()?)
     }
 
     /// Parses the tokens inside the entry's list as entries.
@@ -501,24 +439,31 @@ impl Meta {
     ///
     /// Returns an error if the entry is a flag or has a value. Otherwise returns the error of [`Meta::parse_all`].
     ///
-    /// ```no_run
-    /// extern crate proc_macro;
-    /// let meta = navyspindle::Meta::parse("inner(a = 1)".parse().unwrap())?;
+    /// ```
+    /// let meta = navyspindle::Attrs::parse_text("inner(a = 1)")?.entries()[0].clone();
     /// assert_eq!(meta.list()?.number::<u8>("a")?, Some(1));
     /// # Ok::<(), navyspindle::MacroError>(())
     /// ```
     #[inline]
     pub fn list(&self) -> Result<Attrs, MacroError> {
-        let entries = Meta::parse_all(self.tokens()?)?;
-        Ok(Attrs::of(entries, Some((self.first, self.last))))
+        let entries = entries_of(self.list_trees()?)?;
+        Ok(Attrs::of(entries, self.first.zip(self.last)))
+    }
+
+    fn list_trees(&self) -> Result<Vec<Tree>, MacroError> {
+        match &self.form {
+            Form::List(group) => Ok(group.inside()),
+            Form::Flag => Err(self.list_error()),
+            Form::Value(trees) => Err(trees[0].error("expected a list")),
+        }
     }
 
     #[inline]
-    fn value_trees(&self) -> Result<&[TokenTree], MacroError> {
+    fn value_trees(&self) -> Result<&[Tree], MacroError> {
         match &self.form {
             Form::Value(trees) => Ok(trees),
             Form::Flag => Err(self.error(format_args!("expected a value: `{} = ..`", self.name))),
-            Form::List(group) => Err(MacroError::new("expected a value", group.span_open())),
+            Form::List(group) => Err(at_opening(group, "expected a value")),
         }
     }
 
@@ -529,7 +474,7 @@ impl Meta {
         let placed = next_placed(&mut trees, expected)?;
         match trees.next() {
             None => Ok(placed),
-            Some(tree) => Err(MacroError::new("expected `,`", tree.span())),
+            Some(tree) => Err(tree.error("expected `,`")),
         }
     }
 }
@@ -546,6 +491,11 @@ impl fmt::Debug for Meta {
     }
 }
 
+/// Creates an error at a group's opening delimiter.
+fn at_opening(group: &Tree, message: &str) -> MacroError {
+    MacroError::near(message, group.span_open(), group.span_open())
+}
+
 /// A cursor over token trees, with a view of the next tree and the span of the previous one. `open` is a stack: below the innermost
 /// opened group without brackets are the trees that follow the group.
 struct Trees {
@@ -555,57 +505,54 @@ struct Trees {
 
 /// The trees of the input, or of a group without brackets.
 struct Level {
-    trees: Peekable<IntoIter>,
-    /// Whether each of the trees is a `<` that opens angle brackets.
-    opens: vec::IntoIter<bool>,
+    trees: vec::IntoIter<Tree>,
+    /// For each of the trees `Open` or `Ambiguous`, if it is a `<` of this class.
+    opens: vec::IntoIter<Option<Shape>>,
 }
 
 impl Level {
     #[inline]
-    fn of(input: TokenStream) -> Level {
+    fn of(trees: Vec<Tree>) -> Level {
         Level {
-            opens: opening(input.clone()).into_iter(),
-            trees: input.into_iter().peekable(),
+            opens: opening(&trees).into_iter(),
+            trees: trees.into_iter(),
         }
     }
 }
 
-/// Returns for each of the trees whether it is a `<` that opens angle brackets: what follows the matching `>` is no operand. So the
-/// `>` is no operator.
-fn opening(input: TokenStream) -> Vec<bool> {
-    let mark_of = |tree| match tree {
-        TokenTree::Punct(punct) => Some(punct.as_char()),
-        _ => None,
-    };
-    let marks: Vec<Option<char>> = input.into_iter().map(mark_of).collect();
-    let mut opens = vec![false; marks.len()];
-    let (mut open, mut equals) = (Vec::new(), 0);
-    for (at, &mark) in marks.iter().enumerate() {
+/// Returns `Open` for each `<` of the trees that opens angle brackets: no operand follows the matching `>`, so the `>` is no operator.
+fn opening(trees: &[Tree]) -> Vec<Option<Shape>> {
+    let mark_at = |at: usize| trees.get(at).map(|tree| tree.mark().map(|it| it.0));
+    let mut opens = vec![None; trees.len()];
+    let (mut open, mut equals, mut before) = (Vec::new(), 0, None);
+    for (at, tree) in trees.iter().enumerate() {
+        let mark = tree.mark().map(|it| it.0);
         match mark {
             Some('=') => equals += 1,
             Some('<') => open.push((at, equals)),
-            Some('>') if at == 0 || marks[at - 1] != Some('-') => {
-                let Some((from, before)) = open.pop() else {
-                    continue;
-                };
-                opens[from] = match marks.get(at + 1) {
-                    None | Some(Some(',' | '+')) => true,
-                    // With `=` inside, `::` may be an operand, and the `=` that of the next entry.
-                    Some(Some(':')) => equals == before,
-                    Some(_) => false,
-                };
+            Some('>') if before != Some('-') => {
+                if let Some((from, equals_before)) = open.pop() {
+                    opens[from] = match mark_at(at + 1) {
+                        None | Some(Some(',' | '+')) => Some(Shape::Open),
+                        Some(Some(':')) if equals == equals_before => Some(Shape::Open),
+                        // The `::` may begin an operand, and the `=` inside may be that of the next entry.
+                        Some(Some(':')) => Some(Shape::Ambiguous),
+                        Some(_) => None,
+                    };
+                }
             }
             _ => {}
         }
+        before = mark;
     }
     opens
 }
 
 impl Trees {
     #[inline]
-    fn of(input: TokenStream) -> Trees {
+    fn of(trees: Vec<Tree>) -> Trees {
         Trees {
-            open: vec![Level::of(input)],
+            open: vec![Level::of(trees)],
             before: None,
         }
     }
@@ -613,15 +560,15 @@ impl Trees {
     /// Returns the innermost opened group that has trees left, after dropping the groups at their end.
     #[inline]
     fn innermost(&mut self) -> Option<&mut Level> {
-        while self.open.last_mut()?.trees.peek().is_none() {
+        while self.open.last()?.trees.as_slice().is_empty() {
             self.open.pop();
         }
         self.open.last_mut()
     }
 
     #[inline]
-    fn peek(&mut self) -> Option<&TokenTree> {
-        self.innermost()?.trees.peek()
+    fn peek(&mut self) -> Option<&Tree> {
+        self.innermost()?.trees.as_slice().first()
     }
 
     /// Returns the class of the next tree.
@@ -629,35 +576,35 @@ impl Trees {
     fn shape(&mut self) -> Option<Shape> {
         let level = self.innermost()?;
         match level.opens.as_slice() {
-            [true, ..] => Some(Shape::Open),
-            _ => level.trees.peek().map(shape_of),
+            [Some(shape), ..] => Some(*shape),
+            _ => level.trees.as_slice().first().map(Tree::shape),
         }
     }
 
     #[inline]
-    fn next(&mut self) -> Option<TokenTree> {
+    fn next(&mut self) -> Option<Tree> {
         let level = self.innermost()?;
         level.opens.next();
         let tree = level.trees.next()?;
-        self.before = Some(tree.span());
+        self.before = tree.span();
         Some(tree)
     }
 
+    /// Consumes and returns the next tree, if it is the punctuation character.
     #[inline]
-    fn begins_with_kind(&mut self, mark: char) -> bool {
-        self.peek().is_some_and(|tree| is_mark(tree, mark))
+    fn next_mark(&mut self, mark: char) -> Option<Tree> {
+        match self.peek()?.is_mark(mark) {
+            true => self.next(),
+            false => None,
+        }
     }
 
     /// Enters the groups without brackets that are next. `macro_rules!` passes a path on in such a group.
     #[inline]
     fn open_groups(&mut self) {
-        while let Some(TokenTree::Group(group)) = self.peek() {
-            if group.delimiter() != Delimiter::None {
-                return;
-            }
-            let inside = Level::of(group.stream());
-            self.next();
-            self.open.push(inside);
+        while self.peek().and_then(Tree::delimiter) == Some(Delimiter::None) {
+            let inside = self.next().map_or(Vec::new(), |group| group.inside());
+            self.open.push(Level::of(inside));
         }
     }
 
@@ -665,79 +612,76 @@ impl Trees {
     #[inline]
     fn expected(&mut self, what: &str) -> MacroError {
         match self.peek() {
-            Some(tree) => MacroError::new(format_args!("expected {what}"), tree.span()),
+            Some(tree) => tree.error(format_args!("expected {what}")),
             None => {
-                let span = self.before.unwrap_or_else(Span::call_site);
-                MacroError::new(
-                    format_args!("unexpected end of input, expected {what}"),
-                    span,
-                )
+                let message = format_args!("unexpected end of input, expected {what}");
+                MacroError::near(message, self.before, self.before)
             }
         }
     }
 }
 
-#[inline]
-fn is_mark(tree: &TokenTree, mark: char) -> bool {
-    matches!(tree, TokenTree::Punct(punct) if punct.as_char() == mark)
+/// Returns the entries of the trees, with commas between them.
+pub(crate) fn entries_of(trees: Vec<Tree>) -> Result<Vec<Meta>, MacroError> {
+    let (mut trees, mut metas) = (Trees::of(trees), Vec::new());
+    while trees.peek().is_some() {
+        metas.push(next_meta(&mut trees)?);
+        let Some(tree) = trees.next() else { break };
+        return Err(tree.error(match tree.mark() {
+            Some((',', _)) => continue,
+            Some(('>', _)) => "expected `,`: before `<` with a comma inside, write `::`",
+            Some(('<', _)) => "ambiguous `<`: write `::<`, or a comparison in parentheses",
+            _ => "expected `,`",
+        }));
+    }
+    Ok(metas)
 }
 
 /// Consumes and returns the next entry.
 #[inline]
 fn next_meta(trees: &mut Trees) -> Result<Meta, MacroError> {
     let (name, first, last) = next_name(trees)?;
-    let form = match trees.peek() {
-        Some(TokenTree::Group(group)) if group.delimiter() != Delimiter::None => {
-            let group = group.clone();
-            trees.next();
-            Form::List(group)
-        }
-        Some(tree) if is_mark(tree, '=') => {
-            trees.next();
-            Form::Value(value_of_entry(trees)?)
-        }
-        _ => Form::Flag,
+    let form = match trees.peek().and_then(Tree::delimiter) {
+        Some(delimiter) if delimiter != Delimiter::None => trees.next().map(Form::List),
+        _ => match trees.next_mark('=') {
+            Some(_) => Some(Form::Value(value_of_entry(trees)?)),
+            None => None,
+        },
     };
     Ok(Meta {
         name,
         first,
         last,
-        form,
+        form: form.unwrap_or(Form::Flag),
     })
 }
 
 /// Consumes a path. Returns it as text, with its first and its last span.
 #[inline]
-fn next_name(trees: &mut Trees) -> Result<(String, Span, Span), MacroError> {
+fn next_name(trees: &mut Trees) -> Result<(String, Option<Span>, Option<Span>), MacroError> {
     trees.open_groups();
     let (mut name, mut first) = (String::new(), None);
     loop {
-        if let Some(TokenTree::Punct(mark)) = trees.peek().filter(|tree| is_mark(tree, ':')) {
-            let (colon, is_joint) = (mark.span(), mark.spacing() == Spacing::Joint);
-            first = first.or(Some(colon));
-            trees.next();
-            if !is_joint || !trees.begins_with_kind(':') {
+        if let Some(colon) = trees.next_mark(':') {
+            first = first.or(colon.span());
+            if colon.mark() != Some((':', Spacing::Joint)) || trees.next_mark(':').is_none() {
                 // One colon after a name is a mistake for `=`, as in `name: "a"`.
                 let is_named = !name.is_empty();
                 let expected = if is_named { "`=`" } else { "identifier" };
-                return Err(MacroError::new(format_args!("expected {expected}"), colon));
+                return Err(colon.error(format_args!("expected {expected}")));
             }
-            trees.next();
             name.push_str("::");
         }
-        let Some(TokenTree::Ident(word)) = trees.peek() else {
+        let word = trees.peek().and_then(Tree::word).filter(|it| it != "_");
+        let Some(word) = word else {
             return Err(trees.expected("identifier"));
         };
-        let (text, span) = (word.to_string(), word.span());
-        if text == "_" {
-            return Err(trees.expected("identifier"));
+        let span = trees.next().and_then(|tree| tree.span());
+        name.push_str(word.strip_prefix("r#").unwrap_or(&word));
+        first = first.or(span);
+        if !trees.peek().is_some_and(|tree| tree.is_mark(':')) {
+            return Ok((name, first, span));
         }
-        trees.next();
-        name.push_str(text.strip_prefix("r#").unwrap_or(&text));
-        if !trees.begins_with_kind(':') {
-            return Ok((name, first.unwrap_or(span), span));
-        }
-        first = first.or(Some(span));
     }
 }
 
@@ -765,7 +709,8 @@ pub fn next_attributes(
     tokens: &mut Peekable<impl Iterator<Item = TokenTree>>,
 ) -> Result<Vec<Meta>, MacroError> {
     let mut metas = Vec::new();
-    while let Some(hash) = tokens.next_if(|tree| is_mark(tree, '#')) {
+    let is_hash = |tree: &TokenTree| matches!(tree, TokenTree::Punct(it) if it.as_char() == '#');
+    while let Some(hash) = tokens.next_if(is_hash) {
         match tokens.next() {
             Some(TokenTree::Group(group)) if group.delimiter() == Delimiter::Bracket => {
                 metas.push(Meta::parse(group.stream())?);
@@ -811,52 +756,32 @@ pub fn next_attributes(
 pub fn next_value(
     tokens: &mut Peekable<impl Iterator<Item = TokenTree>>,
 ) -> Result<TokenStream, MacroError> {
-    let value = before_comma(|end| tokens.next_if(|tree| !end.is_at(shape_of(tree))));
+    let mut end = ValueEnd::default();
+    let mut is_inside = |tree: &TokenTree| !end.is_at(Tree::Token(tree.clone()).shape());
+    let value: Vec<_> = core::iter::from_fn(|| tokens.next_if(&mut is_inside)).collect();
     if !value.is_empty() {
         return Ok(value.into_iter().collect());
     }
     Err(match tokens.peek() {
         Some(tree) => MacroError::new("expected a value", tree.span()),
-        None => MacroError::new(
-            "unexpected end of input, expected a value",
-            Span::call_site(),
-        ),
+        None => {
+            let message = "unexpected end of input, expected a value";
+            MacroError::near(message, None, None)
+        }
     })
 }
 
-/// Returns the token trees before the comma or semicolon that ends a value. `next` consumes and returns the next tree, unless it is that comma.
-fn before_comma(mut next: impl FnMut(&mut ValueEnd) -> Option<TokenTree>) -> Vec<TokenTree> {
-    let mut end = ValueEnd::default();
-    core::iter::from_fn(|| next(&mut end)).collect()
-}
-
-/// Consumes and returns the value of an entry: all token trees up to the comma or semicolon that ends it.
+/// Consumes and returns the value of an entry: all token trees up to the one that ends it.
 #[inline]
-fn value_of_entry(trees: &mut Trees) -> Result<Vec<TokenTree>, MacroError> {
-    let value = before_comma(|end| match end.is_at(trees.shape()?) {
-        true => None,
-        false => trees.next(),
-    });
+fn value_of_entry(trees: &mut Trees) -> Result<Vec<Tree>, MacroError> {
+    let (mut end, mut value) = (ValueEnd::default(), Vec::new());
+    while trees.shape().is_some_and(|shape| !end.is_at(shape)) {
+        value.extend(trees.next());
+    }
     // A value that begins with `=` or `>` belongs to the token `==` or `=>`, which can't follow a name.
     match value.first() {
-        Some(tree) if is_mark(tree, '=') || is_mark(tree, '>') => {
-            Err(MacroError::new("expected a value", tree.span()))
-        }
+        Some(tree) if tree.is_mark('=') || tree.is_mark('>') => Err(tree.error("expected a value")),
         Some(_) => Ok(value),
         None => Err(trees.expected("a value")),
-    }
-}
-
-/// Classifies a token tree for the search for the end of a value.
-#[inline]
-fn shape_of(tree: &TokenTree) -> Shape {
-    match tree {
-        TokenTree::Punct(punct) => match (punct.as_char(), punct.spacing()) {
-            ('<', Spacing::Joint) => Shape::Joint,
-            (mark, _) => Shape::Mark(mark),
-        },
-        TokenTree::Group(group) if group.delimiter() == Delimiter::Brace => Shape::Braces,
-        TokenTree::Ident(word) => Shape::of_word(&word.to_string()),
-        _ => Shape::Other,
     }
 }

@@ -1,7 +1,10 @@
 //! Literals among the tokens of procedural macros.
 
-use crate::macro_error::{spanned, MacroError, Mismatch};
-use crate::{Kind, Lit, LitBool, LitByte, LitByteStr, LitCStr, LitChar, LitFloat, LitInt, LitStr};
+use crate::macro_error::{spanned, MacroError};
+use crate::trees::Tree;
+use crate::{
+    Kind, Lit, LitBool, LitByte, LitByteStr, LitCStr, LitChar, LitFloat, LitInt, LitStr, Located,
+};
 use alloc::format;
 use alloc::string::{String, ToString};
 use core::fmt;
@@ -11,8 +14,8 @@ use proc_macro::{Delimiter, Ident, Literal, Punct, Spacing, Span, TokenStream, T
 
 /// Parses a text as a literal. An error is at `span`.
 #[inline]
-fn parsed(text: String, span: Span) -> Result<Lit<'static>, MacroError> {
-    Lit::try_from(text).map_err(|error| MacroError::new(error.kind(), span))
+fn parsed(text: String, span: Option<Span>) -> Result<Lit<'static>, MacroError> {
+    Lit::try_from(text).map_err(|error| MacroError::near(error.kind(), span, span))
 }
 
 /// Consumes and returns the next literal of a macro's input, with its span.
@@ -30,27 +33,18 @@ fn parsed(text: String, span: Span) -> Result<Lit<'static>, MacroError> {
 /// ```no_run
 /// extern crate proc_macro;
 /// use navyspindle::{next_literal, MacroError};
-/// use proc_macro::{TokenStream, TokenTree};
 ///
-/// /// Counts the literals of `1, "a", -2.5`.
-/// fn count(input: TokenStream) -> Result<usize, MacroError> {
-///     let (mut tokens, mut count) = (input.into_iter().peekable(), 0);
-///     while tokens.peek().is_some() {
-///         next_literal(&mut tokens)?;
-///         count += 1;
-///         match tokens.next() {
-///             None => break,
-///             Some(TokenTree::Punct(mark)) if mark.as_char() == ',' => {}
-///             Some(tree) => return Err(MacroError::new("expected `,`", tree.span())),
-///         }
-///     }
-///     Ok(count)
+/// /// Returns the text of the first literal of `-2.5, 1`.
+/// fn first(input: proc_macro::TokenStream) -> Result<String, MacroError> {
+///     let (literal, _) = next_literal(&mut input.into_iter())?;
+///     Ok(literal.text().to_string())
 /// }
 /// ```
 pub fn next_literal(
     tokens: &mut impl Iterator<Item = TokenTree>,
 ) -> Result<(Lit<'static>, Span), MacroError> {
-    next_placed(tokens, "literal").map(|placed| (placed.literal, placed.span))
+    let placed = next_placed(&mut tokens.map(Tree::Token), "literal")?;
+    Ok((placed.literal, at(placed.span)))
 }
 
 /// Consumes and returns the next literal of a macro's input, which must be of one kind, with its span. It reads like
@@ -76,7 +70,7 @@ pub fn next_literal(
 pub fn next_literal_of<L: LitOfKind>(
     tokens: &mut impl Iterator<Item = TokenTree>,
 ) -> Result<(L, Span), MacroError> {
-    next_placed(tokens, L::KIND)?.of_kind()
+    Located::next(tokens).map(Located::into_parts)
 }
 
 /// Returns the literal that is the whole input of a macro, which must be of one kind, with its span. It reads like
@@ -91,17 +85,14 @@ pub fn next_literal_of<L: LitOfKind>(
 /// extern crate proc_macro;
 /// use navyspindle::{only_literal_of, LitStr, MacroError};
 ///
-/// /// Reads the input `"a"`. An empty path is an error at the string.
+/// /// Reads the input `"a"`.
 /// fn path(input: proc_macro::TokenStream) -> Result<String, MacroError> {
-///     let (path, span) = only_literal_of::<LitStr>(input)?;
-///     match path.into_value().into_owned() {
-///         path if path.is_empty() => Err(MacroError::new("empty path", span)),
-///         path => Ok(path),
-///     }
+///     let (path, _) = only_literal_of::<LitStr>(input)?;
+///     Ok(path.into_value().into_owned())
 /// }
 /// ```
 pub fn only_literal_of<L: LitOfKind>(input: TokenStream) -> Result<(L, Span), MacroError> {
-    whole(input, L::KIND)?.of_kind()
+    Located::only(input).map(Located::into_parts)
 }
 
 mod sealed {
@@ -124,15 +115,10 @@ mod sealed {
 /// ```no_run
 /// extern crate proc_macro;
 /// use navyspindle::{next_literal_of, LitOfKind, MacroError};
-/// use proc_macro::TokenStream;
 ///
-/// /// All literals, of one kind.
-/// fn all<L: LitOfKind>(input: TokenStream) -> Result<Vec<L>, MacroError> {
-///     let (mut tokens, mut all) = (input.into_iter().peekable(), Vec::new());
-///     while tokens.peek().is_some() {
-///         all.push(next_literal_of::<L>(&mut tokens)?.0);
-///     }
-///     Ok(all)
+/// /// Returns the first literal, which must be of kind `L`.
+/// fn first<L: LitOfKind>(input: proc_macro::TokenStream) -> Result<L, MacroError> {
+///     next_literal_of(&mut input.into_iter()).map(|(literal, _)| literal)
 /// }
 /// ```
 pub trait LitOfKind: sealed::Kinded + TryFrom<Lit<'static>, Error = Lit<'static>> {}
@@ -140,103 +126,92 @@ pub trait LitOfKind: sealed::Kinded + TryFrom<Lit<'static>, Error = Lit<'static>
 /// A literal among tokens. `span` is the span of its own token. `first` is the span of its minus, or else the same as `span`.
 pub(crate) struct Placed {
     pub(crate) literal: Lit<'static>,
-    pub(crate) first: Span,
-    pub(crate) span: Span,
+    pub(crate) first: Option<Span>,
+    pub(crate) span: Option<Span>,
 }
 
 impl Placed {
-    /// Creates a `Placed` for a literal without a minus.
-    #[inline]
-    fn at(literal: Lit<'static>, span: Span) -> Placed {
-        let first = span;
-        Placed {
-            literal,
-            first,
-            span,
-        }
+    /// Creates an error at the literal.
+    pub(crate) fn error(&self, message: impl fmt::Display) -> MacroError {
+        MacroError::near(message, self.first, self.span)
     }
+}
 
-    /// Returns the literal, which must be of one kind, and its span.
-    pub(crate) fn of_kind<L: LitOfKind>(self) -> Result<(L, Span), MacroError> {
-        let (first, span) = (self.first, self.span);
-        let literal = L::try_from(self.literal).map_err(|other| {
-            let found = other.kind();
-            MacroError::between(Mismatch(L::KIND, found), first, span)
-        });
-        Ok((literal?, span))
-    }
+/// Returns the span, or that of the macro's call for a token of a text.
+#[inline]
+pub(crate) fn at(span: Option<Span>) -> Span {
+    span.unwrap_or_else(Span::call_site)
 }
 
 /// Returns the literal that consists of all tokens of a macro's input. `expected` is the kind that errors name.
 pub(crate) fn whole(input: TokenStream, expected: impl fmt::Display) -> Result<Placed, MacroError> {
-    let mut tokens = input.into_iter();
-    let placed = next_placed(&mut tokens, expected)?;
-    match tokens.next() {
+    let mut trees = input.into_iter().map(Tree::Token);
+    let placed = next_placed(&mut trees, expected)?;
+    match trees.next() {
         None => Ok(placed),
-        Some(tree) => Err(MacroError::new("unexpected token", tree.span())),
+        Some(tree) => Err(tree.error("unexpected token")),
     }
 }
 
 /// Consumes and returns the next literal. `expected` is the kind that errors name.
 pub(crate) fn next_placed(
-    tokens: &mut impl Iterator<Item = TokenTree>,
+    trees: &mut dyn Iterator<Item = Tree>,
     expected: impl fmt::Display,
 ) -> Result<Placed, MacroError> {
     let expected: &dyn fmt::Display = &expected;
-    let Some(tree) = tokens.next() else {
-        let message = format_args!("unexpected end of input, expected {expected}");
-        return Err(MacroError::new(message, Span::call_site()));
-    };
-    match &tree {
-        TokenTree::Punct(mark) if mark.as_char() == '-' => {
-            negative(tokens.next(), mark.span(), expected)
+    match trees.next() {
+        Some(tree) if tree.is_mark('-') => negative(trees.next(), &tree, expected),
+        Some(tree) => literal_of(&tree, expected),
+        None => {
+            let message = format_args!("unexpected end of input, expected {expected}");
+            Err(MacroError::near(message, None, None))
         }
-        _ => literal_of(&tree, expected),
     }
 }
 
-/// Returns the literal that consists of a minus, whose span is `minus`, and of the token tree after it.
+/// Returns the literal that consists of the tree `minus`, and of the tree after it.
 #[inline]
 fn negative(
-    tree: Option<TokenTree>,
-    minus: Span,
+    tree: Option<Tree>,
+    minus: &Tree,
     expected: &dyn fmt::Display,
 ) -> Result<Placed, MacroError> {
-    let missing = || MacroError::new(format_args!("expected {expected}"), minus);
-    let tree = tree.ok_or_else(missing)?;
-    let Placed { literal, span, .. } = literal_of(&tree, expected)?;
-    let error = |message: &dyn fmt::Display| MacroError::between(message, minus, span);
-    match literal {
-        Lit::Int(_) | Lit::Float(_) | Lit::Verbatim(_) if !literal.text().starts_with('-') => {
-            let literal = Lit::try_from(format!("-{literal}")).map_err(|it| error(&it.kind()))?;
-            Ok(Placed {
-                literal,
-                first: minus,
-                span,
-            })
+    let missing = || minus.error(format_args!("expected {expected}"));
+    let mut placed = literal_of(&tree.ok_or_else(missing)?, expected)?;
+    placed.first = minus.span();
+    match &placed.literal {
+        number @ (Lit::Int(_) | Lit::Float(_) | Lit::Verbatim(_))
+            if !number.text().starts_with('-') =>
+        {
+            let literal = Lit::try_from(format!("-{number}"));
+            placed.literal = literal.map_err(|it| placed.error(it.kind()))?;
+            Ok(placed)
         }
-        _ => Err(error(&"expected a number after the minus")),
+        _ => Err(placed.error("expected a number after the minus")),
     }
 }
 
 /// Returns the literal that a token tree is, with its span. In a group without delimiters, the span is that of the literal's token.
 #[inline]
-fn literal_of(tree: &TokenTree, expected: &dyn fmt::Display) -> Result<Placed, MacroError> {
-    let other =
-        |tree: &TokenTree| MacroError::new(format_args!("expected {expected}"), tree.span());
-    match tree {
-        TokenTree::Literal(literal) => Ok(Placed::at(Lit::try_from(literal)?, literal.span())),
-        TokenTree::Ident(word) => {
-            let literal = LitBool::try_from(word.to_string()).map_err(|_| other(tree))?;
-            Ok(Placed::at(Lit::Bool(literal), word.span()))
-        }
-        TokenTree::Group(group) if group.delimiter() == Delimiter::None => {
-            let mut inside = group.stream().into_iter();
-            let literal = next_placed(&mut inside, expected)?;
-            inside.next().map_or(Ok(literal), |tree| Err(other(&tree)))
-        }
-        _ => Err(other(tree)),
-    }
+fn literal_of(tree: &Tree, expected: &dyn fmt::Display) -> Result<Placed, MacroError> {
+    let other = |tree: &Tree| tree.error(format_args!("expected {expected}"));
+    let (first, span) = (tree.span(), tree.span());
+    let literal = if let Some(text) = tree.literal() {
+        parsed(text, span)?
+    } else if let Some(word) = tree.word() {
+        Lit::Bool(LitBool::try_from(word).map_err(|_| other(tree))?)
+    } else if tree.delimiter() == Some(Delimiter::None) {
+        let mut inside = tree.inside().into_iter();
+        let placed = next_placed(&mut inside, expected)?;
+        return inside.next().map_or(Ok(placed), |tree| Err(other(&tree)));
+    } else {
+        return Err(other(tree));
+    };
+    Ok(Placed {
+        literal,
+        first,
+        span,
+    })
 }
 
 /// Parses a literal token of the compiler.
@@ -245,7 +220,7 @@ impl TryFrom<&Literal> for Lit<'static> {
 
     #[inline]
     fn try_from(literal: &Literal) -> Result<Self, MacroError> {
-        parsed(literal.to_string(), literal.span())
+        parsed(literal.to_string(), Some(literal.span()))
     }
 }
 
@@ -256,7 +231,7 @@ impl TryFrom<&TokenTree> for Lit<'static> {
 
     #[inline]
     fn try_from(tree: &TokenTree) -> Result<Self, MacroError> {
-        literal_of(tree, &"literal").map(|placed| placed.literal)
+        literal_of(&Tree::Token(tree.clone()), &"literal").map(|placed| placed.literal)
     }
 }
 
@@ -297,16 +272,17 @@ macro_rules! of_owned {
 of_owned!(Literal, Lit);
 of_owned!(TokenTree, Lit);
 
-/// Implements `TryFrom` for the struct of one kind of literals, by `$placed`, which makes a `Placed` of the tree.
+/// Implements `TryFrom` for the struct of one kind of literals. `$tree` is a type that converts to a token tree.
 macro_rules! of_tree {
-    ($tree:ident, $name:ident, $placed:expr) => {
+    ($tree:ident, $name:ident) => {
         impl TryFrom<&$tree> for $name<'static> {
             type Error = MacroError;
 
             #[inline]
             fn try_from(tree: &$tree) -> Result<Self, MacroError> {
-                let placed: Result<Placed, MacroError> = $placed(tree);
-                placed?.of_kind().map(|(literal, _)| literal)
+                let tree = Tree::Token(tree.clone().into());
+                let placed = literal_of(&tree, &<$name as sealed::Kinded>::KIND)?;
+                Located::of(placed).map(Located::into_literal)
             }
         }
 
@@ -317,8 +293,8 @@ macro_rules! of_tree {
 /// Implements the conversions between the compiler's tokens and the structs of these kinds of literals.
 macro_rules! of_kinds {
     ($range:expr => $($name:ident $variant:ident)*) => {$(
-        of_tree!(Literal, $name, |it: &Literal| Ok(Placed::at(Lit::try_from(it)?, it.span())));
-        of_tree!(TokenTree, $name, |it| literal_of(it, &Kind::$variant));
+        of_tree!(Literal, $name);
+        of_tree!(TokenTree, $name);
 
         impl sealed::Kinded for $name<'static> {
             const KIND: Kind = Kind::$variant;

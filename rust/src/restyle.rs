@@ -1,10 +1,11 @@
 //! Rewriting of the literals of whole sources in a style.
 
 use crate::list_error::ListError;
+use crate::rewrite::rewrite_in_context;
 use crate::rl_style::{
     all_rules, is_changed_by_style, is_safe_to_restyle, Restylable, Restylables,
 };
-use crate::style::{rewrite_in_context, Style};
+use crate::style::Style;
 use alloc::borrow::Cow;
 use alloc::string::String;
 use alloc::vec;

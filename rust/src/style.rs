@@ -1,11 +1,11 @@
-//! Rewriting of literals in another style. The result is a literal token of the Rust Reference again. It has the same kind, the
-//! same value and the same suffix. Only `1.` may become `1.0`, which `concat!` turns into a different text.
+//! The style of written literals.
 
-use crate::parse_error::ParseError;
-use crate::rl_style::{self, rewrite_into};
-use alloc::borrow::Cow;
-use alloc::string::String;
-use alloc::vec;
+#[cfg(feature = "writers")]
+use crate::numbers::Base;
+#[cfg(feature = "style")]
+use crate::rl_style;
+#[cfg(feature = "writers")]
+use crate::rl_writing;
 
 /// The case of letters: lower or upper.
 ///
@@ -23,6 +23,7 @@ pub enum Case {
     Upper,
 }
 
+#[cfg(feature = "style")]
 impl Case {
     #[inline]
     fn proved(self) -> rl_style::Case {
@@ -50,6 +51,7 @@ pub enum Separator {
     Underscore,
 }
 
+#[cfg(feature = "style")]
 impl Separator {
     #[inline]
     fn proved(self) -> rl_style::Separator {
@@ -198,6 +200,7 @@ impl DigitGroups {
         }
     }
 
+    #[cfg(feature = "style")]
     #[inline]
     fn proved(self) -> rl_style::DigitGroups {
         rl_style::DigitGroups {
@@ -218,7 +221,8 @@ impl Default for DigitGroups {
     }
 }
 
-/// The rules by which [`rewrite`] rewrites literals. Each rule is set separately, and at first none is set.
+/// The rules by which [`rewrite`](crate::rewrite) and [`write_integer`](crate::write_integer) write literals. Each rule is set
+/// separately, and at first none is set.
 ///
 /// No rule changes a number whose suffix may be mistyped, since `2_32` may be meant as `2_i32`. Such a number has no suffix, and ends
 /// with `_8`, `_16`, `_32` or `_64`. It is an integer, or a float with an exponent.
@@ -571,7 +575,7 @@ impl Style {
 
     /// Sets whether the `r` and the hashes are removed from raw strings that contain neither a backslash nor a quote.
     ///
-    /// After a hash or a dot, a raw string without the prefix `b` or `c` is left unchanged ([`rewrite_in_context`]).
+    /// After a hash or a dot, a raw string without the prefix `b` or `c` is left unchanged ([`rewrite_in_context`](crate::rewrite_in_context)).
     ///
     /// ```
     /// use navyspindle::{rewrite, Style};
@@ -596,7 +600,7 @@ impl Style {
     /// without a width, such as a joiner of emoji. The variation selectors from U+FE00 to U+FE0F aren't replaced.
     ///
     /// A raw string that contains such a character becomes a string with escapes. A raw string without the prefix `b` or `c` that
-    /// follows a hash or a dot is left unchanged ([`rewrite_in_context`]).
+    /// follows a hash or a dot is left unchanged ([`rewrite_in_context`](crate::rewrite_in_context)).
     ///
     /// ```
     /// use navyspindle::{rewrite, Style};
@@ -615,6 +619,7 @@ impl Style {
         }
     }
 
+    #[cfg(feature = "style")]
     #[inline]
     pub(crate) fn proved(self) -> rl_style::Style {
         rl_style::Style {
@@ -638,74 +643,31 @@ impl Style {
     }
 }
 
+#[cfg(feature = "writers")]
+impl Style {
+    /// Returns the style of written integers of this base.
+    #[inline]
+    pub(crate) fn of_integers(self, base: Base) -> rl_writing::IntegerStyle {
+        let groups = self.digit_groups.unwrap_or_default();
+        let (base, group) = match base {
+            Base::Binary => (rl_writing::Base::Binary, groups.binary),
+            Base::Octal => (rl_writing::Base::Octal, groups.octal),
+            Base::Decimal => (rl_writing::Base::Decimal, groups.decimal),
+            Base::Hexadecimal => (rl_writing::Base::Hexadecimal, groups.hexadecimal),
+        };
+        rl_writing::IntegerStyle {
+            base,
+            upper: self.hex_digits == Some(Case::Upper),
+            group,
+            least: groups.least,
+        }
+    }
+}
+
 /// Returns the style of [`Style::new`].
 impl Default for Style {
     #[inline]
     fn default() -> Self {
         Style::new()
     }
-}
-
-/// Rewrites a literal in the style. The literal is assumed to be alone, or to follow a space.
-///
-/// The result has the same kind, the same suffix and the same value. Only [`Style::float_zero`] adds a digit. The result is
-/// borrowed if nothing changes. Rewriting the result in the same style leaves it unchanged.
-///
-/// A macro that looks at a token's text can see the change: `stringify!`, an arm of `macro_rules!` that names a literal, and
-/// `concat!` of floats.
-///
-/// # Errors
-///
-/// Returns an error if the text isn't a literal token of the Rust Reference. A minus is a separate token. A string that contains a
-/// CR LF isn't a token either, although [`Lit::check`](crate::Lit::check) accepts it in a file. `examples/format.rs` rewrites whole
-/// files.
-///
-/// ```
-/// use navyspindle::{rewrite, Case, FlawKind, Style};
-/// use std::borrow::Cow;
-///
-/// let style = Style::new().hex_digits(Case::Lower).drop_quote_escapes(true);
-/// assert_eq!(rewrite("0xFFu8", style)?, "0xffu8");
-/// assert!(matches!(rewrite("0xffu8", style)?, Cow::Borrowed("0xffu8")));
-/// assert_eq!(rewrite("0b102", style).unwrap_err().kind(), FlawKind::InvalidDigit);
-/// # Ok::<(), navyspindle::ParseError>(())
-/// ```
-#[inline]
-pub fn rewrite(text: &str, style: Style) -> Result<Cow<'_, str>, ParseError> {
-    rewrite_in_context("", text, style)
-}
-
-/// Rewrites a literal in the style, where `before` is the source's text before the literal. Only the last character of `before`
-/// matters.
-///
-/// After `#` and `.`, a raw string keeps its `r`. `1.r"a"` are three tokens, and `1."a"` are two. `#"a"` is reserved from edition
-/// 2024 on.
-///
-/// # Errors
-///
-/// Returns the errors of [`rewrite`].
-///
-/// ```
-/// use navyspindle::{rewrite_in_context, Style};
-///
-/// let style = Style::new().drop_raw(true);
-/// assert_eq!(rewrite_in_context("let a = ", r#"r"a""#, style)?, r#""a""#);
-/// assert_eq!(rewrite_in_context("1.", r#"r"a""#, style)?, r#"r"a""#);
-/// # Ok::<(), navyspindle::ParseError>(())
-/// ```
-#[inline]
-pub fn rewrite_in_context<'t>(
-    before: &str,
-    text: &'t str,
-    style: Style,
-) -> Result<Cow<'t, str>, ParseError> {
-    let mut room = vec![0; 4 * text.len() + 1];
-    let len = rewrite_into(before, text, style.proved(), &mut room).map_err(ParseError::of_flaw)?;
-    room.truncate(len);
-    if room == text.as_bytes() {
-        return Ok(Cow::Borrowed(text));
-    }
-    room.shrink_to_fit();
-    let written = String::from_utf8(room);
-    Ok(Cow::Owned(written.expect("literals are UTF-8")))
 }

@@ -14,50 +14,37 @@ const CASE: &str = "\"lower\" or \"upper\"";
 const TRUTH: &str = "true or false";
 const SIZE: &str = "how many digits";
 
-const HEX_DIGITS: Key = Key::new("hex_digits", CASE);
-const DROP_UNDERSCORES: Key = Key::new("drop_underscores", TRUTH);
-const DROP_LEADING_ZEROS: Key = Key::new("drop_leading_zeros", TRUTH);
-const SUFFIX_SEPARATOR: Key = Key::new("suffix_separator", "\"\" or \"_\"");
-const BINARY_GROUPS: Key = Key::new("binary_groups", SIZE);
-const OCTAL_GROUPS: Key = Key::new("octal_groups", SIZE);
-const DECIMAL_GROUPS: Key = Key::new("decimal_groups", SIZE);
-const HEXADECIMAL_GROUPS: Key = Key::new("hexadecimal_groups", SIZE);
-const MIN_DIGITS: Key = Key::new("min_digits", SIZE);
-const FLOAT_ZERO: Key = Key::new("float_zero", TRUTH);
-const EXPONENT_LETTER: Key = Key::new("exponent_letter", CASE);
-const DROP_EXPONENT_PLUS: Key = Key::new("drop_exponent_plus", TRUTH);
-const ESCAPE_DIGITS: Key = Key::new("escape_digits", CASE);
-const FEWEST_ESCAPE_DIGITS: Key = Key::new("fewest_escape_digits", TRUTH);
-const DROP_ASCII_ESCAPES: Key = Key::new("drop_ascii_escapes", TRUTH);
-const NAMED_ESCAPES: Key = Key::new("named_escapes", TRUTH);
-const DROP_QUOTE_ESCAPES: Key = Key::new("drop_quote_escapes", TRUTH);
-const FEWEST_HASHES: Key = Key::new("fewest_hashes", TRUTH);
-const DROP_RAW: Key = Key::new("drop_raw", TRUTH);
-const ESCAPE_INVISIBLE: Key = Key::new("escape_invisible", TRUTH);
+/// Defines a key for each setting of a style, and the array of them all.
+macro_rules! keys {
+    ($count:literal: $($key:ident $name:literal $expected:expr,)*) => {
+        $(const $key: Key = Key::new($name, $expected);)*
+        const KEYS: [Key; $count] = [$($key),*];
+    };
+}
 
-/// The keys of all settings of a style.
-const KEYS: [Key; 20] = [
-    HEX_DIGITS,
-    DROP_UNDERSCORES,
-    DROP_LEADING_ZEROS,
-    SUFFIX_SEPARATOR,
-    BINARY_GROUPS,
-    OCTAL_GROUPS,
-    DECIMAL_GROUPS,
-    HEXADECIMAL_GROUPS,
-    MIN_DIGITS,
-    FLOAT_ZERO,
-    EXPONENT_LETTER,
-    DROP_EXPONENT_PLUS,
-    ESCAPE_DIGITS,
-    FEWEST_ESCAPE_DIGITS,
-    DROP_ASCII_ESCAPES,
-    NAMED_ESCAPES,
-    DROP_QUOTE_ESCAPES,
-    FEWEST_HASHES,
-    DROP_RAW,
-    ESCAPE_INVISIBLE,
-];
+keys! {
+    20:
+    HEX_DIGITS "hex_digits" CASE,
+    DROP_UNDERSCORES "drop_underscores" TRUTH,
+    DROP_LEADING_ZEROS "drop_leading_zeros" TRUTH,
+    SUFFIX_SEPARATOR "suffix_separator" "\"\" or \"_\"",
+    BINARY_GROUPS "binary_groups" SIZE,
+    OCTAL_GROUPS "octal_groups" SIZE,
+    DECIMAL_GROUPS "decimal_groups" SIZE,
+    HEXADECIMAL_GROUPS "hexadecimal_groups" SIZE,
+    MIN_DIGITS "min_digits" SIZE,
+    FLOAT_ZERO "float_zero" TRUTH,
+    EXPONENT_LETTER "exponent_letter" CASE,
+    DROP_EXPONENT_PLUS "drop_exponent_plus" TRUTH,
+    ESCAPE_DIGITS "escape_digits" CASE,
+    FEWEST_ESCAPE_DIGITS "fewest_escape_digits" TRUTH,
+    DROP_ASCII_ESCAPES "drop_ascii_escapes" TRUTH,
+    NAMED_ESCAPES "named_escapes" TRUTH,
+    DROP_QUOTE_ESCAPES "drop_quote_escapes" TRUTH,
+    FEWEST_HASHES "fewest_hashes" TRUTH,
+    DROP_RAW "drop_raw" TRUTH,
+    ESCAPE_INVISIBLE "escape_invisible" TRUTH,
+}
 
 /// Returns the value that belongs to the setting's string in `words`, or `None` if the setting isn't set. Another string is an
 /// error of the kind `Kind`.

@@ -9,6 +9,8 @@ pub(crate) enum Shape {
     Joint,
     /// A `<` that opens angle brackets, as the caller knows from the token after the `>` that closes them.
     Open,
+    /// A `<` that may open angle brackets, or be an operator. It ends the value where an operator is expected.
+    Ambiguous,
     /// The keyword `as`, before a type.
     As,
     /// A keyword in a type, with more of the type after it, such as `dyn`.
@@ -78,8 +80,8 @@ impl Default for ValueEnd {
 }
 
 impl ValueEnd {
-    /// Whether the next token tree, whose class is `next`, is the comma or semicolon that ends the value. Any other tree becomes part
-    /// of the value.
+    /// Whether the next token tree, whose class is `next`, ends the value: a comma, a semicolon or an ambiguous `<`. Any other tree
+    /// becomes part of the value.
     #[inline]
     pub(crate) fn is_at(&mut self, next: Shape) -> bool {
         if self.depth == 0 && self.ends(next) {
@@ -105,8 +107,11 @@ impl ValueEnd {
 
     #[inline]
     fn ends(&self, next: Shape) -> bool {
-        let is_mark = matches!(next, Shape::Mark(',' | ';'));
-        is_mark && self.position != Position::Parameters
+        match next {
+            Shape::Mark(',' | ';') => self.position != Position::Parameters,
+            Shape::Ambiguous => !self.opens(next),
+            _ => false,
+        }
     }
 
     #[inline]
@@ -130,7 +135,7 @@ impl ValueEnd {
     /// Whether the next tree opens angle brackets.
     #[inline]
     fn opens(&self, next: Shape) -> bool {
-        let is_less = matches!(next, Shape::Mark('<') | Shape::Joint);
+        let is_less = matches!(next, Shape::Mark('<') | Shape::Joint | Shape::Ambiguous);
         let after_path = [Some(Shape::Mark(':')); 2];
         match self.position {
             _ if !is_less => next == Shape::Open,
@@ -138,6 +143,8 @@ impl ValueEnd {
             // After a type that doesn't end with a name, `<` is an operator.
             Position::Cast => self.before[1] == Some(Shape::Word) || !self.is_after_type(),
             Position::Operand | Position::Body if self.before[1] != Some(Shape::Joint) => true,
+            // After a keyword, as in `for<'a> fn(&'a str)`.
+            _ if self.before[1] == Some(Shape::InType) => true,
             _ => self.depth > 0 || self.before == after_path,
         }
     }
@@ -182,7 +189,7 @@ mod tests {
 
     /// Returns the value at the start of a text. In the text `{` represents a group in braces, `(` another group, `m` the keyword
     /// `move`, `A` the keyword `as`, `d` the keyword `dyn`, `≤` a `<` that
-    /// opens angle brackets, and `‹` a `<` directly before another punctuation character.
+    /// opens angle brackets, `?` one that may open them, and `‹` a `<` directly before another punctuation character.
     fn value_of(text: &str) -> &str {
         let mut end = ValueEnd::default();
         let is_end = |c: char| match c {
@@ -192,6 +199,7 @@ mod tests {
             'A' => end.is_at(Shape::of_word("as")),
             'd' => end.is_at(Shape::of_word("dyn")),
             '≤' => end.is_at(Shape::Open),
+            '?' => end.is_at(Shape::Ambiguous),
             '‹' => end.is_at(Shape::Joint),
             'a'..='z' => end.is_at(Shape::Word),
             '(' | '0'..='9' => end.is_at(Shape::Other),
@@ -216,7 +224,7 @@ mod tests {
         let values = "x::<y, z>::f( § x::<y, z<u, v>, w> § <x<y, z> as f<u, v>>::f( § x::<(, fn( -> y, z>::f( § x::<y> < z\
  § x A &d i<a, j = u> § x A n<t, u> - y § x A f( -> n<t, u> § x A &'a n<t, u> A o<t, u> < y\
  § x A *n<t, u> + y < z § -<x A f<u, v>>::c § x < <x A f<u, v>>::c § y + <x A f<u, v>>::c < z § h≤k, v>\
- § &d i≤a, j = u>";
+ § &d i≤a, j = u> § d< 'a, 'b> f( -> h≤k, v>";
         for value in values.split(" § ") {
             let text = std::format!("{value}, b");
             assert_eq!(value_of(&text), value);
@@ -241,5 +249,9 @@ mod tests {
         // `<` opens angle brackets after two colons, not after one.
         assert_eq!(value_of("x: < y, z > w"), "x: < y");
         assert_eq!(value_of("x; y, z"), "x");
+        // An ambiguous `<` ends the value where an operator is expected.
+        assert_eq!(value_of("h? k, v> ::w"), "h");
+        assert_eq!(value_of("x A h? k, v>::w, b"), "x A h? k, v>::w");
+        assert_eq!(value_of("-? k, v>::w, b"), "-? k, v>::w");
     }
 }

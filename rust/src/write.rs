@@ -2,12 +2,12 @@
 //! number. Parsing the literal returns the value.
 
 use crate::numbers::Base;
-use crate::rl_lenient;
-use crate::rl_syntax::{write_bytes_into, write_char_into, write_str_into, Kind};
+use crate::rl_syntax::{write_bytes_into, write_char_into, write_str_into, IntegerType, Kind};
 use crate::rl_writing::{
-    self, min_raw_hashes, raw_text_and_hashes, write_char_ascii_into, write_integer_into,
-    write_raw_into, write_str_ascii_into,
+    min_raw_hashes, raw_text_and_hashes, write_char_ascii_into, write_integer_into, write_raw_into,
+    write_str_ascii_into, IntegerStyle,
 };
+use crate::style::Style;
 use crate::value::Integer;
 use alloc::string::String;
 use alloc::vec;
@@ -201,167 +201,34 @@ pub fn write_raw_c_str(value: &CStr) -> Option<String> {
     Some(raw(Kind::CStr, text, hashes))
 }
 
-/// The form of an integer that [`write_integer`] writes: its base, the case of its digits, the groups of its digits, and its
-/// suffix.
-///
-/// ```
-/// use navyspindle::{write_integer, Base, IntegerStyle};
-///
-/// const ADDRESS: IntegerStyle = IntegerStyle::new().base(Base::Hexadecimal).uppercase(true).group(4);
-/// assert_eq!(write_integer(0xB8000, ADDRESS), "0xB_8000");
-/// assert_eq!(write_integer(0xB8000u32, ADDRESS.suffixed(true)), "0xB_8000u32");
-/// ```
-#[derive(Clone, Copy, Debug, PartialEq, Eq, Hash)]
-pub struct IntegerStyle {
-    base: Base,
-    upper: bool,
-    group: usize,
-    least: usize,
-    suffixed: bool,
-}
-
-impl IntegerStyle {
-    /// Creates the style of base ten, without underscores and without a suffix.
-    ///
-    /// ```
-    /// use navyspindle::{write_integer, IntegerStyle};
-    ///
-    /// assert_eq!(write_integer(-1_000, IntegerStyle::new()), "-1000");
-    /// ```
-    #[inline]
-    #[must_use]
-    pub const fn new() -> Self {
-        IntegerStyle {
-            base: Base::Decimal,
-            upper: false,
-            group: 0,
-            least: 0,
-            suffixed: false,
-        }
-    }
-
-    /// Sets the base of the digits.
-    ///
-    /// ```
-    /// use navyspindle::{write_integer, Base, IntegerStyle};
-    ///
-    /// assert_eq!(write_integer(10, IntegerStyle::new().base(Base::Binary)), "0b1010");
-    /// ```
-    #[inline]
-    #[must_use]
-    pub const fn base(self, base: Base) -> Self {
-        IntegerStyle { base, ..self }
-    }
-
-    /// Sets whether hexadecimal digits are in upper case.
-    ///
-    /// ```
-    /// use navyspindle::{write_integer, Base, IntegerStyle};
-    ///
-    /// let style = IntegerStyle::new().base(Base::Hexadecimal);
-    /// assert_eq!(write_integer(255, style), "0xff");
-    /// assert_eq!(write_integer(255, style.uppercase(true)), "0xFF");
-    /// ```
-    #[inline]
-    #[must_use]
-    pub const fn uppercase(self, upper: bool) -> Self {
-        IntegerStyle { upper, ..self }
-    }
-
-    /// Sets the number of digits between two underscores, counted from the last digit. With 0 there are no underscores.
-    ///
-    /// ```
-    /// use navyspindle::{write_integer, IntegerStyle};
-    ///
-    /// assert_eq!(write_integer(1234567, IntegerStyle::new().group(3)), "1_234_567");
-    /// ```
-    #[inline]
-    #[must_use]
-    pub const fn group(self, digits: usize) -> Self {
-        IntegerStyle {
-            group: digits,
-            ..self
-        }
-    }
-
-    /// Sets the smallest number of digits that a number with underscores has. With 0, numbers of any length may have underscores.
-    ///
-    /// ```
-    /// use navyspindle::{write_integer, IntegerStyle};
-    ///
-    /// let style = IntegerStyle::new().group(3).min_digits(5);
-    /// assert_eq!(write_integer(1000, style), "1000");
-    /// assert_eq!(write_integer(10000, style), "10_000");
-    /// ```
-    #[inline]
-    #[must_use]
-    pub const fn min_digits(self, digits: usize) -> Self {
-        IntegerStyle {
-            least: digits,
-            ..self
-        }
-    }
-
-    /// Sets whether the name of the number's type is written as the suffix.
-    ///
-    /// ```
-    /// use navyspindle::{write_integer, IntegerStyle};
-    ///
-    /// assert_eq!(write_integer(10u8, IntegerStyle::new().suffixed(true)), "10u8");
-    /// ```
-    #[inline]
-    #[must_use]
-    pub const fn suffixed(self, suffixed: bool) -> Self {
-        IntegerStyle { suffixed, ..self }
-    }
-
-    #[inline]
-    fn proved(self) -> rl_writing::IntegerStyle {
-        let base = match self.base {
-            Base::Binary => rl_writing::Base::Binary,
-            Base::Octal => rl_writing::Base::Octal,
-            Base::Decimal => rl_writing::Base::Decimal,
-            Base::Hexadecimal => rl_writing::Base::Hexadecimal,
-        };
-        rl_writing::IntegerStyle {
-            base,
-            upper: self.upper,
-            group: self.group,
-            least: self.least,
-        }
-    }
-}
-
-/// Returns the style of [`IntegerStyle::new`].
-impl Default for IntegerStyle {
-    #[inline]
-    fn default() -> Self {
-        IntegerStyle::new()
-    }
-}
-
 /// The length of the longest integer literal: two bytes of a prefix, 128 digits, an underscore after each digit except the last,
 /// and five bytes of a suffix.
 const LONGEST_INTEGER: usize = 262;
 
-/// Writes the number as an integer literal in the style. A negative number has a minus before the literal.
-///
-/// The form of an earlier literal isn't kept: the number of `007` is written as `7`.
+/// Writes the number as an integer literal without a suffix. A negative number has a minus before the literal. Of the style, only
+/// [`Style::hex_digits`] and [`Style::digit_groups`] matter. [`LitInt::suffixed`](crate::LitInt::suffixed) writes a suffix.
 ///
 /// ```
-/// use navyspindle::{write_integer, Base, IntegerStyle, LitInt};
+/// use navyspindle::{write_integer, Base, Case, DigitGroups, Style};
 ///
-/// assert_eq!(write_integer(u64::MAX, IntegerStyle::new().group(3)), "18_446_744_073_709_551_615");
-/// let text = write_integer(i8::MIN, IntegerStyle::new().base(Base::Hexadecimal).suffixed(true));
-/// assert_eq!(text, "-0x80i8");
-/// assert_eq!(LitInt::parse(&text)?.value::<i8>(), Ok(i8::MIN));
-/// # Ok::<(), navyspindle::ParseError>(())
+/// const STYLE: Style = Style::new().hex_digits(Case::Upper).digit_groups(DigitGroups::new().decimal(3).hexadecimal(4));
+/// assert_eq!(write_integer(u32::MAX, Base::Decimal, STYLE), "4_294_967_295");
+/// assert_eq!(write_integer(0xB8000, Base::Hexadecimal, STYLE), "0xB_8000");
+/// assert_eq!(write_integer(i8::MIN, Base::Hexadecimal, Style::new()), "-0x80");
 /// ```
 #[must_use]
-pub fn write_integer<N: Integer>(value: N, style: IntegerStyle) -> String {
+pub fn write_integer<N: Integer>(value: N, base: Base, style: Style) -> String {
+    written_integer(value, style.of_integers(base), None)
+}
+
+/// Writes the number as an integer literal, with the suffix if there is one.
+pub(crate) fn written_integer<N: Integer>(
+    value: N,
+    style: IntegerStyle,
+    suffix: Option<IntegerType>,
+) -> String {
     let mut out = [0; LONGEST_INTEGER];
-    let suffix = style.suffixed.then_some(<N as rl_lenient::Integer>::TYPE);
-    let len = write_integer_into(value.magnitude(), style.proved(), suffix, &mut out);
+    let len = write_integer_into(value.magnitude(), style, suffix, &mut out);
     let text = core::str::from_utf8(&out[..len]).expect("literals are ASCII");
     let sign = if value.is_negative() { "-" } else { "" };
     [sign, text].concat()

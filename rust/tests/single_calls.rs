@@ -1,8 +1,8 @@
 //! Tests of single calls, with results that were written by hand.
 
 use navyspindle::{
-    parse_list, parse_settings, source, write_integer, write_raw_str, Base, IntegerStyle, Key,
-    Kind, LineColumn, LineIndex, Lit, LitFloat, LitInt, Settings, SyntaxErrorKind,
+    parse_list, parse_settings, source, write_integer, write_raw_str, Base, DigitGroups, Key, Kind,
+    LineColumn, LineIndex, Lit, LitFloat, LitInt, Settings, Style, SyntaxErrorKind,
 };
 
 #[test]
@@ -131,14 +131,11 @@ fn numbers_are_written_with_their_types() {
 
 #[test]
 fn the_longest_integers_are_written() {
-    let style = IntegerStyle::new()
-        .base(Base::Binary)
-        .group(1)
-        .suffixed(true);
-    let ones = format!("0b1{}u128", "_1".repeat(127));
-    assert_eq!(write_integer(u128::MAX, style), ones);
-    let least = format!("-0b1{}i128", "_0".repeat(127));
-    assert_eq!(write_integer(i128::MIN, style), least);
+    let style = Style::new().digit_groups(DigitGroups::new().binary(1));
+    let ones = format!("0b1{}", "_1".repeat(127));
+    assert_eq!(write_integer(u128::MAX, Base::Binary, style), ones);
+    let least = format!("-0b1{}", "_0".repeat(127));
+    assert_eq!(write_integer(i128::MIN, Base::Binary, style), least);
 }
 
 #[test]

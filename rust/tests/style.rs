@@ -4,7 +4,7 @@ mod letters;
 
 use letters::{decoded, style_of};
 use navyspindle::{
-    is_token, rewrite, rewrite_in_context, write_integer, Base, FlawKind, IntegerStyle, Lit, Style,
+    is_token, rewrite, rewrite_in_context, write_integer, Base, FlawKind, Lit, Style,
 };
 use std::borrow::Cow;
 
@@ -76,24 +76,20 @@ fn what_is_written_reads_alike() {
 
 #[test]
 fn groups_are_those_of_the_writer() {
-    for (base, group) in [
-        (Base::Binary, 8),
-        (Base::Octal, 3),
-        (Base::Decimal, 2),
-        (Base::Hexadecimal, 1),
-    ] {
-        let plain = IntegerStyle::new().base(base);
+    for base in [Base::Binary, Base::Octal, Base::Decimal, Base::Hexadecimal] {
         for value in (0..2_000_u128).chain([u128::MAX, u128::MAX / 7, 1 << 64]) {
-            let text = write_integer(value, plain);
-            let written = rewrite(&text, style_of("G")).unwrap();
-            assert_eq!(written, write_integer(value, plain.group(group)), "{text}");
+            for style in [style_of("G"), style_of("g")] {
+                let text = write_integer(value, base, Style::new());
+                let written = rewrite(&text, style).unwrap();
+                // In octal numbers `g` has no groups, and changes nothing.
+                assert_eq!(written, write_integer(value, base, style), "{text}");
+            }
         }
     }
-    let plain = IntegerStyle::new();
     for value in [0_u64, 1_000, 9_999, 10_000, 123_456_789] {
-        let text = write_integer(value, plain.group(2));
+        let text = write_integer(value, Base::Decimal, style_of("G"));
         let written = rewrite(&text, style_of("g")).unwrap();
-        assert_eq!(written, write_integer(value, plain.group(3).min_digits(5)));
+        assert_eq!(written, write_integer(value, Base::Decimal, style_of("g")));
     }
 }
 

@@ -2,13 +2,17 @@
 
 use navyspindle::{
     is_token, write_char, write_char_ascii, write_integer, write_raw_byte_str, write_raw_c_str,
-    write_raw_str, write_str, write_str_ascii, Base, Integer, IntegerStyle, LitBool, LitByte,
-    LitByteStr, LitCStr, LitChar, LitFloat, LitInt, LitStr,
+    write_raw_str, write_str, write_str_ascii, Base, Case, DigitGroups, Integer, LitBool, LitByte,
+    LitByteStr, LitCStr, LitChar, LitFloat, LitInt, LitStr, Style,
 };
 use std::ffi::CString;
 use std::fmt;
 
-const HEX: IntegerStyle = IntegerStyle::new().base(Base::Hexadecimal);
+/// Returns the style with groups of `size` digits in each base, for numbers with at least `least` digits.
+fn groups(size: usize, least: usize) -> Style {
+    let groups = DigitGroups::new().binary(size).octal(size).decimal(size);
+    Style::new().digit_groups(groups.hexadecimal(size).min_digits(least))
+}
 
 /// Divides digits into groups with underscores between them, counted from the last digit.
 fn grouped(digits: &str, size: usize) -> String {
@@ -32,46 +36,30 @@ fn check_integer<N: Integer + fmt::Display>(value: N, magnitude: u128, name: &st
         ""
     };
     let rows = [
-        (IntegerStyle::new(), format!("{magnitude}")),
-        (
-            IntegerStyle::new().base(Base::Binary),
-            format!("{magnitude:#b}"),
-        ),
-        (
-            IntegerStyle::new().base(Base::Octal),
-            format!("{magnitude:#o}"),
-        ),
-        (HEX, format!("{magnitude:#x}")),
-        (HEX.uppercase(true), format!("{magnitude:#X}")),
+        (Base::Decimal, Case::Lower, format!("{magnitude}")),
+        (Base::Binary, Case::Lower, format!("{magnitude:#b}")),
+        (Base::Octal, Case::Lower, format!("{magnitude:#o}")),
+        (Base::Hexadecimal, Case::Lower, format!("{magnitude:#x}")),
+        (Base::Hexadecimal, Case::Upper, format!("{magnitude:#X}")),
     ];
-    for (style, text) in rows {
-        let at = if text.starts_with("0b") || text.starts_with("0o") || text.starts_with("0x") {
-            2
-        } else {
-            0
-        };
-        let (prefix, digits) = text.split_at(at);
+    for (base, case, text) in rows {
+        let (prefix, digits) = text.split_at(base.prefix().len());
         for size in [0, 1, 2, 3, 4, 5, 8, 16, 63, 127, 128, usize::MAX] {
             let literal = format!("{prefix}{}", grouped(digits, size));
-            let style = style.group(size);
-            assert_eq!(write_integer(value, style), format!("{sign}{literal}"));
-            let suffixed = write_integer(value, style.suffixed(true));
-            assert_eq!(suffixed, format!("{sign}{literal}{name}"));
             assert!(is_token(&literal), "{literal}");
-            let read = LitInt::parse(&suffixed).unwrap();
-            assert_eq!((read.magnitude(), read.suffix()), (magnitude, name));
-            assert_eq!(read.base10_digits(), value.to_string());
+            let read = LitInt::parse(&literal).unwrap();
+            assert_eq!((read.magnitude(), read.suffix()), (magnitude, ""));
             for least in [0, digits.len(), digits.len() + 1] {
-                let literal = if digits.len() < least {
-                    &text
-                } else {
-                    &literal
-                };
-                let written = write_integer(value, style.min_digits(least));
+                let is_grouped = digits.len() >= least;
+                let literal = if is_grouped { &literal } else { &text };
+                let written = write_integer(value, base, groups(size, least).hex_digits(case));
                 assert_eq!(written, format!("{sign}{literal}"));
             }
         }
     }
+    let suffixed = LitInt::suffixed(value);
+    assert_eq!(suffixed.text(), format!("{value}{name}"));
+    assert_eq!(suffixed.base10_digits(), value.to_string());
 }
 
 #[test]
@@ -111,14 +99,14 @@ macro_rules! written_back {
 
 #[test]
 fn as_rustc_has_them() {
-    let upper = HEX.uppercase(true).group(4);
+    let upper = groups(4, 0).hex_digits(Case::Upper);
     written_back! {
-        |value: u32| write_integer(value, IntegerStyle::new().group(3)) => 0 999 1_000 4_294_967_295;
-        |value: u32| write_integer(value, IntegerStyle::new().group(3).min_digits(5)) => 0 1000 9999 10_000 1_000_000;
-        |value: u8| write_integer(value, IntegerStyle::new().suffixed(true)) => 0u8 255u8;
-        |value: u64| write_integer(value, upper) => 0x0 0xFFFF 0x1_0000 0xFFFF_FFFF_FFFF_FFFF;
-        |value: i16| write_integer(value, IntegerStyle::new().base(Base::Binary).group(4)) => 0b0 0b1010_0101;
-        |value: i32| write_integer(value, IntegerStyle::new().base(Base::Octal)) => 0o0 0o777;
+        |value: u32| write_integer(value, Base::Decimal, groups(3, 0)) => 0 999 1_000 4_294_967_295;
+        |value: u32| write_integer(value, Base::Decimal, groups(3, 5)) => 0 1000 9999 10_000 1_000_000;
+        |value: u8| LitInt::suffixed(value).to_string() => 0u8 255u8;
+        |value: u64| write_integer(value, Base::Hexadecimal, upper) => 0x0 0xFFFF 0x1_0000 0xFFFF_FFFF_FFFF_FFFF;
+        |value: i16| write_integer(value, Base::Binary, groups(4, 0)) => 0b0 0b1010_0101;
+        |value: i32| write_integer(value, Base::Octal, Style::new()) => 0o0 0o777;
         |value: &str| write_raw_str(value).unwrap() => r"" r"a\b" r#"""# r#"a"b"# r##""#"## r##"a"#b"## r###""##"###;
         |value: &[u8]| write_raw_byte_str(value).unwrap() => br"" br"\" br#"a"b"# br##""#"##;
         |value: &std::ffi::CStr| write_raw_c_str(value).unwrap() => cr"" cr"é\" cr#"a"b"#;

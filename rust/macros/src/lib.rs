@@ -144,7 +144,7 @@ pub fn entries_of(input: TokenStream) -> TokenStream {
 pub fn whole(input: TokenStream) -> TokenStream {
     let tokens =
         Lit::try_from(input).and_then(|literal| literal.to_token_stream(Span::call_site()));
-    tokens.unwrap_or_else(|error| shown_errors(error))
+    tokens.unwrap_or_else(shown_errors)
 }
 
 /// Returns a string literal with the value of the string that is the whole input, or the error in the form of `strings_errors`.
@@ -470,4 +470,16 @@ pub fn digits(input: TokenStream) -> TokenStream {
         Ok(tokens) => tokens,
         Err(error) => shown_errors(error),
     }
+}
+
+/// Returns the array of `digits`.
+#[proc_macro]
+pub fn checked_digits(input: TokenStream) -> TokenStream {
+    or_error(attributes::digits(input))
+}
+
+/// Returns the string of `without_brace`.
+#[proc_macro]
+pub fn checked_text(input: TokenStream) -> TokenStream {
+    or_error(places::without_brace(input))
 }

@@ -2,8 +2,8 @@
 
 use navyspindle::{
     write_byte, write_byte_str, write_c_str, write_char, write_char_ascii, write_integer,
-    write_raw_byte_str, write_raw_c_str, write_raw_str, write_str, write_str_ascii, Base, Float,
-    Integer, IntegerStyle, LitFloat, LitInt,
+    write_raw_byte_str, write_raw_c_str, write_raw_str, write_str, write_str_ascii, Base, Case,
+    DigitGroups, Float, Integer, LitFloat, LitInt, Style,
 };
 use proc_macro::Literal;
 use std::ffi::CString;
@@ -85,32 +85,37 @@ fn bytes() -> String {
     slice(&(0..=255).map(of_byte).collect::<Vec<_>>())
 }
 
-/// Returns an integer style for each combination of the tested options.
-fn styles() -> Vec<IntegerStyle> {
-    let mut styles = Vec::new();
-    for base in [Base::Binary, Base::Octal, Base::Decimal, Base::Hexadecimal] {
-        for group in [0, 1, 2, 3, 4, 8, 127, 128, usize::MAX] {
-            let style = IntegerStyle::new().base(base).group(group);
-            styles.extend([false, true].map(|upper| style.uppercase(upper)));
-        }
-    }
-    styles
+/// Returns a style of integers for each combination of the tested options.
+fn styles() -> Vec<Style> {
+    let sizes = [0, 1, 2, 3, 4, 8, 127, 128, usize::MAX];
+    let styles = sizes.map(|size| {
+        let groups = DigitGroups::new().binary(size).octal(size).decimal(size);
+        let style = Style::new().digit_groups(groups.hexadecimal(size));
+        [Case::Lower, Case::Upper].map(|case| style.hex_digits(case))
+    });
+    styles.concat()
 }
 
-/// Returns pairs of literals for the number: as the compiler's own function writes it, and as the package writes it in each style,
-/// with a suffix and without. In base ten the texts of a pair must be the same.
+/// Returns pairs of literals for the number: as the compiler's own function writes it, and as the package writes it in each base and
+/// style, with a suffix and without. In base ten the texts of a pair must be the same.
 fn of_integer<N: Integer>(
     value: N,
     suffixed: &Literal,
     unsuffixed: &Literal,
 ) -> Vec<(String, String)> {
     let theirs = suffixed.to_string();
-    assert_eq!(LitInt::suffixed(value).text(), theirs);
+    let written = LitInt::suffixed(value);
+    assert_eq!(written.text(), theirs);
     assert_eq!(LitInt::unsuffixed(value).text(), unsuffixed.to_string());
-    let write =
-        |style: IntegerStyle| [false, true].map(|it| write_integer(value, style.suffixed(it)));
-    let ours = styles().into_iter().flat_map(write);
-    ours.map(|ours| (theirs.clone(), ours)).collect()
+    let mut pairs = Vec::new();
+    for base in [Base::Binary, Base::Octal, Base::Decimal, Base::Hexadecimal] {
+        for style in styles() {
+            let ours = write_integer(value, base, style);
+            pairs.push((theirs.clone(), ours.clone() + written.suffix()));
+            pairs.push((theirs.clone(), ours));
+        }
+    }
+    pairs
 }
 
 macro_rules! integers {

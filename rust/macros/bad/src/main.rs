@@ -2,7 +2,8 @@
 //! comment has no errors.
 
 use navyspindle_macros::{
-    again, checked, checked_settings, counted, hex_bytes, strings, sum, Described,
+    again, checked, checked_digits, checked_settings, checked_text, counted, hex_bytes, strings,
+    sum, Described,
 };
 
 // Several errors of one call, as items, a statement, an expression, a type and a pattern.
@@ -32,6 +33,7 @@ fn literals() {
     let _ = sum!(-"a"); //~ 18: expected a number after the minus
     let _ = sum!(1, -); //~ 21: expected integer literal
     let _ = sum!(340282366920938463463374607431768211456); //~ 18: integer above 128 bits
+    let _ = sum!(170141183460469231731687303715884105728); //~ 18: number too large to fit in target type
     let _ = again!(); //~ 13: unexpected end of input, expected literal
     let _ = hex_bytes!("0"); //~ 24: expected pairs of hexadecimal digits
 }
@@ -52,6 +54,23 @@ fn entries() {
     let _ = checked!(name: "a"); //~ 26: expected `=`
     let _ = checked!(name = ); //~ 27: unexpected end of input, expected a value
     let _ = checked!("a"); //~ 22: expected identifier
+    let _ = checked!(name = concat!("a")); //~ 29: expected string literal
+    let _ = checked!(name = "a" "b"); //~ 33: expected `,`
+    let _ = checked!(name("a")); //~ 26: expected a value
+    let _ = checked!(name = "a", inner = 1); //~ 42: expected a list
+    let _ = checked!(name = "a", verbose = 1); //~ 44: unexpected value: write `verbose` alone
+    let _ = checked!(max = x < y, z > w); //~ 37: expected `,`: before `<` with a comma inside, write `::`
+    let _ = checked!(max = I<A, B = C>::D); //~ 29: ambiguous `<`: write `::<`, or a comparison in parentheses
+}
+
+// One error: of a list of literals, or of a part of a string.
+fn located() {
+    let _ = checked_digits!(a); //~ 29: expected a list: `a(..)`
+    let _ = checked_digits!(a = 1); //~ 33: expected an array: `[..]`
+    let _ = checked_digits!(a = [1 2]); //~ 36: expected `,`
+    let _ = checked_digits!(a(1, -10)); //~ 34: expected a digit
+    let _ = checked_digits!(a(1) b); //~ 34: unexpected token
+    let _ = checked_text!("\u{e9}{b}"); //~ 27: unexpected brace\n       "\u{e9}{b}"\n              ^
 }
 
 // Errors of several attributes of an item.

@@ -113,10 +113,13 @@ fn commas_in_types() {
         m = x < y, n = z >= w,
         o = x << y, p = z >> w,
         q = x < <T as U<A, B>>::C, r = z > -1,
-        s = x < y, t = Map<K, V>
+        s = x < y, t = Map<K, V>,
+        u = for<'a, 'b> fn(&'a M<K, V>) -> M<K, V>,
+        v = dyn for<'a, 'b> I<A, Item = B> + Send,
+        w = I::<A, Item = B>::C
     };
     let names: Vec<_> = found.iter().map(|it| (it.0, it.2)).collect();
-    let expected = ('a'..='t').map(|name| (name.to_string(), "value"));
+    let expected = ('a'..='w').map(|name| (name.to_string(), "value"));
     let expected: Vec<_> = expected.collect();
     let expected: Vec<_> = expected.iter().map(|it| (&*it.0, it.1)).collect();
     assert_eq!(names, expected);
@@ -167,6 +170,10 @@ fn errors_of_entries() {
     assert_eq!(error!(a; b), ("expected `,`", ";", ";"));
     let message = "expected `,`: before `<` with a comma inside, write `::`";
     assert_eq!(error!(a = x < y, b > z), (message, ">", ">"));
+    // One type or two comparisons.
+    let message = "ambiguous `<`: write `::<`, or a comparison in parentheses";
+    assert_eq!(error!(a = I < A, B = C > ::D), (message, "<", "<"));
+    assert_eq!(error!(a = x < y, b = z > ::w), (message, "<", "<"));
     assert_eq!(
         error!(a =),
         ("unexpected end of input, expected a value", "=", "=")

@@ -3,7 +3,7 @@
 use std::path::Path;
 use std::process::Command;
 
-/// Returns a line for each error of `rust/macros/bad`: the line, the column and the message.
+/// Returns a line for each error of `rust/macros/bad`: the line, the column and the message. Lines of a message have `\n` between them.
 fn printed() -> Vec<String> {
     let folder = Path::new(env!("CARGO_MANIFEST_DIR")).join("../bad");
     let out = Command::new(env!("CARGO"))
@@ -17,12 +17,12 @@ fn printed() -> Vec<String> {
         .output()
         .expect("cargo");
     let text = String::from_utf8(out.stderr).expect("UTF-8");
-    let lines = text
-        .lines()
-        .filter(|line| !line.starts_with("error: could not compile"));
-    lines
-        .map(|line| line.replace("src/main.rs:", "").replace(" error:", ""))
-        .collect()
+    let errors = text.split("src/main.rs:").skip(1).map(|error| {
+        let error = error.split("error: could not compile").next();
+        let error = error.unwrap_or_default().trim_end();
+        error.replace(" error:", "").replace('\n', "\\n")
+    });
+    errors.collect()
 }
 
 /// Returns a line for each error that the comments of `rust/macros/bad` name.
