@@ -145,24 +145,15 @@ forms =
     no_prefix ⋅ number 10 dec_literal ∣ number 2 (with_prefix (codes "0b") 2)
     ∣ number 8 (with_prefix (codes "0o") 8) ∣ number 16 (with_prefix (codes "0x") 16) ⋅ Unless (digit 16)
 
+ends : (x : List ℕ) → (first_passes is_e x || begins_char 95 x) ≡ first_passes (is_among (codes "eE_")) x
+ends [] = refl
+ends (c ∷ cs) = or_same (eqb c 101) (eqb c 69 ∷ eqb c 95 ∷ [])
+
 ends_to : (x : List ℕ) → first_passes is_e x ≡ false → begins_char 95 x ≡ false → NoneAt (any_of (codes "eE_")) x
-ends_to x e u = none_passes (λ c. is_among (codes "eE_") c) x (go x e u)
-  where
-    go : (x : List ℕ) → first_passes is_e x ≡ false → begins_char 95 x ≡ false → first_passes (λ c. is_among (codes "eE_") c) x ≡ false
-    go [] e u = refl
-    go (c ∷ cs) e u =
-        let (small, large) = or_parts (eqb c 101) (eqb c 69) e in
-        or_from (eqb c 101) _ small (or_from (eqb c 69) _ large (or_from (eqb c 95) false u refl))
+ends_to x e u = none_passes (is_among (codes "eE_")) x (sym (ends x) ∙ or_from (first_passes is_e x) (begins_char 95 x) e u)
 
 ends_from : (x : List ℕ) → NoneAt (any_of (codes "eE_")) x → (first_passes is_e x ≡ false) × (begins_char 95 x ≡ false)
-ends_from x none = go x (passes_none (λ c. is_among (codes "eE_") c) x none)
-  where
-    go : (x : List ℕ) → first_passes (λ c. is_among (codes "eE_") c) x ≡ false → (first_passes is_e x ≡ false) × (begins_char 95 x ≡ false)
-    go [] h = (refl, refl)
-    go (c ∷ cs) h =
-        let (small, others) = or_parts (eqb c 101) (eqb c 69 || (eqb c 95 || false)) h in
-        let (large, last) = or_parts (eqb c 69) (eqb c 95 || false) others in
-        (or_from (eqb c 101) (eqb c 69) small large, (or_parts (eqb c 95) false last).0)
+ends_from x none = or_parts (first_passes is_e x) (begins_char 95 x) (ends x ∙ passes_none (is_among (codes "eE_")) x none)
 
 -- The number of a row of digits, in base ten.
 abbrev in_ten : ℕ → List ℕ → List ℕ

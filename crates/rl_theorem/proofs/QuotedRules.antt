@@ -88,8 +88,7 @@ char_unit = record { to = to; from = from }
     to (PlainEscape c) after (h, e) = inr (inr (inl (inr (letter_to c after h))))
     to (AsciiEscape high low) after (h, e) = inr (inr (inl (ascii_to high low after h)))
     to (UnicodeEscape ds) after (h, e) = inr (inr (inr (unicode_to ds after h)))
-    to (ByteEscape high low) after (h, e) = absurd (cc)
-    to (LineBreak blanks) after (h, e) = absurd (cc)
+    to _ after (h, e) = absurd (cc)
 
     from : (text after value : List ℕ) → Means char_content text after value → Found Char text after value
     from text after value (inl (c, is, t, v)) = (Itself c, (in_quotes c ∙ is, tt), t, v)
@@ -112,7 +111,7 @@ string_unit = record { to = to; from = from }
     to (AsciiEscape high low) after (h, e) = inr (inr (inl (ascii_to high low after h)))
     to (UnicodeEscape ds) after (h, e) = inr (inr (inr (inl (unicode_to ds after h))))
     to (LineBreak blanks) after (h, e) = inr (inr (inr (inr (continue_to blanks after h e))))
-    to (ByteEscape high low) after (h, e) = absurd (cc)
+    to _ after (h, e) = absurd (cc)
 
     from : (text after value : List ℕ) → Means string_content text after value → Found Str text after value
     from text after value (inl (c, is, t, v)) = (Itself c, (in_string c ∙ is, tt), t, v)
@@ -134,9 +133,7 @@ byte_unit = record { to = to; from = from }
     to (QuoteEscape c) after (h, e) = inr (inr (inr (quote_to c after h)))
     to (PlainEscape c) after (h, e) = inr (inr (inl (letter_to c after h)))
     to (ByteEscape high low) after (h, e) = inr (byte_to high low after h)
-    to (AsciiEscape high low) after (h, e) = absurd (cc)
-    to (UnicodeEscape ds) after (h, e) = absurd (cc)
-    to (LineBreak blanks) after (h, e) = absurd (cc)
+    to _ after (h, e) = absurd (cc)
 
     from : (text after value : List ℕ) → Means byte_content text after value → Found Byte text after value
     from text after value (inl (c, is, t, v)) = (Itself c, (ap (λ b. nat_lt c 128 && b) (in_quotes c) ∙ is, tt), t, v)
@@ -156,8 +153,7 @@ byte_string_unit = record { to = to; from = from }
     to (PlainEscape c) after (h, e) = inr (inl (inr (inl (letter_to c after h))))
     to (ByteEscape high low) after (h, e) = inr (inl (byte_to high low after h))
     to (LineBreak blanks) after (h, e) = inr (inr (continue_to blanks after h e))
-    to (AsciiEscape high low) after (h, e) = absurd (cc)
-    to (UnicodeEscape ds) after (h, e) = absurd (cc)
+    to _ after (h, e) = absurd (cc)
 
     from : (text after value : List ℕ) → Means byte_string_content text after value → Found ByteStr text after value
     from text after value (inl (c, is, t, v)) = (Itself c, (ap (λ b. nat_lt c 128 && b) (in_string c) ∙ is, tt), t, v)
@@ -202,7 +198,7 @@ c_string_unit = record { to = to; from = from }
         let (is, other) = and_parts (is_unicode_escape ds) (not (eqb (spaced_value ds) 0)) h in
         inr (inr (inl (spaced_value ds ∷ [], (sym (alone _) ∙ other, unicode_to ds after is), refl)))
     to (LineBreak blanks) after (h, e) = inr (inr (inr (continue_to blanks after h e)))
-    to (AsciiEscape high low) after (h, e) = absurd (cc)
+    to _ after (h, e) = absurd (cc)
 
     from : (text after value : List ℕ) → Means c_string_content text after value → Found CStr text after value
     from text after value (inl (x, (c, is, t, v), value_is)) =
