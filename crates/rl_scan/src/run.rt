@@ -1,5 +1,7 @@
 //! Runs `rl_scan`: visits files, prints their findings, and determines the exit status.
 
+ghost use Rattle.rl_scan.specs.Fixes.{Fixes, FixesSource};
+
 use crate::args::{Args, without_mark};
 use crate::errors::report_end;
 use crate::escapes::{Before, Escapes, push_text};
@@ -139,7 +141,9 @@ impl<'s, 'a, A: Allocator + Copy, W: Write, E: Write> Call<'s, 'a, A, W, E> {
         files: &mut F,
         path: &'t str,
         source: &'t str,
-    ) -> Result<(), Failure<A>> {
+    ) -> Result<(), Failure<A>>
+        ensures fixes { FixesSource path.now source.now (F.handed files.old) (F.handed files.new) }
+    {
         self.tally.visited = self.tally.visited.saturating_add(1);
         self.tally.read = self.tally.read.saturating_add(1);
         let job = self.job;
@@ -162,7 +166,9 @@ impl<'s, 'a, A: Allocator + Copy, W: Write, E: Write> Call<'s, 'a, A, W, E> {
         tree: &T,
         files: &mut F,
         path: &str,
-    ) -> Result<(), Failure<A>> {
+    ) -> Result<(), Failure<A>>
+        ensures fixes { Fixes (T.holds tree.now) (F.handed files.old) (F.handed files.new) }
+    {
         if self.job.lists_files {
             self.tally.visited = self.tally.visited.saturating_add(1);
             if self.job.quiet {
@@ -190,7 +196,9 @@ impl<'s, 'a, A: Allocator + Copy, W: Write, E: Write> Call<'s, 'a, A, W, E> {
         files: &mut F,
         walk: &mut Walk<A>,
         selection: Selection<'_>,
-    ) -> Result<(), Failure<A>> {
+    ) -> Result<(), Failure<A>>
+        ensures fixes { Fixes (T.holds tree.now) (F.handed files.old) (F.handed files.new) }
+    {
         for _ in 0..u64::MAX {
             match walk.next(self.alloc, selection, tree) {
                 Ok(None) => return Ok(()),
@@ -226,7 +234,9 @@ fn run_call<A: Allocator + Copy, T: Tree, W: Write, E: Write, F: Replace>(
     tree: &T,
     files: &mut F,
     paths: &mut Vec<String<A>, A>,
-) -> Result<u8, Failure<A>> {
+) -> Result<u8, Failure<A>>
+    ensures fixes { Fixes (T.holds tree.now) (F.handed files.old) (F.handed files.new) }
+{
     let (alloc, has_paths) = (call.alloc, !paths.is_empty());
     let extensions = extensions_of(alloc, args)?;
     let excludes = args.all(alloc, "--exclude")?;
@@ -261,7 +271,9 @@ fn parse_and_run<A: Allocator + Copy, T: Tree, W: Write, E: Write, F: Replace>(
     console: Console<'_, W, E>,
     tree: &T,
     files: &mut F,
-) -> Result<u8, Failure<A>> {
+) -> Result<u8, Failure<A>>
+    ensures fixes { Fixes (T.holds tree.now) (F.handed files.old) (F.handed files.new) }
+{
     let args = Args::parse(alloc, words)?;
     if args.mode() == Mode::Page {
         write_bytes(console.out, page_of(alloc, &args)?.as_bytes())?;
@@ -299,7 +311,9 @@ pub fn run_with_arguments<A: Allocator + Copy, T: Tree, W: Write, E: Write, F: R
     console: Console<'_, W, E>,
     tree: &T,
     files: &mut F,
-) -> Ending<Failure<A>> {
+) -> Ending<Failure<A>>
+    ensures fixes { Fixes (T.holds tree.now) (F.handed files.old) (F.handed files.new) }
+{
     let words = match args {
         [_, words @ ..] => words,
         [] => return Ending::Failed(Failure::NoArguments),
