@@ -27,10 +27,8 @@ fn report_literal<A: Allocator + Copy, W: Write>(
             None => return Ok(()),
         }
     } else {
-        Place {
-            lo: token.lo,
-            hi: token.hi,
-        }
+        let (lo, hi) = (token.lo, token.hi);
+        Place { lo, hi }
     };
     page.report_finding(place, Finding::Literal(literal))
 }
@@ -59,11 +57,8 @@ pub(crate) fn report_findings<A: Allocator + Copy, W: Write>(
 ) -> Result<Option<LexError>, Failure<A>> {
     match page.job.mode {
         Mode::Bad => {
-            let checks = Checks {
-                types: !page.job.any_suffix,
-                strays: page.job.strays,
-            };
-            report_errors(page, checks)?;
+            let (types, strays) = (!page.job.any_suffix, page.job.strays);
+            report_errors(page, Checks { types, strays })?;
             Ok(None)
         }
         Mode::Invisible => {

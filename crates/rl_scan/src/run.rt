@@ -240,11 +240,8 @@ fn run_call<A: Allocator + Copy, T: Tree, W: Write, E: Write, F: Replace>(
     let (alloc, has_paths) = (call.alloc, !paths.is_empty());
     let extensions = extensions_of(alloc, args)?;
     let excludes = args.all(alloc, "--exclude")?;
-    let selection = selection_of(
-        args.has("--all"),
-        extensions.as_slice(),
-        excludes.as_slice(),
-    );
+    let all = args.has("--all");
+    let selection = selection_of(all, extensions.as_slice(), excludes.as_slice());
     let mut walk = Walk::of_paths(alloc, paths)?;
     match call.report_files(tree, files, &mut walk, selection) {
         Ok(()) => {}

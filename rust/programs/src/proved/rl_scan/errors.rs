@@ -47,16 +47,7 @@ fn report_lex_error<A: Allocator + Copy, W: Write>(
         LexKind::UnclosedComment => "unclosed-comment",
         _ => "stray-character",
     };
-    let message = kind.message();
-    page.report_finding(
-        place,
-        Finding::Error(Fault {
-            id,
-            message,
-            piece,
-            literal: None,
-        }),
-    )
+    report_error(page, place, (id, kind.message()), piece, None)
 }
 
 /// Reports the error that ends a source.
@@ -64,24 +55,17 @@ pub(crate) fn report_end<A: Allocator + Copy, W: Write>(
     page: &mut Page<'_, '_, A, W>,
     error: LexError,
 ) -> Result<(), Failure<A>> {
-    report_lex_error(
-        page,
-        error.kind,
-        Place {
-            lo: error.at,
-            hi: error.at,
-        },
-        "",
-    )
+    let (lo, hi) = (error.at, error.at);
+    report_lex_error(page, error.kind, Place { lo, hi }, "")
 }
 
-/// Reports an error of a literal with the text `literal`.
+/// Reports an error. `literal` is the text of the literal that contains it.
 fn report_error<A: Allocator + Copy, W: Write>(
     page: &mut Page<'_, '_, A, W>,
     place: Place,
     words: (&'static str, &'static str),
     piece: &str,
-    literal: &str,
+    literal: Option<&str>,
 ) -> Result<(), Failure<A>> {
     let (id, message) = words;
     page.report_finding(
@@ -90,14 +74,13 @@ fn report_error<A: Allocator + Copy, W: Write>(
             id,
             message,
             piece,
-            literal: Some(literal),
+            literal,
         }),
     )
 }
 
 // ---- literals that Rust's grammar accepts
 
-/// Whether a character is part of an ASCII word.
 fn is_of_word(c: char) -> bool {
     c.is_ascii_alphanumeric() || c == '_'
 }
@@ -132,13 +115,8 @@ fn type_error_in(before: &str, text: &str, reading: &Reading) -> Option<TypeErro
     if has_default || !text.is_char_boundary(suffix_at) {
         return None;
     }
-    type_error_of(
-        kind,
-        text,
-        magnitude,
-        &text[suffix_at..],
-        may_be_negated(before),
-    )
+    let suffix = &text[suffix_at..];
+    type_error_of(kind, text, magnitude, suffix, may_be_negated(before))
 }
 
 /// Returns the range in a literal where an integer above 128 bits becomes too large: the character after its digits.
@@ -149,10 +127,8 @@ fn large_place(text: &str, reading: &Reading) -> Option<Place> {
                 Some((c, _)) => c.len_utf8(),
                 None => 0,
             };
-            Some(Place {
-                lo: *at,
-                hi: at.saturating_add(len),
-            })
+            let (lo, hi) = (*at, at.saturating_add(len));
+            Some(Place { lo, hi })
         }
         _ => None,
     }
@@ -188,29 +164,19 @@ fn report_type<'t, A: Allocator + Copy, W: Write>(
     token: SourceToken<'t>,
     reading: &Reading,
 ) -> Result<(), Failure<A>> {
-    let before = page.source.get(..token.lo).unwrap_or("");
+    let (lo, hi, large) = (token.lo, token.hi, FlawKind::TooLarge);
+    let before = page.source.get(..lo).unwrap_or("");
     let (place, words) = match large_place(token.text, reading) {
-        Some(place) => {
-            (
-                place.after(token.lo),
-                (FlawKind::TooLarge.id(), FlawKind::TooLarge.message()),
-            )
-        }
+        Some(place) => (place.after(lo), (large.id(), large.message())),
         None => match type_error_in(before, token.text, reading) {
-            Some(error) => (
-                Place {
-                    lo: token.lo,
-                    hi: token.hi,
-                },
-                (error.id(), error.message()),
-            ),
+            Some(error) => (Place { lo, hi }, (error.id(), error.message())),
             None => return Ok(()),
         },
     };
     if page.job.follows && follower.is_in_call_at(token.lo) {
         return Ok(());
     }
-    report_error(page, place, words, token.text, token.text)
+    report_error(page, place, words, token.text, Some(token.text))
 }
 
 /// Reports the reserved prefix of a literal. Returns whether it has one.
@@ -223,24 +189,15 @@ fn report_prefix<A: Allocator + Copy, W: Write>(
     if !may_end_prefix(source, token.lo) || !page.job.edition.reserves(before, token.text) {
         return Ok(false);
     }
-    let place = Place {
-        lo: prefix_start(before, token.text),
-        hi: token.hi,
-    };
-    let whole = source.get(place.lo..place.hi).unwrap_or(token.text);
-    report_error(
-        page,
-        place,
-        ("reserved-prefix", "reserved prefix"),
-        whole,
-        whole,
-    )?;
+    let (lo, hi) = (prefix_start(before, token.text), token.hi);
+    let whole = source.get(lo..hi).unwrap_or(token.text);
+    let words = ("reserved-prefix", "reserved prefix");
+    report_error(page, Place { lo, hi }, words, whole, Some(whole))?;
     Ok(true)
 }
 
 // ---- invalid literals
 
-/// Reports a flaw of a literal.
 fn report_flaw<A: Allocator + Copy, W: Write>(
     page: &mut Page<'_, '_, A, W>,
     token: SourceToken<'_>,
@@ -252,18 +209,10 @@ fn report_flaw<A: Allocator + Copy, W: Write>(
     } else {
         text
     };
-    let place = Place {
-        lo: flaw.lo,
-        hi: flaw.hi,
-    }
-    .after(token.lo);
-    report_error(
-        page,
-        place,
-        (flaw.kind.id(), flaw.kind.message()),
-        piece,
-        text,
-    )
+    let (lo, hi) = (flaw.lo, flaw.hi);
+    let place = Place { lo, hi }.after(token.lo);
+    let words = (flaw.kind.id(), flaw.kind.message());
+    report_error(page, place, words, piece, Some(text))
 }
 
 /// Reports all flaws of a literal: the first one, and those that the cursor returns.
@@ -333,11 +282,8 @@ pub(crate) fn report_errors<A: Allocator + Copy, W: Write>(
         if token.is_literal() {
             report_literal(page, &mut follower, checks, token)?;
         } else if checks.strays && matches!(token.form, SourceForm::Stray) {
-            let place = Place {
-                lo: token.lo,
-                hi: token.hi,
-            };
-            report_lex_error(page, LexKind::StrayCharacter, place, token.text)?;
+            let (lo, hi) = (token.lo, token.hi);
+            report_lex_error(page, LexKind::StrayCharacter, Place { lo, hi }, token.text)?;
         }
     }
     match tokens.error() {
