@@ -104,6 +104,7 @@ fn prefix_start(before: &str, text: &str) -> usize {
 }
 
 /// Returns the reason why Rust has no type for a literal. `before` is the text before the literal.
+#[inline(always)]
 fn type_error_in(before: &str, text: &str, reading: &Reading) -> Option<TypeError> {
     let (kind, magnitude, suffix_at) = match reading {
         Reading::Text(kind, body) | Reading::Unit(kind, body, _) => (*kind, 0, body.suffix_at),
@@ -158,6 +159,7 @@ impl<'t> Follower<'t> {
 }
 
 /// Reports that Rust has no type for a literal: its suffix is wrong, or its value is out of range.
+#[inline(always)]
 fn report_type<'t, A: Allocator + Copy, W: Write>(
     page: &mut Page<'_, '_, A, W>,
     follower: &mut Follower<'t>,
@@ -180,6 +182,7 @@ fn report_type<'t, A: Allocator + Copy, W: Write>(
 }
 
 /// Reports the reserved prefix of a literal. Returns whether it has one.
+#[inline(always)]
 fn report_prefix<A: Allocator + Copy, W: Write>(
     page: &mut Page<'_, '_, A, W>,
     token: SourceToken<'_>,
@@ -242,6 +245,7 @@ fn is_literal_since_2021(text: &str) -> bool {
 }
 
 /// Reports the errors of a literal.
+#[inline(always)]
 fn report_literal<'t, A: Allocator + Copy, W: Write>(
     page: &mut Page<'_, '_, A, W>,
     follower: &mut Follower<'t>,
