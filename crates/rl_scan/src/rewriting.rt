@@ -1,5 +1,9 @@
 //! Rewrites files, or prints the changes that would be made.
 
+ghost use Rattle.std.specs.Prelude.{◌≡◌, ◌⊎◌};
+ghost use Rattle.rl_files.specs.Replacements.{handed_too, replacing};
+ghost use Rattle.rl_scan.specs.Fixes.{FixesSource};
+
 use crate::diff::print_diff;
 use crate::errors::{Checks, report_errors};
 use crate::failure::Failure;
@@ -57,7 +61,7 @@ fn report_changes<A: Allocator + Copy, W: Write>(
     page.close()
 }
 
-impl<'s, 'a, A: Allocator + Copy, W: Write, E: Write> Call<'s, 'a, A, W, E> {
+impl<'o, 'e, 'a, A: Allocator + Copy, W: Write, E: Write> Call<'o, 'e, 'a, A, W, E> {
     /// Prints the errors because of which a source isn't rewritten. Returns whether there are any.
     fn explains<'t>(&mut self, path: &'t str, source: &'t str) -> Result<bool, Failure<A>> {
         let job = self.job;
@@ -76,7 +80,10 @@ impl<'s, 'a, A: Allocator + Copy, W: Write, E: Write> Call<'s, 'a, A, W, E> {
         path: &str,
         old: &str,
         new: &str,
-    ) -> Result<bool, Failure<A>> {
+    ) -> Result<bool, Failure<A>>
+        ensures handed { (F.handed files.new ≡ F.handed files.old)
+            ⊎ (F.handed files.new ≡ handed_too (replacing path.now old.now new.now) (F.handed files.old)) }
+    {
         match files.replace(self.alloc, path, old.as_bytes(), new.as_bytes()) {
             Ok(()) => Ok(true),
             Err(PathError::OutOfMemory) => Err(Failure::Memory),
@@ -96,7 +103,10 @@ impl<'s, 'a, A: Allocator + Copy, W: Write, E: Write> Call<'s, 'a, A, W, E> {
         path: &'t str,
         source: &'t str,
         new: &str,
-    ) -> Result<u64, Failure<A>> {
+    ) -> Result<u64, Failure<A>>
+        ensures handed { (F.handed files.new ≡ F.handed files.old)
+            ⊎ (F.handed files.new ≡ handed_too (replacing path.now source.now new.now) (F.handed files.old)) }
+    {
         let is_input = path == "-";
         if self.job.mode == Mode::Fix && is_input {
             write_bytes(self.out, new.as_bytes())?;
@@ -126,7 +136,9 @@ impl<'s, 'a, A: Allocator + Copy, W: Write, E: Write> Call<'s, 'a, A, W, E> {
         files: &mut F,
         path: &'t str,
         source: &'t str,
-    ) -> Result<u64, Failure<A>> {
+    ) -> Result<u64, Failure<A>>
+        ensures fixes { FixesSource path.now source.now (F.handed files.old) (F.handed files.new) }
+    {
         let job = self.job;
         let rewritten = rewrite_source(self.alloc, job.style, job.choice(), source);
         let is_clean = match &rewritten {
