@@ -58,7 +58,10 @@ fn texts_are_written_anew() {
         ),
         ("S { 0xA: 0xB, 1_0: 1_1 }", "S { 0xA: 0xb, 1_0: 11 }"),
         ("offset_of(S, 1_0.0xA); 0xA", "offset_of(S, 1_0.0xA); 0xa"),
-        ("{ offset_of(1_0) } offset_of { 1_1 }", "{ offset_of(1_0) } offset_of { 11 }"),
+        (
+            "{ offset_of(1_0) } offset_of { 1_1 }",
+            "{ offset_of(1_0) } offset_of { 11 }",
+        ),
         (
             "let S { 1_0 // a\n : b, /** c */ 1_1:/**/:d, .. }",
             "let S { 1_0 // a\n : b, /** c */ 1_1:/**/:d, .. }",
