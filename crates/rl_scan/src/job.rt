@@ -36,7 +36,7 @@ pub(crate) struct Lists<'a> {
     pub kinds: &'a [Option<Kind>],
 }
 
-/// The same values, with their memory.
+/// Owns the values of options that may be repeated.
 #[derive(Drop)]
 pub(crate) struct Values<'a, A: Allocator> {
     finds: Vec<&'a str, A>,

@@ -38,7 +38,7 @@ pub(crate) struct Lists<'a> {
     pub kinds: &'a [Option<Kind>],
 }
 
-/// The same values, with their memory.
+/// Owns the values of options that may be repeated.
 pub(crate) struct Values<'a, A: Allocator> {
     finds: Vec<&'a str, A>,
     numbers: Vec<u128, A>,
