@@ -22,7 +22,10 @@ How to read it:
 - `⊎` is *or*, `×` is *and* or *there is*, `→` is *for all* or *implies*, `≡` is *equals*, `⊥` is *false*, and `⊤` is *true*.
 - `∷` puts an element before a list, and `++` joins two lists. `codes "ab"` is the list of the codes of `a` and `b`.
 - `IsTrue b` states that a test succeeds. `IfOk result (λ x. P)` states `P` of the value `x` if the result is `Ok`.
-- `Memory` is a failed allocation. A contract can't promise that an allocation succeeds. `literal_at` allocates nothing.
+- `Memory` is a failed allocation. A contract can't promise that an allocation succeeds, or that `Memory` is returned only if one
+  fails. `literal_at` allocates nothing.
+- The functions only call the libraries, and the page leaves out their bodies. Nothing is stated of a text that isn't a printed list,
+  such as one whose last line is a comment without a line end.
 """
 WORD = re.compile(r"«[^»]*»|[^\W\d][\w'-]*(?:\.[^\W\d][\w'-]*)*|[^\s\w(){}\[\].,;:\"«»]+")
 
