@@ -1,5 +1,5 @@
 -- The literals that `--bad` accepts. Sources, paths and texts are lists of bytes.
-use Rattle.std.specs.Prelude.{◌≡◌, ◌⊎◌, ◌<◌, ◌+◌, ℕ, Bool, ◌||◌, List, [], ◌∷◌, Option, Some, None, IfSome, IsTrue, codes, drop, encode_utf8_all, length, ⊤}
+use Rattle.std.specs.Prelude.{◌≡◌, ◌⊎◌, ◌<◌, ◌+◌, ℕ, Bool, ◌||◌, List, [], ◌∷◌, Option, Some, None, IfSome, IsTrue, codes, drop, encode_utf8_all, length, slice_range, ⊤}
 use Rattle.std.specs.List.{AllByRecursion, list_any}
 use Rattle.std.specs.Str.{bytes_eq, chars}
 use Rattle.std.specs.declared.result.Result.TheVariants.{Ok}
@@ -17,7 +17,7 @@ use Rattle.rl_strict.specs.declared.flaws.FlawKind.TheVariants.{TooLarge}
 use Rattle.rl_strict.specs.declared.line_ends.LineEnds.TheVariants.{File as InFile}
 use Rattle.rl_strict.specs.declared.strict_reading.Reading.{Reading}
 use Rattle.rl_strict.specs.declared.strict_reading.Reading.TheVariants.{Text, Unit, Integer, Float, Truth}
-use Rattle.rl_flaws.specs.Before.{year_of}
+use Rattle.rl_flaws.specs.Before.{may_negate, year_of}
 use Rattle.rl_flaws.specs.ErrorWords.{type_error_id}
 use Rattle.rl_flaws.specs.TypeErrors.{HasType}
 use Rattle.rl_flaws.specs.declared.type_errors.TypeError.{TypeError}
@@ -48,10 +48,10 @@ calls_after calls [] = calls
 calls_after calls (w ∷ ws) =
     calls_after (advance_calls calls (source_kind w.token) (encode_utf8_all (source_text w.token))) ws
 
--- A cursor over a source has read some tokens, and knows the position relative to macro calls after them.
-abbrev pub HasFollowed : CursorState → CallState → Type 0
-HasFollowed s calls = (before : List CutSource) × IsCutUpTo (chars s.text) before (chars s.rest)
-    × (calls ≡ calls_after Outside before)
+-- A cursor over the source has read some tokens, and `calls` is the position relative to macro calls after them.
+abbrev pub HasFollowed : List ℕ → CursorState → CallState → Type 0
+HasFollowed source s calls = (before : List CutSource) × IsCutUpTo (chars s.text) before (chars s.rest)
+    × (calls ≡ calls_after Outside before) × (s.text ≡ source)
 
 -- The token at the byte offset `at` of the source is in a macro call, by the tokens `before` it. The source from the token on is
 -- `rest`.
@@ -73,7 +73,7 @@ IsIdOfTypeError id = ((error : TypeError) × (id ≡ type_error_id error)) ⊎ (
 -- A literal with the given parse result is accepted: it has a type, types aren't checked, or an error is allowed.
 abbrev pub IsTyped : Job → List ℕ → ℕ → List ℕ → Reading → Type 0
 IsTyped job source at text reading =
-    ((negated : Bool) × HasTypeBy text negated reading) ⊎ IsTrue job.any_suffix
+    HasTypeBy text (may_negate (slice_range source 0 at)) reading ⊎ IsTrue job.any_suffix
     ⊎ (IsTrue job.follows × IsInCallAt source at) ⊎ ((id : List ℕ) × IsIdOfTypeError id × Allows job id)
     ⊎ Allows job (codes "reserved-prefix")
 

@@ -252,7 +252,9 @@ fn report_type<'t, A: Allocator + Copy, W: Write>(
         → IsTyped job.entry follower.old token.entry.lo token.entry.text.now reading.now) }
     ensures same { OnOk result (follower.new ≡ follower.old) }
 {
-    let before = page.source.get(..token.lo).unwrap_or("");
+    let Some(before) = follower.text_before(token.lo) else {
+        return Ok(false);
+    };
     let Some((place, fault)) = type_fault(before, token, reading) else {
         return Ok(true);
     };

@@ -1,6 +1,6 @@
 //! Follows the tokens of a source, and finds out which of them are in macro calls.
 
-ghost use Rattle.std.specs.Prelude.{◌≡◌, IfSome, IsTrue};
+ghost use Rattle.std.specs.Prelude.{◌≡◌, IfSome, IsTrue, slice_range};
 ghost use Rattle.rl_scan.specs.Accepted.{IsInCallAt};
 
 use rl_lexer::{SourceToken, Sources};
@@ -10,6 +10,7 @@ use std::marker::Model;
 /// A second reader of a source, which says what is in macro calls. It only moves if a finding depends on that.
 #[derive(Drop)]
 pub(crate) struct Follower<'t> {
+    source: &'t str,
     tokens: Sources<'t>,
     calls: Calls<'t>,
 }
@@ -21,9 +22,9 @@ impl<'t> Model for Follower<'t> {
 
     ghost Value = { List ℕ };
 
-    ghost view = { λ f. f.tokens.text };
+    ghost view = { λ f. f.source.now };
 
-    ghost invariant = { λ f. HasFollowed f.tokens (calls_seen f.calls) };
+    ghost invariant = { λ f. HasFollowed f.source.now f.tokens (calls_seen f.calls) };
 }
 
 impl<'t> Follower<'t> {
@@ -32,9 +33,17 @@ impl<'t> Follower<'t> {
         ensures { result ≡ source.now }
     {
         Follower {
+            source,
             tokens: Sources::new(source),
             calls: Calls::Outside,
         }
+    }
+
+    /// Returns the text before the byte offset `lo`.
+    pub(crate) fn text_before(&self, lo: usize) -> Option<&'t str>
+        ensures { IfSome result (λ before. before.now ≡ slice_range self.now 0 lo) }
+    {
+        self.source.get(..lo)
     }
 
     /// Returns the next token, and whether it is in a macro call.

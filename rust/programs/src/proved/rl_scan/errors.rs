@@ -212,7 +212,9 @@ fn report_type<'t, A: Allocator + Copy, W: Write>(
     token: SourceToken<'t>,
     reading: &Reading,
 ) -> Result<bool, Failure<A>> {
-    let before = page.source.get(..token.lo).unwrap_or("");
+    let Some(before) = follower.text_before(token.lo) else {
+        return Ok(false);
+    };
     let Some((place, fault)) = type_fault(before, token, reading) else {
         return Ok(true);
     };

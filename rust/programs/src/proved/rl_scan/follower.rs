@@ -6,6 +6,7 @@ use crate::rl_style::{Calls, advance_calls, is_in_call};
 
 /// A second reader of a source, which says what is in macro calls. It only moves if a finding depends on that.
 pub(crate) struct Follower<'t> {
+    source: &'t str,
     tokens: Sources<'t>,
     calls: Calls<'t>,
 }
@@ -14,9 +15,15 @@ impl<'t> Follower<'t> {
     /// Creates a reader at the start of a source.
     pub(crate) fn new(source: &'t str) -> Follower<'t> {
         Follower {
+            source,
             tokens: Sources::new(source),
             calls: Calls::Outside,
         }
+    }
+
+    /// Returns the text before the byte offset `lo`.
+    pub(crate) fn text_before(&self, lo: usize) -> Option<&'t str> {
+        self.source.get(..lo)
     }
 
     /// Returns the next token, and whether it is in a macro call.
