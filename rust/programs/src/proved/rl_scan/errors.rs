@@ -165,43 +165,28 @@ fn large_place(text: &str, reading: &Reading) -> Option<Place> {
     }
 }
 
-/// Returns the error of a literal that Rust has no type for: its suffix is wrong, or its value is out of range. `before` is the text
-/// before the literal.
-fn type_fault<'t>(
+/// Returns the range, the identifier and the message of the error of a literal that Rust has no type for: its suffix is wrong, or its
+/// value is out of range. `before` is the text before the literal.
+fn type_words(
     before: &str,
-    token: SourceToken<'t>,
+    text: &str,
     reading: &Reading,
-) -> Option<(Place, Fault<'t>)> {
-    let (text, piece, literal) = (token.text, token.text, Some(token.text));
+) -> Option<(Place, &'static str, &'static str)> {
     if let Some(place) = large_place(text, reading) {
-        let (id, message) = (FlawKind::TooLarge.id(), FlawKind::TooLarge.message());
         return Some((
-            place.after(token.lo),
-            Fault {
-                id,
-                message,
-                piece,
-                literal,
-            },
+            place,
+            FlawKind::TooLarge.id(),
+            FlawKind::TooLarge.message(),
         ));
     }
-    let Some(error) = type_error_in(before, text, reading) else {
-        return None;
-    };
-    let (id, message) = (error.id(), error.message());
     let place = Place {
-        lo: token.lo,
-        hi: token.hi,
+        lo: 0,
+        hi: text.len(),
     };
-    Some((
-        place,
-        Fault {
-            id,
-            message,
-            piece,
-            literal,
-        },
-    ))
+    match type_error_in(before, text, reading) {
+        Some(error) => Some((place, error.id(), error.message())),
+        None => None,
+    }
 }
 
 /// Reports that Rust has no type for a literal. Returns whether the literal is accepted.
@@ -215,39 +200,45 @@ fn report_type<'t, A: Allocator + Copy, W: Write>(
     let Some(before) = follower.text_before(token.lo) else {
         return Ok(false);
     };
-    let Some((place, fault)) = type_fault(before, token, reading) else {
+    let Some((place, id, message)) = type_words(before, token.text, reading) else {
         return Ok(true);
     };
     if job.follows && follower.is_in_call_at(token.lo) {
         return Ok(true);
     }
-    report_fault(page, job, place, fault)
+    let fault = Fault {
+        id,
+        message,
+        piece: token.text,
+        literal: Some(token.text),
+    };
+    report_fault(page, job, place.after(token.lo), fault)
 }
 
-/// Returns the error of a literal with a reserved prefix.
-fn prefix_fault<'t>(
-    source: &'t str,
-    edition: Edition,
-    token: SourceToken<'t>,
-) -> Option<(Place, Fault<'t>)> {
+/// Reports the reserved prefix of a literal. Returns whether the call allows it, or `None` if the literal has none.
+fn report_prefix<A: Allocator + Copy, W: Write>(
+    page: &mut Page<'_, '_, A, W>,
+    job: Job<'_>,
+    token: SourceToken<'_>,
+) -> Result<Option<bool>, Failure<A>> {
+    let source = page.source;
     let before = source.get(..token.lo).unwrap_or("");
-    if !may_end_prefix(source, token.lo) || !edition.reserves(before, token.text) {
-        return None;
+    if !may_end_prefix(source, token.lo) || !job.edition.reserves(before, token.text) {
+        return Ok(None);
     }
     let place = Place {
         lo: prefix_start(before, token.text),
         hi: token.hi,
     };
-    let piece = source.get(place.lo..place.hi).unwrap_or(token.text);
-    Some((
-        place,
-        Fault {
-            id: "reserved-prefix",
-            message: "reserved prefix",
-            piece,
-            literal: Some(piece),
-        },
-    ))
+    let whole = source.get(place.lo..place.hi).unwrap_or(token.text);
+    let fault = Fault {
+        id: "reserved-prefix",
+        message: "reserved prefix",
+        piece: whole,
+        literal: Some(whole),
+    };
+    let is_allowed = report_fault(page, job, place, fault)?;
+    Ok(Some(is_allowed))
 }
 
 // ---- invalid literals
@@ -305,23 +296,6 @@ fn is_literal_since_2021(text: &str) -> bool {
     begins(text, "c\"") || begins(text, "cr") || begins(text, "'r#")
 }
 
-/// Reports the errors of a literal that is valid by Rust's grammar. Returns whether it is accepted.
-fn report_valid<'t, A: Allocator + Copy, W: Write>(
-    page: &mut Page<'_, '_, A, W>,
-    follower: &mut Follower<'t>,
-    job: Job<'_>,
-    token: SourceToken<'t>,
-    reading: &Reading,
-) -> Result<bool, Failure<A>> {
-    if let Some((place, fault)) = prefix_fault(page.source, job.edition, token) {
-        return report_fault(page, job, place, fault);
-    }
-    if job.any_suffix {
-        return Ok(true);
-    }
-    report_type(page, follower, job, token, reading)
-}
-
 /// Reports the errors of a literal. Returns whether it is accepted.
 fn report_literal<'t, A: Allocator + Copy, W: Write>(
     page: &mut Page<'_, '_, A, W>,
@@ -333,7 +307,15 @@ fn report_literal<'t, A: Allocator + Copy, W: Write>(
         return Ok(true);
     }
     match read(token.text, LineEnds::File, false) {
-        Ok(reading) => report_valid(page, follower, job, token, &reading),
+        Ok(reading) => {
+            if let Some(is_allowed) = report_prefix(page, job, token)? {
+                return Ok(is_allowed);
+            }
+            if job.any_suffix {
+                return Ok(true);
+            }
+            report_type(page, follower, job, token, &reading)
+        }
         Err(flaw) => {
             let (first, later) = Flaws::after(token.text, LineEnds::File, flaw);
             let is_allowed = report_flaw(page, job, token, first)?;

@@ -168,17 +168,6 @@ impl<'s, 'a, A: Allocator + Copy, W: Write, E: Write> Call<'s, 'a, A, W, E> {
         Ok(are_accepted)
     }
 
-    /// Prints the path of a file, for `--files`.
-    fn list_file(&mut self, path: &str) -> Result<(), Failure<A>> {
-        self.tally.visited = self.tally.visited.saturating_add(1);
-        if !self.job.quiet {
-            let mut line = String::new(self.alloc);
-            self.push_file(&mut line, path, '\n')?;
-            write_bytes(self.out, line.as_bytes())?;
-        }
-        Ok(())
-    }
-
     /// Reads a file, prints its findings, and counts them. With `--files`, it prints only the path. Returns whether `--bad` accepts all
     /// literals.
     fn report_file<T: Tree, F: Replace>(
@@ -189,7 +178,13 @@ impl<'s, 'a, A: Allocator + Copy, W: Write, E: Write> Call<'s, 'a, A, W, E> {
         path: &str,
     ) -> Result<bool, Failure<A>> {
         if job.lists_files {
-            self.list_file(path)?;
+            self.tally.visited = self.tally.visited.saturating_add(1);
+            if self.job.quiet {
+                return Ok(false);
+            }
+            let mut line = String::new(self.alloc);
+            self.push_file(&mut line, path, '\n')?;
+            write_bytes(self.out, line.as_bytes())?;
             return Ok(false);
         }
         let bytes = match tree.bytes(self.alloc, path) {
