@@ -122,6 +122,11 @@ read_more job old new token is before both (inr t) accepted parts read =
     (λ h literal. subst (λ z. IsAccepted job z token.lo token.text.now) (sym t.passes.same) (accepted h literal)) parts
     (read_passed job old t.between before t.passes read)
 
+pub text_same : (old new : CursorState) (token : SourceToken)
+    → TakesSource old token new ⊎ TakesLiteralAfter old token new → new.text ≡ old.text
+text_same old new token (inl takes) = takes.same
+text_same old new token (inr t) = t.takes.same ∙ t.passes.same
+
 -- The cursor reaches the end of a source, or an error that is allowed.
 abbrev pub EndsAt : Job → List ℕ → Type 0
 EndsAt job rest = (rest ≡ []) ⊎ ((kind : LexKind) × SourceErrorAt kind (chars rest) × Allows job (end_id kind))

@@ -209,11 +209,7 @@ fn type_words(
     ensures some { IfSome result (λ p. IsIdOfTypeError p.1.now) }
 {
     if let Some(place) = large_place(text, reading) {
-        return Some((
-            place,
-            FlawKind::TooLarge.id(),
-            FlawKind::TooLarge.message(),
-        ));
+        return Some((place, FlawKind::TooLarge.id(), FlawKind::TooLarge.message()));
     }
     let place = Place {
         lo: 0,
@@ -370,10 +366,7 @@ fn report_literal<'t, A: Allocator + Copy, W: Write>(
         Err(flaw) => {
             let (first, later) = Flaws::after(token.text, LineEnds::File, flaw);
             let is_allowed = report_flaw(page, job, token, first)?;
-            Ok(both(
-                is_allowed,
-                report_later_flaws(page, job, token, later)?,
-            ))
+            Ok(both(is_allowed, report_later_flaws(page, job, token, later)?))
         }
     }
 }
