@@ -1,5 +1,5 @@
 -- Lemmas about the literals that `--bad` accepts.
-use Rattle.rl_syntax.proofs.Common.{AllByRecursion, Bool, Err, IfNone, IfOk, IfSome, IsTrue, List, None, Ok, Option, Result, Some, [], absurd, ap, chars, encode_utf8_all, inl, inr, refl, subst, sym, true, ℕ, ◌++◌, ◌∙◌, ◌∷◌, ◌≡◌, ◌⊎◌}
+use Rattle.rl_syntax.proofs.Common.{AllByRecursion, Bool, Err, IfSome, IsTrue, List, None, Ok, Option, Some, [], ap, chars, encode_utf8_all, inl, inr, refl, subst, sym, true, ℕ, ◌++◌, ◌∙◌, ◌∷◌, ◌≡◌, ◌⊎◌, ⊤}
 use Rattle.rl_lexer.specs.Cursors.{CursorState}
 use Rattle.rl_lexer.specs.Sources.{BeginsNoSource, CutSource, IsBorrowedSource, IsCutUpTo, IsLiteralText, IsOtherToken, PassesTo, SourceBefore, SourceErrorAt, SourceKind, TakesLiteralAfter, TakesSource, source_kind, source_text, source_view}
 use Rattle.rl_lexer.specs.declared.lex_error.LexKind.{LexKind}
@@ -191,6 +191,6 @@ file_skipped job None path why read skipped = tt
 file_skipped job (Some w) path why (inl memory) skipped = absurd (cc)
 file_skipped job (Some w) path why (inr failed) skipped = λ bytes is. absurd (cc)
 
-pub path_skipped : (job : Job) (holds : Option World) (path : List ℕ) → IfSome holds (λ w. Unit {0})
+pub path_skipped : (job : Job) (holds : Option World) (path : List ℕ) → IfSome holds (λ w. ⊤)
 path_skipped job None path = tt
 path_skipped job (Some w) path = tt
