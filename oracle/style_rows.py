@@ -2,38 +2,40 @@
 """Compares the package's `rewrite` and `rewrite_in_context` with the model, on many literals.
 
     oracle/style_rows.py [--pairs N] ..      some 15 s for 100,000 pairs
-    oracle/style_rows.py --write N ..        writes rust/tests/style.txt, some 10 s
+    oracle/style_rows.py --write 2500        writes rust/tests/style.txt, some 10 s
 
 A pair is a text and a style with one rule or several rules. The texts are all short ones over small alphabets, every character of
 Unicode by itself and as an escape, and longer random ones, until N pairs have a literal. The package and the model must return the
 same text, or both must reject it. The package must leave its own result unchanged (oracle/restyled).
 
 A row has a style as letters (model/style.py), the text before the literal, the literal, and the rewritten literal. The three texts
-are in hexadecimal. `-` is an empty style or text, `=` is an unchanged literal, and `!` is written if the text isn't a literal. With
---write, the model writes the rows of N short texts and as many long ones, with which rust/tests/style.rs tests the package.
+are in hexadecimal. `-` is an empty style or text, `=` is an unchanged literal, and `!` is written if the text isn't a literal.
+rust/tests/style.rs tests the package with the rows that `--write N` writes. They are chosen from N short texts, as many long ones,
+and mistyped numbers: a row is written if it tests what no earlier row tests (`tested`).
 """
 import functools
 import itertools
 import os
 import random
+import re
 
 import frame
 from model import style as model
-from model.literals import OPENERS, RAW_OPENERS
+from model.literals import OPENERS, RAW_OPENERS, closer, literal
 from texts import words
 
 HEX = '0123456789abcdefABCDEF'
 ROWS = os.path.join(frame.TOP, 'rust/tests/style.txt')
 SUFFIXES = ['', 'x', 'u8', '_x', 'e1', 'b1', 'r', 'é', 'f32', 'o7', 'E', 'aB', 'F']
 PIECES = ['a', ' ', '\n', "'", '"', "\\'", '\\"', '\\\\', '\\n', '\\0', '\\x41', '\\x2a', '\\x2A', '\\x27', '\\x0A', '\\x00', '\\x7F',
-          '\\xfF', '\\u{41}', '\\u{0000e9}', '\\u{E_9_}', '\\u{202E}', '\\u{D}', '\\u{aBcD}', '\\x09', '\\u{5c}', '\\x5C', '\\x20',
+          '\\x7e', '\\xfF', '\\u{41}', '\\u{0000e9}', '\\u{E_9_}', '\\u{202E}', '\\u{D}', '\\u{aBcD}', '\\x09', '\\u{5c}', '\\x5C', '\\x20',
           '\\u{22}', '\\u{7f}', '\\u{141}', '\\xc1', '\\u{0_0}', '\\u{0_1_0}', '\\u{000041}', '\\\n', '\\\n \t', 'é', '\u202e', '1', 'x',
           '{', '\t', '\x00', '\x1b', '\x7f', '\x0c', '\x80', '\u200d', '\ufe0f', '\U000e0041']
 # Pieces of longer texts: also line ends, the first characters of each length in UTF-8, and texts as long as vectors.
 LONG_PIECES = PIECES + ['\r\n', '\\\r', '\\\r\n\r \n', '\\\n\\\n', '\\r', '\\t', '\\x01', '\\x80', '\\u{7ff}', '\\u{800}',
                         '\\u{1F_600}', '\\u{10FFFF}', '\\u{0_0_0_0_0_1__}', '\u20ac', '\U0001f600', '}', '#', '(1',
-                        ')', ', ', 'x' * 17, 'y' * 64, '\u00df' * 9]
-RAW_PIECES = ['"', '"#', '#', 'a', '\\', '\n', '"##', ' ', 'é', '"#"', '\u202e', '\x1b', '\t', '\0']
+                        ')', ', ', '\x007', '\\x008', '\\x00\\x39', '\\x0A1', 'x' * 17, 'y' * 64, '\u00df' * 9]
+RAW_PIECES = ['"', '"#', '#', 'a', '\\', '\n', '"##', ' ', 'é', '"#"', '\u202e', '\x1b', '\t', '\0', '\x007']
 # Numbers, and digits after their last underscore: `2_32` may be meant as `2_i32`.
 MISTYPED = ['0', '09', '1', '1_000', '0xA', '0o7', '0b1', '1.', '1.5', '1e5', '1.5E+1', '1e']
 WIDTHS = ['8', '16', '32', '64', '128', '9', '032', '3_2']
@@ -54,7 +56,7 @@ def short_texts():
         yield from (front + word for word in words('01_.eE+-', (5, 6)))
     for prefix in ('0x', '0b', '0o'):
         yield from (prefix + word for word in words('01aAF_eg', range(6)))
-    yield from map(''.join, itertools.product(MISTYPED, ['', '_', '__'], WIDTHS, ['', '_', 'u8', 'x']))
+    yield from mistyped()
     for opener in OPENERS.values():
         for inside in words(PIECES, range(1, 2 if opener[-1] == "'" else 3)):
             yield from (opener + inside + opener[-1] + suffix for suffix in SUFFIXES)
@@ -63,6 +65,11 @@ def short_texts():
     for opener, count in itertools.product(RAW_OPENERS.values(), range(5)):
         hashes = '#' * count
         yield from (f'{opener}{hashes}"{inside}"{hashes}' for inside in words(['"', '#', 'a', '\\', '\u200b', '\x1b'], range(6)))
+
+
+def mistyped():
+    """Returns numbers of which many may have a mistyped suffix."""
+    return map(''.join, itertools.product(MISTYPED, ['', '_', '__'], WIDTHS, ['', '_', 'u8', 'x']))
 
 
 def long_texts(dice, count):
@@ -140,14 +147,48 @@ def answers_of(program, rows):
     return frame.output_of([program], ''.join(line_of(*row) + '\n' for row in rows).encode()).decode().split('\n')[:-1]
 
 
+def cause(letters, old, after):
+    """Returns the rules that may act on a quote, or on a character that may be written with a letter and has a digit after it."""
+    if old.what == 'quote':
+        return {*'q'} & {*letters}
+    digit = old.code in (0, 9, 10, 13) and after and after.code and chr(after.code) in '0123456789'
+    return {*'ni'} & {*letters} if digit else set()
+
+
+def tested(letters, front, text):
+    """Returns what a row tests: each letter of the style with and without an effect on this kind of literal, pairs of letters with
+    an effect, the text before, each way to rewrite a character or an escape, the number of hashes, and the start, the suffix and
+    the underscores of numbers."""
+    it, new = literal(text), literal(model.rewrite(letters, text, front) or '')
+    if it is None:
+        return {('!', word) for word in (*letters, front, text[:1])}
+    sort = it.kind, it.form, it.parts.get('base')
+    acting = [letter for letter in letters if model.rewrite(letter, text, front) != text]
+    ways = {(sort, letter, letter in acting) for letter in letters} | {(sort, front, it == new)}
+    ways |= {(it.form, *pair) for pair in itertools.combinations(acting, 2)}
+    if it.form == 'escapes':
+        units = zip(it.parts['units'], new.parts['units'], [*it.parts['units'][1:], None])
+        return ways | {(closer(it.kind), old.text, unit.text, *cause(letters, old, after)) for old, unit, after in units}
+    if it.form == 'raw':
+        hashes = it.parts['hashes'], new.parts.get('hashes')
+        return ways | {(*hashes, front), ('raw', bool(re.search('\0[0-9]', it.parts['inside'])), *acting)}
+    digits = it.parts.get('row', it.parts.get('numeral'))
+    shape = digits[:1] == '0' and bool(set(digits) & set('89')), digits[-1:] == '_', model.is_mistyped(it, text)
+    return ways | {(sort, letter, letter in acting, it.suffix[:1], *shape) for letter in letters if letter in 'uzsSgGf'}
+
+
 def write_rows(dice, count):
-    """Writes rows of `count` short texts and as many long ones."""
-    texts = dict.fromkeys([*dice.sample(sorted(set(short_texts())), count), *long_texts(dice, count)])
+    """Writes the rows of `count` short texts, as many long ones, and mistyped numbers that test what no earlier row tests."""
+    texts = dict.fromkeys([*dice.sample(sorted(set(short_texts())), count), *long_texts(dice, count), *mistyped()])
     every = [(style(dice), dice.choice(FRONTS), text) for text in texts]
-    # Of the words over the letters of numbers, few are literals, so only some of the others are kept.
-    kept = [(row, said) for row, said in zip(every, map(said_of, every)) if said != '!' or dice.random() < .2]
+    seen, kept = set(), []
+    for row in every:
+        ways = tested(*row)
+        if not ways <= seen:
+            kept.append(row)
+        seen |= ways
     with open(ROWS, 'w', encoding='utf-8') as file:
-        file.writelines(f'{line_of(*row)} {said}\n' for row, said in kept)
+        file.writelines(f'{line_of(*row)} {said_of(row)}\n' for row in kept)
     return len(kept)
 
 

@@ -237,10 +237,10 @@ def rows():
 def of_tables(*names):
     """Returns the given texts of tables of rust/programs/rows/tests/calls. A number in `⟨..⟩` represents a character."""
     for name in names:
-        for block in Path(frame.TOP, f'rust/programs/rows/tests/calls/{name}.rows').read_bytes().decode().split('\n\n'):
-            given = [line[2:] for line in block.split('\n') if line.startswith('<')]
-            if given:
-                yield re.sub('⟨(.*?)⟩', lambda it: chr(int(it[1], 16)), '\n'.join(given))
+        table = Path(frame.TOP, f'rust/programs/rows/tests/calls/{name}.rows').read_bytes().decode()
+        for row in re.findall(r'(?m)^(?:<[^\n]*\n)+', table):
+            given = '\n'.join(line[2:] for line in row.split('\n')[:-1])
+            yield re.sub('⟨(.*?)⟩', lambda it: chr(int(it[1], 16)), given)
 
 
 def families(seed, count):

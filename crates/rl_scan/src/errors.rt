@@ -84,11 +84,12 @@ fn report_lex_error<A: Allocator + Copy, W: Write>(
 ) -> Result<bool, Failure<A>>
     ensures { IfOk result (λ allowed. IsTrue allowed → Allows job.entry (end_id kind)) }
 {
+    let (id, message, literal) = (end_id(kind), kind.message(), None);
     let fault = Fault {
-        id: end_id(kind),
-        message: kind.message(),
+        id,
+        message,
         piece,
-        literal: None,
+        literal,
     };
     report_fault(page, job, place, fault)
 }
@@ -101,16 +102,12 @@ pub(crate) fn report_end<A: Allocator + Copy, W: Write>(
 ) -> Result<bool, Failure<A>>
     ensures { IfOk result (λ allowed. IsTrue allowed → Allows job.entry (end_id error.kind)) }
 {
-    let place = Place {
-        lo: error.at,
-        hi: error.at,
-    };
-    report_lex_error(page, job, error.kind, place, "")
+    let (lo, hi) = (error.at, error.at);
+    report_lex_error(page, job, error.kind, Place { lo, hi }, "")
 }
 
 // ---- literals that Rust's grammar accepts
 
-/// Whether a character is part of an ASCII word.
 fn is_of_word(c: char) -> bool {
     c.is_ascii_alphanumeric() || c == '_'
 }
@@ -151,13 +148,8 @@ fn type_error_at(
     if !text.is_char_boundary(suffix_at) {
         return Some(TypeError::UnknownSuffix);
     }
-    type_error_of(
-        kind,
-        text,
-        magnitude,
-        &text[suffix_at..],
-        may_be_negated(before),
-    )
+    let suffix = &text[suffix_at..];
+    type_error_of(kind, text, magnitude, suffix, may_be_negated(before))
 }
 
 /// Returns the reason why Rust has no type for a literal. `before` is the text before the literal.
@@ -189,10 +181,8 @@ fn large_place(text: &str, reading: &Reading) -> Option<Place>
                 Some((c, _)) => c.len_utf8(),
                 None => 0,
             };
-            Some(Place {
-                lo: *at,
-                hi: at.saturating_add(len),
-            })
+            let (lo, hi) = (*at, at.saturating_add(len));
+            Some(Place { lo, hi })
         }
         _ => None,
     }
@@ -208,15 +198,12 @@ fn type_words(
     ensures none { IfNone result (HasTypeBy text.now (may_negate before.now) reading.now) }
     ensures some { IfSome result (λ p. IsIdOfTypeError p.1.now) }
 {
+    let (lo, hi, large) = (0, text.len(), FlawKind::TooLarge);
     if let Some(place) = large_place(text, reading) {
-        return Some((place, FlawKind::TooLarge.id(), FlawKind::TooLarge.message()));
+        return Some((place, large.id(), large.message()));
     }
-    let place = Place {
-        lo: 0,
-        hi: text.len(),
-    };
     match type_error_in(before, text, reading) {
-        Some(error) => Some((place, error.id(), error.message())),
+        Some(error) => Some((Place { lo, hi }, error.id(), error.message())),
         None => None,
     }
 }
@@ -242,11 +229,12 @@ fn report_type<'t, A: Allocator + Copy, W: Write>(
     if job.follows && follower.is_in_call_at(token.lo) {
         return Ok(true);
     }
+    let (piece, literal) = (token.text, Some(token.text));
     let fault = Fault {
         id,
         message,
-        piece: token.text,
-        literal: Some(token.text),
+        piece,
+        literal,
     };
     report_fault(page, job, place.after(token.lo), fault)
 }
@@ -265,18 +253,16 @@ fn report_prefix<A: Allocator + Copy, W: Write>(
     if !may_end_prefix(source, token.lo) || !job.edition.reserves(before, token.text) {
         return Ok(None);
     }
-    let place = Place {
-        lo: prefix_start(before, token.text),
-        hi: token.hi,
-    };
-    let whole = source.get(place.lo..place.hi).unwrap_or(token.text);
+    let (lo, hi) = (prefix_start(before, token.text), token.hi);
+    let piece = source.get(lo..hi).unwrap_or(token.text);
+    let (id, message, literal) = ("reserved-prefix", "reserved prefix", Some(piece));
     let fault = Fault {
-        id: "reserved-prefix",
-        message: "reserved prefix",
-        piece: whole,
-        literal: Some(whole),
+        id,
+        message,
+        piece,
+        literal,
     };
-    let is_allowed = report_fault(page, job, place, fault)?;
+    let is_allowed = report_fault(page, job, Place { lo, hi }, fault)?;
     Ok(Some(is_allowed))
 }
 
@@ -297,17 +283,15 @@ fn report_flaw<A: Allocator + Copy, W: Write>(
     } else {
         text
     };
-    let place = Place {
-        lo: flaw.lo,
-        hi: flaw.hi,
-    };
+    let (lo, hi, literal) = (flaw.lo, flaw.hi, Some(text));
+    let (id, message) = (flaw.kind.id(), flaw.kind.message());
     let fault = Fault {
-        id: flaw.kind.id(),
-        message: flaw.kind.message(),
+        id,
+        message,
         piece,
-        literal: Some(text),
+        literal,
     };
-    report_fault(page, job, place.after(token.lo), fault)
+    report_fault(page, job, Place { lo, hi }.after(token.lo), fault)
 }
 
 /// Reports the flaws of a literal that the cursor returns. Returns whether the call allows all of them.
@@ -387,11 +371,14 @@ fn report_token<'t, A: Allocator + Copy, W: Write>(
         return report_literal(page, follower, job, token);
     }
     if job.strays && matches!(token.form, SourceForm::Stray) {
-        let place = Place {
-            lo: token.lo,
-            hi: token.hi,
-        };
-        return report_lex_error(page, job, LexKind::StrayCharacter, place, token.text);
+        let (lo, hi) = (token.lo, token.hi);
+        return report_lex_error(
+            page,
+            job,
+            LexKind::StrayCharacter,
+            Place { lo, hi },
+            token.text,
+        );
     }
     Ok(true)
 }

@@ -64,7 +64,7 @@ fn push_json_number<A: Allocator>(out: &mut String<A>, c: char) -> Result<(), Al
     write!(out, "\\u{high:04x}\\u{low:04x}")
 }
 
-/// Appends a control, invisible or bidirectional character as an escape.
+/// Appends a character as an escape.
 fn push_hidden<A: Allocator>(
     out: &mut String<A>,
     escapes: Escapes,
@@ -100,20 +100,9 @@ pub(crate) fn push_char<A: Allocator>(
             }
             out.push(c)?;
         }
-        Escapes::Numbers if before.completes_command(c) => {
-            let code = c as u32;
-            write!(out, "<U+{code:04X}>")?;
-        }
-        _ => {
-            if before.completes_command(c) {
-                let code = c as u32;
-                write!(out, "\\u{{{code:x}}}")?;
-            } else if c == '%' && matches!(before, Before::Annotation) {
-                out.push_str("%25")?;
-            } else {
-                out.push(c)?;
-            }
-        }
+        _ if before.completes_command(c) => push_hidden(out, escapes, c)?,
+        _ if c == '%' && matches!(before, Before::Annotation) => out.push_str("%25")?,
+        _ => out.push(c)?,
     }
     Ok(before.after(c))
 }
@@ -154,7 +143,6 @@ pub(crate) fn push_text<A: Allocator>(
     Ok(())
 }
 
-/// Appends a number in decimal digits.
 pub(crate) fn push_number<A: Allocator>(
     out: &mut String<A>,
     number: usize,

@@ -36,10 +36,10 @@ pub(crate) struct Fault<'t> {
 pub(crate) enum Finding<'t> {
     Literal(Literal<'t>),
     Error(Fault<'t>),
-    /// An invisible or bidirectional character. `name` is its name after a space, or empty.
+    /// An invisible or bidirectional character `c`. `name` is its name after a space, or empty.
     Hidden {
         id: &'static str,
-        character: char,
+        c: char,
         name: &'static str,
     },
     /// The change of a literal, and the rules each of which changes it.
@@ -51,7 +51,6 @@ pub(crate) enum Finding<'t> {
 }
 
 impl<'t> Finding<'t> {
-    /// Returns the identifier of the finding.
     pub(crate) fn id(&self) -> &'static str {
         match self {
             Finding::Literal(_) => "literal",

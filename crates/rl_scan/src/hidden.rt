@@ -81,19 +81,9 @@ fn report_in<A: Allocator + Copy, W: Write>(
         let lo = end;
         end = lo.saturating_add(c.len_utf8());
         if !matches!(c, ' '..='~' | '\n' | '\t') && hides(last, c, text.get(end..).unwrap_or("")) {
-            let place = Place {
-                lo: start.saturating_add(lo),
-                hi: start.saturating_add(end),
-            };
+            let (lo, hi) = (start.saturating_add(lo), start.saturating_add(end));
             let (id, name) = (character_id(c), bidi_name(c).unwrap_or(""));
-            page.report_finding(
-                place,
-                Finding::Hidden {
-                    id,
-                    character: c,
-                    name,
-                },
-            )?;
+            page.report_finding(Place { lo, hi }, Finding::Hidden { id, c, name })?;
         }
         last = c;
     }
@@ -109,10 +99,7 @@ pub(crate) fn report_hidden<A: Allocator + Copy, W: Write>(
     let mut previous = '\0';
     for _ in 0..source.len() {
         let text = source.get(at..).unwrap_or("");
-        let block = match text.as_bytes().get(..BLOCK) {
-            Some(block) => block,
-            None => text.as_bytes(),
-        };
+        let block = text.as_bytes().get(..BLOCK).unwrap_or(text.as_bytes());
         let Some(last) = block.last() else {
             break;
         };

@@ -40,11 +40,8 @@ impl Position {
     /// Returns the position at the byte offset `at` of the source. If `at` isn't before this position, only the text between them
     /// is read.
     pub(crate) fn moved(self, source: &str, at: usize) -> Position {
-        let from = if self.at <= at {
-            self
-        } else {
-            Position::first(source)
-        };
+        let first = Position::first(source);
+        let from = if self.at <= at { self } else { first };
         let passed = source.get(from.at..at).unwrap_or("");
         match passed.rsplit_once('\n') {
             Some((lines, inside)) => Position {

@@ -37,18 +37,9 @@ fn report_change<A: Allocator + Copy, W: Write>(
             *count = count.saturating_add(1);
         }
     }
-    let place = Place {
-        lo: old.lo,
-        hi: old.hi,
-    };
-    page.report_finding(
-        place,
-        Finding::Change {
-            old: old.text,
-            new,
-            rules: changing.as_slice(),
-        },
-    )
+    let (lo, hi) = (old.lo, old.hi);
+    let (old, rules) = (old.text, changing.as_slice());
+    page.report_finding(Place { lo, hi }, Finding::Change { old, new, rules })
 }
 
 /// Reports the literals that differ between a source and its new text, which has the same tokens but for the rewritten literals.

@@ -341,11 +341,8 @@ fn parse_and_run<A: Allocator + Copy, T: Tree, W: Write, E: Write, F: Replace>(
     let mut paths = paths_of(alloc, &args, tree, console.lacks_input || job.lists_files)?;
     let extensions = extensions_of(alloc, &args)?;
     let excludes = args.all(alloc, "--exclude")?;
-    let selection = selection_of(
-        args.has("--all"),
-        extensions.as_slice(),
-        excludes.as_slice(),
-    );
+    let all = args.has("--all");
+    let selection = selection_of(all, extensions.as_slice(), excludes.as_slice());
     let mut call = Call {
         alloc,
         job,

@@ -65,15 +65,8 @@ impl<'s, 'a, A: Allocator + Copy, W: Write, E: Write> Call<'s, 'a, A, W, E> {
     /// Prints the totals: after a rewritten source on standard error, and otherwise on standard output.
     pub(crate) fn print_totals(&mut self) -> Result<(), Failure<A>> {
         let mut text = String::new(self.alloc);
-        let Tally {
-            read,
-            with_findings,
-            findings,
-            errors,
-            rules,
-            prints_source,
-            ..
-        } = self.tally;
+        let (read, with_findings) = (self.tally.read, self.tally.with_findings);
+        let (findings, errors) = (self.tally.findings, self.tally.errors);
         let is_json = matches!(self.job.form, Form::Json);
         if is_json {
             write!(
@@ -88,12 +81,12 @@ impl<'s, 'a, A: Allocator + Copy, W: Write, E: Write> Call<'s, 'a, A, W, E> {
         }
         let job = self.job;
         if job.rewrites() {
-            push_rule_counts(&mut text, is_json, &rules)?;
+            push_rule_counts(&mut text, is_json, &self.tally.rules)?;
         }
         if is_json {
             text.push_str("}\n")?;
         }
-        if prints_source {
+        if self.tally.prints_source {
             write_bytes(self.err, text.as_bytes())?;
         } else {
             write_bytes(self.out, text.as_bytes())?;

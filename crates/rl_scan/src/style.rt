@@ -14,16 +14,10 @@ use rl_style::Style;
 use rl_syntax::Kind;
 use std::alloc::{AllocError, Allocator};
 
+#[rattlefmt::skip]
 const KINDS: [Option<Kind>; 9] = [
-    Some(Kind::Str),
-    Some(Kind::ByteStr),
-    Some(Kind::CStr),
-    Some(Kind::Byte),
-    Some(Kind::Char),
-    Some(Kind::Int),
-    Some(Kind::Float),
-    Some(Kind::Bool),
-    None,
+    Some(Kind::Str), Some(Kind::ByteStr), Some(Kind::CStr), Some(Kind::Byte), Some(Kind::Char), Some(Kind::Int),
+    Some(Kind::Float), Some(Kind::Bool), None,
 ];
 
 /// Returns the kinds that a list names.
@@ -69,10 +63,8 @@ pub(crate) fn is_near(word: &str, meant: &str) -> bool {
 
 /// Returns the part of an argument before the first `=`, or the whole argument.
 pub(crate) fn option_part(word: &str) -> &str {
-    match word.split_once('=') {
-        Some((option, _)) => option,
-        None => word,
-    }
+    let (option, _) = word.split_once('=').unwrap_or((word, ""));
+    option
 }
 
 // ---- the rules of a style
@@ -80,9 +72,7 @@ pub(crate) fn option_part(word: &str) -> &str {
 /// Whether a value of `--rule` is a string without quotes: it consists of ASCII letters and `_`, and isn't `true` or `false`.
 fn is_bare_string(value: &str) -> bool {
     let bytes = value.as_bytes();
-    bytes
-        .iter()
-        .all(|byte| byte.is_ascii_alphabetic() || *byte == b'_')
+    bytes.iter().all(|b| b.is_ascii_alphabetic() || *b == b'_')
         && value != "true"
         && value != "false"
 }
@@ -180,15 +170,10 @@ fn size_error(text: &str) -> Option<StyleError<'_>> {
 
 /// Whether a style has the rule `min_digits`, but no rule for digit groups.
 fn lacks_groups(style: &Style) -> bool {
-    match style.digit_groups {
-        Some(groups) => {
-            groups.binary == 0
-                && groups.octal == 0
-                && groups.decimal == 0
-                && groups.hexadecimal == 0
-        }
-        None => false,
-    }
+    let Some(groups) = style.digit_groups else {
+        return false;
+    };
+    groups.binary == 0 && groups.octal == 0 && groups.decimal == 0 && groups.hexadecimal == 0
 }
 
 /// Parses the rules of a style. Each rule must have an effect.
@@ -213,7 +198,6 @@ fn parsed_style<A: Allocator + Copy>(
     Ok(style)
 }
 
-/// Reads the style of a call.
 pub(crate) fn style_of<A: Allocator + Copy, T: Tree>(
     alloc: A,
     args: &Args<'_, A>,

@@ -33,13 +33,9 @@ fn push_names<A: Allocator>(
 
 /// Returns the digits in the line of a number, which is its kind, its digits, and its suffix.
 fn digits_in(line: &str) -> &str {
-    match line.split_once(' ') {
-        Some((_, rest)) => match rest.split_once(' ') {
-            Some((digits, _)) => digits,
-            None => rest,
-        },
-        None => "",
-    }
+    let (_, rest) = line.split_once(' ').unwrap_or(("", ""));
+    let (digits, _) = rest.split_once(' ').unwrap_or((rest, ""));
+    digits
 }
 
 impl<'p, 'a, A: Allocator + Copy, W: Write> Page<'p, 'a, A, W> {
@@ -65,12 +61,8 @@ impl<'p, 'a, A: Allocator + Copy, W: Write> Page<'p, 'a, A, W> {
                 self.output.text.push_str(": ")?;
                 self.output.print(escapes, within, fault.piece)
             }
-            Finding::Hidden {
-                character,
-                name,
-                ..
-            } => {
-                let code = *character as u32;
+            Finding::Hidden { c, name, .. } => {
+                let code = *c as u32;
                 write!(self.output.text, "U+{code:04X}{name}")?;
                 Ok(())
             }
@@ -115,9 +107,7 @@ impl<'p, 'a, A: Allocator + Copy, W: Write> Page<'p, 'a, A, W> {
     /// Prints the members of an error.
     fn print_fault(&mut self, fault: &Fault<'_>) -> Result<(), Failure<A>> {
         match fault.literal {
-            Some(text) if text.len() > LONGEST => {
-                self.output.text.push_str(",\"text\":null")?;
-            }
+            Some(text) if text.len() > LONGEST => self.output.text.push_str(",\"text\":null")?,
             Some(text) => self.output.print_json(",\"text\":", text)?,
             None => {}
         }
@@ -141,12 +131,8 @@ impl<'p, 'a, A: Allocator + Copy, W: Write> Page<'p, 'a, A, W> {
                 self.output.print_json(",\"suffix\":", literal.suffix())
             }
             Finding::Error(fault) => self.print_fault(fault),
-            Finding::Hidden {
-                id,
-                character,
-                name,
-            } => {
-                let code = *character as u32;
+            Finding::Hidden { id, c, name } => {
+                let code = *c as u32;
                 write!(
                     self.output.text,
                     ",\"id\":\"{id}\",\"hidden\":\"U+{code:04X}{name}\""

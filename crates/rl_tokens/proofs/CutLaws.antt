@@ -11,7 +11,6 @@ use Rattle.rl_tokens.specs.Trees.{FlatToken}
 use Rattle.std.proofs.lemmas.List.{map-append}
 use Rattle.rl_lexer.proofs.Pieces.{one_rest}
 
-
 -- Lexing can't continue with the text `r` while the groups `groups` are open. The text begins with no token, or with a
 -- delimiter that is an error there.
 abbrev pub IsStuck : List OpenGroup → List ℕ → Type 0

@@ -57,7 +57,8 @@ fn the_manual_page() {
     let (head, rest) = page.split_once('\n').expect("a first line");
     assert!(head.starts_with(".TH RL_SCAN 1 20"), "{head}");
     assert!(rest.starts_with(".SH NAME\nrl_scan \\- prints the literals of Rust"));
-    assert!(page.contains("\n.TP\n.B \\-\\-check\nPrint the changes that \\-\\-fix would make.\n"));
+    let check = ".IP \"\\fB\\-\\-check\\fR\"\nPrint the changes that \\-\\-fix would make.";
+    assert!(page.contains(&format!("\n{check}\n")));
     assert!(page.contains("\n.SH EXIT STATUS\n.nf\n  0  success\n"));
 }
 

@@ -1,8 +1,8 @@
 //! Reads tables of rows, and checks results against them.
 //!
 //! A heading, `# NAME`, begins the rows of one test. A row is a block of lines: the lines of the given text, after `<`, then the
-//! lines of the expected result, after `>`. Empty lines separate headings and rows. `⟨41⟩` is the character with this hexadecimal
-//! number, `⟨xFF⟩` is a byte. White space at the end of an expected line isn't compared.
+//! lines of the expected result, after `>`. Empty lines are ignored. `⟨41⟩` is the character with this hexadecimal number, `⟨xFF⟩`
+//! is a byte. White space at the end of an expected line isn't compared.
 
 use std::fs;
 use std::path::Path;
@@ -15,12 +15,13 @@ struct Row {
 
 /// Divides a table into blocks: headings, of one line each, and rows.
 fn blocks(table: &str) -> Vec<Vec<&str>> {
-    let lines: Vec<&str> = table.split('\n').collect();
-    let blocks = lines.split(|line| line.is_empty());
-    blocks
-        .filter(|block| !block.is_empty())
-        .map(<[&str]>::to_vec)
-        .collect()
+    let lines: Vec<&str> = table.split('\n').filter(|line| !line.is_empty()).collect();
+    let is_inside = |line: &&str, next: &&str| {
+        !line.starts_with("# ")
+            && !next.starts_with("# ")
+            && (line.starts_with('<') || !next.starts_with('<'))
+    };
+    lines.chunk_by(is_inside).map(<[&str]>::to_vec).collect()
 }
 
 /// Returns the name in a block that is a heading, or `None` for a row.
@@ -151,7 +152,7 @@ fn each_table_has_a_file_of_tests() {
     }
 }
 
-const SMALL: &str = "# upper\n\n< a⟨62⟩\n< c\n> AB\n> C\n\n< ⟨xC3⟩⟨xA9⟩\n> É\n";
+const SMALL: &str = "# upper\n< a⟨62⟩\n< c\n> AB\n> C\n< ⟨xC3⟩⟨xA9⟩\n> É\n";
 
 #[test]
 fn right_answers_pass() {
@@ -192,5 +193,5 @@ fn a_line_that_is_neither_given_nor_expected_fails() {
 #[test]
 #[should_panic = "no row"]
 fn a_row_that_expects_nothing_fails() {
-    check_headings(&SMALL.replace("\n> AB\n> C", ""), "(TABLE, \"upper\"");
+    check_headings(&SMALL.replace("\n> É", ""), "(TABLE, \"upper\"");
 }

@@ -185,17 +185,20 @@ fn zero_bytes() {
     });
 }
 
-/// Shows each byte as a literal, and as a token.
+/// Shows each byte as a literal, and as a token. A line has eight bytes.
 #[test]
 fn bytes() {
     check_bytes(TABLE, "bytes", |bytes| {
-        let each = bytes.iter().map(|byte| {
+        let shown = |byte: &u8| {
             let literal = value_or_error(LitByte::new(Global, *byte, HERE), |it| {
                 format!("{}{} {} ", it.value(), it.suffix(), at(it.span()))
             });
-            literal + &token_or_error(Literal::byte_character(Global, *byte))
-        });
-        each.collect()
+            literal + &token_or_error(Literal::byte_character(Global, *byte)).replace('\n', " ")
+        };
+        let lines = bytes.chunks(8);
+        lines
+            .map(|line| line.iter().map(shown).collect::<String>() + "\n")
+            .collect()
     });
 }
 

@@ -1,8 +1,9 @@
 //! Runs `rl_scan` on a small directory in memory, and compares its output with `calls.txt`.
 //!
 //! `calls.txt` has a line `== ARGUMENTS` for each call. Below this line are the files that the call rewrites (`> PATH`, the new
-//! text, `--`), standard output, `--`, standard error, and the exit status. Two marks may precede the arguments. `^` makes the
-//! output accept colours. `@20` closes the output after 20 bytes, and `!20` makes it fail after 20 bytes.
+//! text, `--`), standard output, a line `-- STATUS ERROR` with the exit status and the error that ends the call, and the other lines
+//! of standard error. Two marks may precede the arguments. `^` makes the output accept colours. `@20` closes the output after 20
+//! bytes, and `!20` makes it fail after 20 bytes.
 
 mod tree;
 
@@ -134,16 +135,8 @@ fn part_of(line: &str) -> Vec<u8> {
     let words = words_of(Global, words);
     let answer = call(Global, &words, plain.is_some(), out, Stream::endless());
     let head = format!("== {line}\n").into_bytes();
-    let end = format!("status {} {}\n", answer.status, answer.ending).into_bytes();
-    [
-        head,
-        answer.replaced,
-        answer.out,
-        b"--\n".into(),
-        answer.err,
-        end,
-    ]
-    .concat()
+    let end = format!("-- {} {}\n", answer.status, answer.ending).into_bytes();
+    [head, answer.replaced, answer.out, end, answer.err].concat()
 }
 
 #[test]

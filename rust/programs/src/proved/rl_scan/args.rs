@@ -152,10 +152,7 @@ impl<'a, A: Allocator + Copy> Args<'a, A> {
 
     /// Returns the last value of an option.
     pub(crate) fn last(&self, name: &str) -> Option<&'a str> {
-        match self.last_of(&[name]) {
-            Some(given) => Some(given.value),
-            None => None,
-        }
+        Some(self.last_of(&[name])?.value)
     }
 
     pub(crate) fn has_any(&self, names: &[&str]) -> bool {

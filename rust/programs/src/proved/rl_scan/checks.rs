@@ -98,7 +98,6 @@ fn check_rule<A: Allocator + Copy>(alloc: A, rule: &str) -> Result<(), Failure<A
     Ok(())
 }
 
-/// Checks the value of an option.
 pub(crate) fn check_value<A: Allocator + Copy>(
     alloc: A,
     row: &OptionRow,

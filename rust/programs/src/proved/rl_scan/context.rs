@@ -89,15 +89,12 @@ fn push_marked<A: Allocator>(
     for c in part.chars() {
         let start = out.len();
         last = push_char(out, Escapes::Line, last, c)?;
-        let is_unchanged = out.len().saturating_sub(start) == c.len_utf8();
+        let len = out.len().saturating_sub(start);
+        let is_unchanged = len == c.len_utf8();
         if c == '\t' {
             marks.push(if mark == ' ' { '\t' } else { mark })?;
         } else {
-            let width = if is_unchanged {
-                width_of(c)
-            } else {
-                out.len().saturating_sub(start)
-            };
+            let width = if is_unchanged { width_of(c) } else { len };
             for _ in 0..width {
                 marks.push(mark)?;
             }
@@ -118,9 +115,8 @@ fn push_marked_line<A: Allocator>(
         return out.push_str("    (a line of more than 1024 bytes)\n");
     }
     let (front, found) = line.split_at_checked(lo).unwrap_or((line, ""));
-    let (marked, rest) = found
-        .split_at_checked(hi.saturating_sub(lo))
-        .unwrap_or((found, ""));
+    let len = hi.saturating_sub(lo);
+    let (marked, rest) = found.split_at_checked(len).unwrap_or((found, ""));
     marks.clear();
     out.push_str("    ")?;
     let last = push_marked(out, marks, ' ', Before::Space, front)?;
@@ -157,12 +153,8 @@ impl<'p> Context<'p> {
         if self.owed == 0 {
             return Ok(());
         }
-        for line in self
-            .source
-            .get(self.end..end)
-            .unwrap_or("")
-            .split_inclusive('\n')
-        {
+        let owed = self.source.get(self.end..end).unwrap_or("");
+        for line in owed.split_inclusive('\n') {
             if self.owed == 0 {
                 break;
             }
@@ -195,23 +187,15 @@ impl<'p> Context<'p> {
             let lines = self.source.get(self.end..line_at).unwrap_or("");
             print_last_lines(output, lines, self.around.before)?;
             let found = self.source.get(place.lo..).unwrap_or("");
-            let after = match found.split_once('\n') {
-                Some((_, after)) => after.len(),
-                None => 0,
-            };
-            self.end = self.source.len().saturating_sub(after);
+            let (_, after) = found.split_once('\n').unwrap_or(("", ""));
+            self.end = self.source.len().saturating_sub(after.len());
             self.line_at = line_at;
         }
         self.owed = self.around.after;
         let line = without_line_end(self.source.get(line_at..self.end).unwrap_or(""));
         let lo = place.lo.saturating_sub(line_at);
-        push_marked_line(
-            &mut output.text,
-            marks,
-            line,
-            lo,
-            place.hi.saturating_sub(line_at),
-        )?;
+        let hi = place.hi.saturating_sub(line_at);
+        push_marked_line(&mut output.text, marks, line, lo, hi)?;
         Ok(())
     }
 }

@@ -29,10 +29,8 @@ fn report_literal<A: Allocator + Copy, W: Write>(
             None => return Ok(()),
         }
     } else {
-        Place {
-            lo: token.lo,
-            hi: token.hi,
-        }
+        let (lo, hi) = (token.lo, token.hi);
+        Place { lo, hi }
     };
     page.report_finding(place, Finding::Literal(literal))
 }

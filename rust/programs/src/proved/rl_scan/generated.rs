@@ -2,7 +2,7 @@
 //! The texts that `rl_scan --generate` prints. `tools/manual` writes this file.
 
 /// The manual page of `rl_scan`.
-const MAN: &str = r".TH RL_SCAN 1 2026-12-01
+const MAN: &str = r#".TH RL_SCAN 1 2026-12-01
 .SH NAME
 rl_scan \- prints the literals of Rust source files, or the errors in them
 .SH SYNOPSIS
@@ -14,138 +14,95 @@ A PATH is a file or a directory. In a directory, rl_scan reads the *.rs files, s
 .SH OPTIONS
 .SS Modes
 One at most, except \-\-only with \-\-find, \-\-fix, \-\-check or \-\-diff.
-.TP
-.B \-\-bad
+.IP "\fB\-\-bad\fR"
 Print the literals that Rust rejects, and unclosed quotes and comments.
-.TP
-.B \-\-invisible
+.IP "\fB\-\-invisible\fR"
 Print invisible and bidirectional characters, anywhere in a file.
-.TP
-.B \-\-only KIND,..
+.IP "\fB\-\-only KIND,..\fR"
 Print the literals of these kinds: Str ByteStr CStr Byte Char Int Float Bool Verbatim, in any case.
-.TP
-.B \-e, \-\-find TEXT
+.IP "\fB\-e, \-\-find TEXT\fR"
 Print the string, character and byte literals whose value contains TEXT; may be repeated.
-.TP
-.B \-\-number N
+.IP "\fB\-\-number N\fR"
 Print the integers that represent the number N, written in any base; may be repeated, also with \-\-find.
-.TP
-.B \-\-fix
+.IP "\fB\-\-fix\fR"
 Rewrite files in a style, and print how many literals of each file changed; for standard input, print the rewritten source.
-.TP
-.B \-\-check
+.IP "\fB\-\-check\fR"
 Print the changes that \-\-fix would make.
-.TP
-.B \-\-diff
+.IP "\fB\-\-diff\fR"
 Print these changes as a unified diff.
 .SS Options of these modes
 \-\-check and \-\-diff take those of \-\-fix.
-.TP
-.B \-\-any\-suffix
+.IP "\fB\-\-any\-suffix\fR"
 For \-\-bad: accept any suffix, and numbers out of range, as macros do.
-.TP
-.B \-\-no\-stray
+.IP "\fB\-\-no\-stray\fR"
 For \-\-bad, \-\-only, \-\-find and without a mode: a stray character, at which no token begins, is an error.
-.TP
-.B \-\-edition YEAR
+.IP "\fB\-\-edition YEAR\fR"
 For \-\-bad and \-\-fix: the edition whose reserved prefixes are errors: 2015, 2018, 2021 (default) or 2024.
-.TP
-.B \-\-allow ID
+.IP "\fB\-\-allow ID\fR"
 For \-\-bad and \-\-invisible: print no findings with the id ID, which \-\-json prints; for \-\-invisible, ID may also be a character, such as U+200B; may be repeated.
-.TP
-.B \-i, \-\-ignore\-case
+.IP "\fB\-i, \-\-ignore\-case\fR"
 For \-\-find: ignore the case of ASCII letters.
-.TP
-.B \-w, \-\-word
+.IP "\fB\-w, \-\-word\fR"
 For \-\-find: match only whole words.
-.TP
-.B \-\-style FILE
+.IP "\fB\-\-style FILE\fR"
 For \-\-fix: rewrite by the rules in FILE; without it, drop needless escapes of quotes and needless hashes, and write 1e5 for 1E5.
-.TP
-.B \-\-rule RULE
+.IP "\fB\-\-rule RULE\fR"
 For \-\-fix: rewrite by this rule of \-\-rules; RULE is NAME=VALUE, or NAME for NAME=true; may be repeated.
-.TP
-.B \-\-macros WHICH
+.IP "\fB\-\-macros WHICH\fR"
 skip or all: with skip, the default, \-\-fix leaves literals in macro calls, macro_rules! and attributes unchanged, and \-\-bad doesn't check their suffixes and ranges.
 .SS Files
-.TP
-.B \-\-all
+.IP "\fB\-\-all\fR"
 Also read hidden files and directories, and `target`.
-.TP
-.B \-\-extension EXT
+.IP "\fB\-\-extension EXT\fR"
 In directories, read *.EXT instead of *.rs; may be repeated.
-.TP
-.B \-\-exclude GLOB
+.IP "\fB\-\-exclude GLOB\fR"
 In directories, skip what GLOB matches, as in .gitignore, with *, ?, ** and / only; may be repeated.
-.TP
-.B \-\-files\-from FILE
+.IP "\fB\-\-files\-from FILE\fR"
 Also read the paths in FILE, which end with line ends, or with NUL; `\-` is standard input; may be repeated.
-.TP
-.B \-\-files
+.IP "\fB\-\-files\fR"
 Print the paths of the files that would be read, and read none.
 .SS Output
-.TP
-.B \-\-lines
+.IP "\fB\-\-lines\fR"
 Print positions as LINE:COLUMN, the default for files.
-.TP
-.B \-\-bytes
+.IP "\fB\-\-bytes\fR"
 Print byte ranges LO..HI, the default for standard input.
-.TP
-.B \-\-columns UNIT
+.IP "\fB\-\-columns UNIT\fR"
 characters or bytes: count columns in characters, which is the default, or in bytes, as vim's %c does.
-.TP
-.B \-\-text
+.IP "\fB\-\-text\fR"
 Print literals as written.
-.TP
-.B \-\-json
+.IP "\fB\-\-json\fR"
 Print one JSON object per finding.
-.TP
-.B \-\-format FORM
+.IP "\fB\-\-format FORM\fR"
 text; json, as \-\-json; or github, for annotations.
-.TP
-.B \-C, \-\-context NUM
+.IP "\fB\-C, \-\-context NUM\fR"
 Show the source line, and NUM lines before and after it.
-.TP
-.B \-B, \-\-before\-context NUM
+.IP "\fB\-B, \-\-before\-context NUM\fR"
 Show the source line, and NUM lines before it.
-.TP
-.B \-A, \-\-after\-context NUM
+.IP "\fB\-A, \-\-after\-context NUM\fR"
 Show the source line, and NUM lines after it.
-.TP
-.B \-\-color WHEN
+.IP "\fB\-\-color WHEN\fR"
 auto, always or never; auto means on a terminal, unless NO_COLOR is set and not empty, or TERM is dumb.
-.TP
-.B \-c, \-\-count
+.IP "\fB\-c, \-\-count\fR"
 Print the number of findings of each file that has some.
-.TP
-.B \-l, \-\-files\-with\-matches
+.IP "\fB\-l, \-\-files\-with\-matches\fR"
 Print the path of each file that has findings.
-.TP
-.B \-Z, \-\-null
+.IP "\fB\-Z, \-\-null\fR"
 End the paths of \-c, \-l and \-\-files with NUL.
-.TP
-.B \-q, \-\-quiet
+.IP "\fB\-q, \-\-quiet\fR"
 Print no findings; errors, totals and the output of \-\-fix for standard input are still printed.
-.TP
-.B \-\-no\-messages
+.IP "\fB\-\-no\-messages\fR"
 Print no errors and no warnings of files; the exit status stays the same.
-.TP
-.B \-\-stats
+.IP "\fB\-\-stats\fR"
 Print totals at the end: files read, files with findings, findings, and files with an error; for \-\-fix, also how many literals each rule changes.
-.TP
-.B \-\-
+.IP "\fB\-\-\fR"
 Every argument that follows is a PATH.
-.TP
-.B \-\-rules
+.IP "\fB\-\-rules\fR"
 Print the rules of a style, with values and examples.
-.TP
-.B \-\-generate WHAT
+.IP "\fB\-\-generate WHAT\fR"
 man, bash, zsh, fish, sarif\-jq or problem\-matcher: print the manual page, the completions for this shell, a jq program that makes SARIF of \-\-json, or a file with problem matchers for GitHub.
-.TP
-.B \-h, \-\-help
+.IP "\fB\-h, \-\-help\fR"
 Print this help.
-.TP
-.B \-V, \-\-version
+.IP "\fB\-V, \-\-version\fR"
 Print the version.
 .SH OUTPUT
 .nf
@@ -172,7 +129,7 @@ Print the version.
   rl_scan \-\-check src
   git ls\-files \-z '*.rs' | rl_scan \-\-invisible \-\-files\-from \-
 .fi
-";
+"#;
 
 /// The completions for bash.
 const BASH: &str = r#"_rl_scan() {
@@ -184,36 +141,23 @@ const BASH: &str = r#"_rl_scan() {
         before=${COMP_WORDS[COMP_CWORD - 2]}
     fi
     for ((at = 1; at < COMP_CWORD; at++)); do
-        if [[ ${COMP_WORDS[at]} == -- ]]; then
-            mapfile -t COMPREPLY < <(compgen -f -- "$word")
-            return
-        fi
+        [[ ${COMP_WORDS[at]} == -- ]] && before=--
     done
     case $before in
     --only) at=; [[ $word == *,* ]] && at=${word%,*},; mapfile -t COMPREPLY < <(compgen -W "Str ByteStr CStr Byte Char Int Float Bool Verbatim" -P "$at" -- "${word##*,}"); return ;;
-    -e|--find) mapfile -t COMPREPLY < <(compgen -W "" -- "$word"); return ;;
-    --number) mapfile -t COMPREPLY < <(compgen -W "" -- "$word"); return ;;
+    -e|--find|--number|--extension|--exclude|-C|--context|-B|--before-context|-A|--after-context) mapfile -t COMPREPLY < <(compgen -W "" -- "$word"); return ;;
     --edition) mapfile -t COMPREPLY < <(compgen -W "2015 2018 2021 2024" -- "$word"); return ;;
     --allow) mapfile -t COMPREPLY < <(compgen -W "empty no-literal unfinished no-quote no-number unknown-escape unicode-escape-in-bytes no-hexadecimal-digit no-brace empty-braces too-many-digits past-ascii past-unicode surrogate nul not-ascii must-escape no-character two-characters no-exponent-digit bad-suffix integer-too-large minus too-many-hashes carriage-return early-quote extra-hash underscore-suffix no-digits digit-of-base based-float no-fraction-digit reserved-prefix quoted-suffix unknown-suffix float-suffix out-of-range stray-character bidirectional-character joiner variation-selector control-character invisible-character" -- "$word"); return ;;
-    --style) mapfile -t COMPREPLY < <(compgen -f -- "$word"); return ;;
     --rule) mapfile -t COMPREPLY < <(compgen -W "hex_digits drop_underscores drop_leading_zeros suffix_separator binary_groups octal_groups decimal_groups hexadecimal_groups min_digits float_zero exponent_letter drop_exponent_plus escape_digits fewest_escape_digits drop_ascii_escapes named_escapes drop_quote_escapes fewest_hashes drop_raw escape_invisible" -- "$word"); return ;;
     --macros) mapfile -t COMPREPLY < <(compgen -W "skip all" -- "$word"); return ;;
-    --extension) mapfile -t COMPREPLY < <(compgen -W "" -- "$word"); return ;;
-    --exclude) mapfile -t COMPREPLY < <(compgen -W "" -- "$word"); return ;;
-    --files-from) mapfile -t COMPREPLY < <(compgen -f -- "$word"); return ;;
     --columns) mapfile -t COMPREPLY < <(compgen -W "characters bytes" -- "$word"); return ;;
     --format) mapfile -t COMPREPLY < <(compgen -W "text json github" -- "$word"); return ;;
-    -C|--context) mapfile -t COMPREPLY < <(compgen -W "" -- "$word"); return ;;
-    -B|--before-context) mapfile -t COMPREPLY < <(compgen -W "" -- "$word"); return ;;
-    -A|--after-context) mapfile -t COMPREPLY < <(compgen -W "" -- "$word"); return ;;
     --color) mapfile -t COMPREPLY < <(compgen -W "auto always never" -- "$word"); return ;;
     --generate) mapfile -t COMPREPLY < <(compgen -W "man bash zsh fish sarif-jq problem-matcher" -- "$word"); return ;;
+    --|--style|--files-from) ;;
+    *) [[ $word == -* ]] && mapfile -t COMPREPLY < <(compgen -W "--bad --invisible --only -e --find --number --fix --check --diff --any-suffix --no-stray --edition --allow -i --ignore-case -w --word --style --rule --macros --all --extension --exclude --files-from --files --lines --bytes --columns --text --json --format -C --context -B --before-context -A --after-context --color -c --count -l --files-with-matches -Z --null -q --quiet --no-messages --stats -- --rules --generate -h --help -V --version" -- "$word") && return ;;
     esac
-    if [[ $word == -* ]]; then
-        mapfile -t COMPREPLY < <(compgen -W "--bad --invisible --only -e --find --number --fix --check --diff --any-suffix --no-stray --edition --allow -i --ignore-case -w --word --style --rule --macros --all --extension --exclude --files-from --files --lines --bytes --columns --text --json --format -C --context -B --before-context -A --after-context --color -c --count -l --files-with-matches -Z --null -q --quiet --no-messages --stats -- --rules --generate -h --help -V --version" -- "$word")
-    else
-        mapfile -t COMPREPLY < <(compgen -f -- "$word")
-    fi
+    mapfile -t COMPREPLY < <(compgen -f -- "$word")
 }
 complete -o filenames -F _rl_scan rl_scan
 "#;
@@ -224,8 +168,7 @@ _arguments -s -S \
     '--bad[print the literals that Rust rejects, and unclosed quotes and comments]' \
     '--invisible[print invisible and bidirectional characters, anywhere in a file]' \
     '--only=[print the literals of these kinds: Str ByteStr CStr Byte Char Int Float Bool Verbatim, in any case]:KIND,..:_values -s , KIND Str ByteStr CStr Byte Char Int Float Bool Verbatim' \
-    '*-e+[print the string, character and byte literals whose value contains TEXT; may be repeated]:TEXT: ' \
-    '*--find=[print the string, character and byte literals whose value contains TEXT; may be repeated]:TEXT: ' \
+    '*'{-e+,--find=}'[print the string, character and byte literals whose value contains TEXT; may be repeated]:TEXT: ' \
     '*--number=[print the integers that represent the number N, written in any base; may be repeated, also with --find]:N: ' \
     '--fix[rewrite files in a style, and print how many literals of each file changed; for standard input, print the rewritten source]' \
     '--check[print the changes that --fix would make]' \
@@ -234,10 +177,8 @@ _arguments -s -S \
     '--no-stray[for --bad, --only, --find and without a mode: a stray character, at which no token begins, is an error]' \
     '--edition=[for --bad and --fix: the edition whose reserved prefixes are errors: 2015, 2018, 2021 (default) or 2024]:YEAR:(2015 2018 2021 2024)' \
     '*--allow=[for --bad and --invisible: print no findings with the id ID, which --json prints; for --invisible, ID may also be a character, such as U+200B; may be repeated]:ID:(empty no-literal unfinished no-quote no-number unknown-escape unicode-escape-in-bytes no-hexadecimal-digit no-brace empty-braces too-many-digits past-ascii past-unicode surrogate nul not-ascii must-escape no-character two-characters no-exponent-digit bad-suffix integer-too-large minus too-many-hashes carriage-return early-quote extra-hash underscore-suffix no-digits digit-of-base based-float no-fraction-digit reserved-prefix quoted-suffix unknown-suffix float-suffix out-of-range stray-character bidirectional-character joiner variation-selector control-character invisible-character)' \
-    '-i[for --find: ignore the case of ASCII letters]' \
-    '--ignore-case[for --find: ignore the case of ASCII letters]' \
-    '-w[for --find: match only whole words]' \
-    '--word[for --find: match only whole words]' \
+    {-i,--ignore-case}'[for --find: ignore the case of ASCII letters]' \
+    {-w,--word}'[for --find: match only whole words]' \
     '--style=[for --fix: rewrite by the rules in FILE; without it, drop needless escapes of quotes and needless hashes, and write 1e5 for 1E5]:FILE:_files' \
     '*--rule=[for --fix: rewrite by this rule of --rules; RULE is NAME=VALUE, or NAME for NAME=true; may be repeated]:RULE:(hex_digits drop_underscores drop_leading_zeros suffix_separator binary_groups octal_groups decimal_groups hexadecimal_groups min_digits float_zero exponent_letter drop_exponent_plus escape_digits fewest_escape_digits drop_ascii_escapes named_escapes drop_quote_escapes fewest_hashes drop_raw escape_invisible)' \
     '--macros=[skip or all: with skip, the default, --fix leaves literals in macro calls, macro_rules! and attributes unchanged, and --bad doesn'\''t check their suffixes and ranges]:WHICH:(skip all)' \
@@ -252,29 +193,20 @@ _arguments -s -S \
     '--text[print literals as written]' \
     '--json[print one JSON object per finding]' \
     '--format=[text; json, as --json; or github, for annotations]:FORM:(text json github)' \
-    '-C+[show the source line, and NUM lines before and after it]:NUM: ' \
-    '--context=[show the source line, and NUM lines before and after it]:NUM: ' \
-    '-B+[show the source line, and NUM lines before it]:NUM: ' \
-    '--before-context=[show the source line, and NUM lines before it]:NUM: ' \
-    '-A+[show the source line, and NUM lines after it]:NUM: ' \
-    '--after-context=[show the source line, and NUM lines after it]:NUM: ' \
+    {-C+,--context=}'[show the source line, and NUM lines before and after it]:NUM: ' \
+    {-B+,--before-context=}'[show the source line, and NUM lines before it]:NUM: ' \
+    {-A+,--after-context=}'[show the source line, and NUM lines after it]:NUM: ' \
     '--color=[auto, always or never; auto means on a terminal, unless NO_COLOR is set and not empty, or TERM is dumb]:WHEN:(auto always never)' \
-    '-c[print the number of findings of each file that has some]' \
-    '--count[print the number of findings of each file that has some]' \
-    '-l[print the path of each file that has findings]' \
-    '--files-with-matches[print the path of each file that has findings]' \
-    '-Z[end the paths of -c, -l and --files with NUL]' \
-    '--null[end the paths of -c, -l and --files with NUL]' \
-    '-q[print no findings; errors, totals and the output of --fix for standard input are still printed]' \
-    '--quiet[print no findings; errors, totals and the output of --fix for standard input are still printed]' \
+    {-c,--count}'[print the number of findings of each file that has some]' \
+    {-l,--files-with-matches}'[print the path of each file that has findings]' \
+    {-Z,--null}'[end the paths of -c, -l and --files with NUL]' \
+    {-q,--quiet}'[print no findings; errors, totals and the output of --fix for standard input are still printed]' \
     '--no-messages[print no errors and no warnings of files; the exit status stays the same]' \
     '--stats[print totals at the end: files read, files with findings, findings, and files with an error; for --fix, also how many literals each rule changes]' \
     '--rules[print the rules of a style, with values and examples]' \
     '--generate=[man, bash, zsh, fish, sarif-jq or problem-matcher: print the manual page, the completions for this shell, a jq program that makes SARIF of --json, or a file with problem matchers for GitHub]:WHAT:(man bash zsh fish sarif-jq problem-matcher)' \
-    '-h[print this help]' \
-    '--help[print this help]' \
-    '-V[print the version]' \
-    '--version[print the version]' \
+    {-h,--help}'[print this help]' \
+    {-V,--version}'[print the version]' \
     '*:PATH:_files'
 ";
 
@@ -327,15 +259,11 @@ complete -c rl_scan -s V -l version -d 'print the version'
 /// The program for `jq` that makes SARIF of JSON objects.
 const SARIF_JQ: &str =
     r#"# Makes one document of SARIF 2.1.0 from the objects that `rl_scan --json` prints with `--bad`, `--invisible` or `--check`:
-#
 #     rl_scan --generate sarif-jq > sarif.jq
 #     rl_scan --json --bad src | jq -s -f sarif.jq
-#
 # Columns are counted in characters. The object of `--stats` is left out. For standard input the path is `-`.
-#
 # Two arguments add what the objects don't contain. `--arg version "$(rl_scan -V)"` is the program's version. `--arg status N` is its exit
 # status; without it the document has no invocation:
-#
 #     rl_scan --json --bad src > found; jq -s --arg status $? --arg version "$(rl_scan -V)" -f sarif.jq found
 def uri:
   sub("^(\\./+)+"; "") | split("/") | map(@uri) | join("/") | if startswith("/") then "file://" + . else . end;
@@ -348,50 +276,27 @@ def message:
   elif has("error") then .error
   else error("an object of none of --bad, --invisible and --check") end;
 def result:
-  {
-    ruleId: rule,
-    level: "error",
-    message: {text: message},
-    locations: [{
-      physicalLocation: {
-        artifactLocation: {uri: ((.path // "-") | uri)},
-        region: {startLine: .line, startColumn: .column, endLine: .end_line, endColumn: .end_column}
-      }
-    }]
-  };
+  {ruleId: rule, level: "error", message: {text: message}, locations: [{physicalLocation: {
+    artifactLocation: {uri: ((.path // "-") | uri)},
+    region: {startLine: .line, startColumn: .column, endLine: .end_line, endColumn: .end_column}}}]};
 def rules: group_by(rule) | map({id: (.[0] | rule), shortDescription: {text: (.[0] | description)}});
 def driver: {name: "rl_scan"} + ($ARGS.named.version | if . then {version: split(" ")[-1]} else {} end);
 def invocations:
   $ARGS.named.status | if . then {invocations: [tonumber | {executionSuccessful: (. < 2), exitCode: .}]} else {} end;
 map(select(has("files_with_findings") | not))
-| {
-  version: "2.1.0",
-  "$schema": "https://json.schemastore.org/sarif-2.1.0.json",
-  runs: [{
-    tool: {driver: (driver + {rules: rules})},
-    columnKind: "unicodeCodePoints",
-    results: map(result)
-  } + invocations]
-}
+| {version: "2.1.0", "$schema": "https://json.schemastore.org/sarif-2.1.0.json", runs: [
+    {tool: {driver: (driver + {rules: rules})}, columnKind: "unicodeCodePoints", results: map(result)} + invocations]}
 "#;
 
 /// The problem matchers for GitHub.
 const PROBLEM_MATCHER: &str = r#"{
   "problemMatcher": [
-    {
-      "owner": "rl_scan-bad",
-      "pattern": [{ "regexp": "^(.+?):(\\d+):(\\d+): (error): (.+)$", "file": 1, "line": 2, "column": 3, "severity": 4, "message": 5 }]
-    },
-    {
-      "owner": "rl_scan-invisible",
-      "severity": "error",
-      "pattern": [{ "regexp": "^(.+?):(\\d+):(\\d+): (U\\+[0-9A-F]{4,6}(?: .+)?)$", "file": 1, "line": 2, "column": 3, "message": 4 }]
-    },
-    {
-      "owner": "rl_scan-check",
-      "severity": "error",
-      "pattern": [{ "regexp": "^(.+?):(\\d+):(\\d+): (?!error: )(.+ -> .+ \\[[a-z_, ]*\\])$", "file": 1, "line": 2, "column": 3, "message": 4 }]
-    }
+    { "owner": "rl_scan-bad",
+      "pattern": [{ "regexp": "^(.+?):(\\d+):(\\d+): (error): (.+)$", "file": 1, "line": 2, "column": 3, "severity": 4, "message": 5 }] },
+    { "owner": "rl_scan-invisible", "severity": "error",
+      "pattern": [{ "regexp": "^(.+?):(\\d+):(\\d+): (U\\+[0-9A-F]{4,6}(?: .+)?)$", "file": 1, "line": 2, "column": 3, "message": 4 }] },
+    { "owner": "rl_scan-check", "severity": "error",
+      "pattern": [{ "regexp": "^(.+?):(\\d+):(\\d+): (?!error: )(.+ -> .+ \\[[a-z_, ]*\\])$", "file": 1, "line": 2, "column": 3, "message": 4 }] }
   ]
 }
 "#;

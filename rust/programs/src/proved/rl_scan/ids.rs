@@ -56,7 +56,6 @@ fn unknown_id<A: Allocator + Copy>(
     }
 }
 
-/// Checks an identifier of errors.
 fn check_bad_id<A: Allocator + Copy>(alloc: A, id: &str) -> Result<(), Failure<A>> {
     if BAD_IDS.contains(&id) {
         return Ok(());

@@ -118,10 +118,8 @@ fn around_of<A: Allocator + Copy>(args: &Args<'_, A>) -> Option<Around> {
     if before.is_none() && after.is_none() {
         return None;
     }
-    Some(Around {
-        before: before.unwrap_or(0),
-        after: after.unwrap_or(0),
-    })
+    let (before, after) = (before.unwrap_or(0), after.unwrap_or(0));
+    Some(Around { before, after })
 }
 
 impl<'a> Job<'a> {
@@ -133,20 +131,18 @@ impl<'a> Job<'a> {
         has_colors: bool,
     ) -> Job<'a> {
         let mode = args.mode();
-        let follows_all = args.last("--macros") == Some("all");
+        let all = args.last("--macros") == Some("all");
+        let macros = if all { Macros::All } else { Macros::Skip };
         let any_suffix = args.has("--any-suffix");
-        let (quiet, counts, names) = (
-            args.has("--quiet"),
-            args.has("--count"),
-            args.has("--files-with-matches"),
-        );
+        let (quiet, counts) = (args.has("--quiet"), args.has("--count"));
+        let names = args.has("--files-with-matches");
         Job {
             mode,
             lists,
             has_kinds: args.has("--only"),
             any_suffix,
             strays: args.has("--no-stray"),
-            follows: mode == Mode::Bad && !follows_all,
+            follows: mode == Mode::Bad && !all,
             edition: edition_of(args.last("--edition")),
             ignores_case: args.has("--ignore-case"),
             whole_words: args.has("--word"),
@@ -175,11 +171,7 @@ impl<'a> Job<'a> {
             stats: args.has("--stats"),
             may_be_text: mode == Mode::List && args.last("--files-from").is_none(),
             style,
-            macros: if follows_all {
-                Macros::All
-            } else {
-                Macros::Skip
-            },
+            macros,
         }
     }
 
@@ -235,14 +227,12 @@ impl<'a> Job<'a> {
         if allowed.is_empty() {
             return false;
         }
+        if is_among(allowed, finding.id()) {
+            return true;
+        }
         match finding {
-            Finding::Hidden { character, .. } => {
-                is_among(allowed, finding.id())
-                    || allowed
-                        .iter()
-                        .any(|id| character_of(id) == Some(*character))
-            }
-            _ => is_among(allowed, finding.id()),
+            Finding::Hidden { c, .. } => allowed.iter().any(|id| character_of(id) == Some(*c)),
+            _ => false,
         }
     }
 

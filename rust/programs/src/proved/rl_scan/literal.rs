@@ -46,7 +46,6 @@ fn value_of<A: Allocator + Copy>(
 }
 
 impl<'t> Literal<'t> {
-    /// Parses a literal token.
     pub(crate) fn parse(text: &'t str) -> Literal<'t> {
         Literal {
             text,

@@ -18,19 +18,11 @@ pub(crate) enum Mode {
 }
 
 /// The options that select a mode. Of several passed options, the first row counts.
+#[rustfmt::skip]
 pub(crate) const SELECTING: [(&str, Mode); 12] = [
-    ("--help", Mode::Page),
-    ("--version", Mode::Page),
-    ("--rules", Mode::Page),
-    ("--generate", Mode::Page),
-    ("--fix", Mode::Fix),
-    ("--check", Mode::Check),
-    ("--diff", Mode::Diff),
-    ("--bad", Mode::Bad),
-    ("--invisible", Mode::Invisible),
-    ("--find", Mode::Find),
-    ("--number", Mode::Find),
-    ("--only", Mode::Only),
+    ("--help", Mode::Page), ("--version", Mode::Page), ("--rules", Mode::Page), ("--generate", Mode::Page),
+    ("--fix", Mode::Fix), ("--check", Mode::Check), ("--diff", Mode::Diff), ("--bad", Mode::Bad),
+    ("--invisible", Mode::Invisible), ("--find", Mode::Find), ("--number", Mode::Find), ("--only", Mode::Only),
 ];
 
 /// A set of modes, and the message's end that names them to a user who passed an option without an effect.
@@ -41,86 +33,57 @@ pub(crate) struct Modes {
 }
 
 /// The modes in which an option for all modes has an effect.
+#[rustfmt::skip]
 pub(crate) const ALL: Modes = Modes {
-    members: &[
-        Mode::List,
-        Mode::Only,
-        Mode::Find,
-        Mode::Bad,
-        Mode::Invisible,
-        Mode::Fix,
-        Mode::Check,
-        Mode::Diff,
-    ],
+    members: &[Mode::List, Mode::Only, Mode::Find, Mode::Bad, Mode::Invisible, Mode::Fix, Mode::Check, Mode::Diff],
     hint: "",
 };
 
-pub(crate) const FIND: Modes = Modes {
-    members: &[Mode::Find],
-    hint: "use --find",
-};
+#[rustfmt::skip]
+pub(crate) const FIND: Modes = Modes { members: &[Mode::Find], hint: "use --find" };
 
-pub(crate) const NUMBER: Modes = Modes {
-    members: &[Mode::Find],
-    hint: "use only one of them",
-};
+#[rustfmt::skip]
+pub(crate) const NUMBER: Modes = Modes { members: &[Mode::Find], hint: "use only one of them" };
 
-pub(crate) const BAD: Modes = Modes {
-    members: &[Mode::Bad],
-    hint: "use --bad",
-};
+#[rustfmt::skip]
+pub(crate) const BAD: Modes = Modes { members: &[Mode::Bad], hint: "use --bad" };
 
 /// The modes that print literals.
-pub(crate) const LITERALS: Modes = Modes {
-    members: &[Mode::List, Mode::Only, Mode::Find],
-    hint: "use --only, --find or no mode",
-};
+#[rustfmt::skip]
+pub(crate) const LITERALS: Modes = Modes { members: &[Mode::List, Mode::Only, Mode::Find], hint: "use --only, --find or no mode" };
 
 /// The modes that lex a source, and accept stray characters.
+#[rustfmt::skip]
 pub(crate) const TOKENS: Modes = Modes {
     members: &[Mode::List, Mode::Only, Mode::Find, Mode::Bad],
     hint: "use --bad, --only, --find or no mode",
 };
 
 /// The modes that `--fix`, `--check` and `--diff` exclude.
+#[rustfmt::skip]
 pub(crate) const READING: Modes = Modes {
-    members: &[
-        Mode::List,
-        Mode::Only,
-        Mode::Find,
-        Mode::Bad,
-        Mode::Invisible,
-    ],
+    members: &[Mode::List, Mode::Only, Mode::Find, Mode::Bad, Mode::Invisible],
     hint: "use only one of them",
 };
 
 /// The modes that print a line for each finding.
+#[rustfmt::skip]
 pub(crate) const LISTING: Modes = Modes {
-    members: &[
-        Mode::List,
-        Mode::Only,
-        Mode::Find,
-        Mode::Bad,
-        Mode::Invisible,
-        Mode::Check,
-    ],
+    members: &[Mode::List, Mode::Only, Mode::Find, Mode::Bad, Mode::Invisible, Mode::Check],
     hint: "use a mode other than --fix and --diff",
 };
 
-pub(crate) const REWRITING: Modes = Modes {
-    members: &[Mode::Fix, Mode::Check, Mode::Diff],
-    hint: "use --fix, --check or --diff",
-};
+#[rustfmt::skip]
+pub(crate) const REWRITING: Modes = Modes { members: &[Mode::Fix, Mode::Check, Mode::Diff], hint: "use --fix, --check or --diff" };
 
+#[rustfmt::skip]
 pub(crate) const BAD_OR_REWRITING: Modes = Modes {
     members: &[Mode::Bad, Mode::Fix, Mode::Check, Mode::Diff],
     hint: "use --bad, --fix, --check or --diff",
 };
 
-pub(crate) const BAD_OR_INVISIBLE: Modes = Modes {
-    members: &[Mode::Bad, Mode::Invisible],
-    hint: "use --bad or --invisible",
-};
+#[rustfmt::skip]
+pub(crate) const BAD_OR_INVISIBLE: Modes = Modes { members: &[Mode::Bad, Mode::Invisible], hint: "use --bad or --invisible" };
 
 impl Mode {
     /// Returns the words for the mode in a message.

@@ -168,12 +168,8 @@ impl<'p, 'a, A: Allocator + Copy, W: Write> Page<'p, 'a, A, W> {
         self.print_words(finding)?;
         self.output.text.push('\n')?;
         if let Some(context) = &mut self.context {
-            context.print_finding(
-                &mut self.output,
-                &mut self.line,
-                self.position.line_at,
-                place,
-            )?;
+            let at = self.position.line_at;
+            context.print_finding(&mut self.output, &mut self.line, at, place)?;
         }
         Ok(())
     }
@@ -209,9 +205,8 @@ impl<'p, 'a, A: Allocator + Copy, W: Write> Page<'p, 'a, A, W> {
         let end = start.moved(self.source, place.hi);
         self.position = start;
         let is_notice = matches!(finding, Finding::Literal(_));
-        self.output
-            .text
-            .push_str(if is_notice { "::notice " } else { "::error " })?;
+        let lead = if is_notice { "::notice " } else { "::error " };
+        self.output.text.push_str(lead)?;
         self.output.text.push_str(self.head.as_str())?;
         for (name, number) in [
             ("line=", start.line),

@@ -15,7 +15,6 @@ fn is_word_byte(byte: Option<&u8>) -> bool {
     }
 }
 
-/// Whether a value continues with a text.
 fn begins_with(rest: &[u8], sought: &[u8], ignores_case: bool) -> bool {
     match rest.get(..sought.len()) {
         Some(front) if ignores_case => front.eq_ignore_ascii_case(sought),
@@ -56,10 +55,8 @@ fn match_in(value: &[u8], job: &Job<'_>) -> Option<Place> {
                 None => true,
             };
             if is_first {
-                best = Some(Place {
-                    lo,
-                    hi: lo.saturating_add(sought.len()),
-                });
+                let hi = lo.saturating_add(sought.len());
+                best = Some(Place { lo, hi });
             }
         }
     }
@@ -99,23 +96,13 @@ pub(crate) fn found_in<A: Allocator + Copy>(
 ) -> Result<Option<Place>, AllocError> {
     let text = literal.text();
     if let Some(number) = literal.integer() {
-        let is_sought = job.lists.numbers.iter().any(|sought| *sought == number);
-        return Ok(if is_sought {
-            Some(Place {
-                lo: 0,
-                hi: text.len(),
-            })
-        } else {
-            None
-        });
+        let named = job.lists.numbers.iter().any(|sought| *sought == number);
+        let (lo, hi) = (0, text.len());
+        return Ok(if named { Some(Place { lo, hi }) } else { None });
     }
+    let finds = job.lists.finds;
     // A value isn't longer than its literal.
-    if !job
-        .lists
-        .finds
-        .iter()
-        .any(|sought| sought.len() <= text.len())
-    {
+    if !finds.iter().any(|sought| sought.len() <= text.len()) {
         return Ok(None);
     }
     text_match(alloc, job, literal)
