@@ -1,5 +1,5 @@
 -- The literals that `--bad` accepts. Sources, paths and texts are lists of bytes.
-use Rattle.std.specs.Prelude.{◌≡◌, ◌⊎◌, ◌<◌, ◌+◌, ℕ, Bool, ◌||◌, List, [], ◌∷◌, Option, Some, None, IfSome, IsTrue, codes, drop, encode_utf8_all, length, slice_range, ⊤}
+use Rattle.std.specs.Prelude.{◌≡◌, ◌⊎◌, ◌<◌, ◌+◌, ℕ, Bool, false, ◌||◌, List, [], ◌∷◌, Option, Some, None, IfSome, IsTrue, codes, drop, encode_utf8_all, length, slice_range, ⊤}
 use Rattle.std.specs.List.{AllByRecursion, list_any}
 use Rattle.std.specs.Str.{bytes_eq, chars}
 use Rattle.std.specs.declared.result.Result.TheVariants.{Ok}

@@ -278,8 +278,8 @@ fn selection_of<'x>(
     }
 }
 
-/// Prints the findings of the files at `paths`, and the totals. Returns the exit status.
-fn run_call<A: Allocator + Copy, T: Tree, W: Write, E: Write, F: Replace>(
+/// Prints the findings of the selected files at `paths`, and the totals. Returns the exit status.
+fn run_walk<A: Allocator + Copy, T: Tree, W: Write, E: Write, F: Replace>(
     call: &mut Call<'_, '_, A, W, E>,
     selection: Selection<'_>,
     tree: &T,
@@ -308,6 +308,23 @@ fn run_call<A: Allocator + Copy, T: Tree, W: Write, E: Write, F: Replace>(
         return Ok(2);
     }
     Ok(job.status(call.tally.findings, are_accepted))
+}
+
+/// Prints the findings of the files at `paths`, and the totals. Returns the exit status.
+fn run_call<A: Allocator + Copy, T: Tree, W: Write, E: Write, F: Replace>(
+    call: &mut Call<'_, '_, A, W, E>,
+    args: &Args<'_, A>,
+    tree: &T,
+    files: &mut F,
+    paths: &mut Vec<String<A>, A>,
+) -> Result<u8, Failure<A>>
+    ensures fixes { Fixes (T.holds tree.now) (F.handed files.old) (F.handed files.new) }
+{
+    let extensions = extensions_of(call.alloc, args)?;
+    let excludes = args.all(call.alloc, "--exclude")?;
+    let all = args.has("--all");
+    let selection = selection_of(all, extensions.as_slice(), excludes.as_slice());
+    run_walk(call, selection, tree, files, paths)
 }
 
 /// Parses the arguments and runs the call. Returns its exit status.
@@ -339,10 +356,6 @@ fn parse_and_run<A: Allocator + Copy, T: Tree, W: Write, E: Write, F: Replace>(
     );
     let job = Job::of(&args, lists, style, console.has_colors);
     let mut paths = paths_of(alloc, &args, tree, console.lacks_input || job.lists_files)?;
-    let extensions = extensions_of(alloc, &args)?;
-    let excludes = args.all(alloc, "--exclude")?;
-    let all = args.has("--all");
-    let selection = selection_of(all, extensions.as_slice(), excludes.as_slice());
     let mut call = Call {
         alloc,
         job,
@@ -350,7 +363,7 @@ fn parse_and_run<A: Allocator + Copy, T: Tree, W: Write, E: Write, F: Replace>(
         err: console.err,
         tally: Tally::none(),
     };
-    run_call(&mut call, selection, tree, files, &mut paths)
+    run_call(&mut call, &args, tree, files, &mut paths)
 }
 
 /// Runs `rl_scan` with the arguments `args`, of which the first is the program's name, and returns the result of the call. `tree` has
