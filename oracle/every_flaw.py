@@ -4,13 +4,14 @@ package with it.
 
     oracle/every_flaw.py [--count N] [--seed S]      some 2 s
 
-It generates strings with two to five flaws, and characters and bytes with one flaw, most of them with the suffix `_`. A line of the
-file has the literal's bytes in hexadecimal, and for each of rustc's errors the message, up to its first backtick, and the byte
+It generates strings with two to five flaws, and characters and bytes with one flaw, most of them with the suffix `_`. It keeps those
+that show what no other one shows (`shown`). A line of the file has the literal's bytes in hexadecimal, and for each of rustc's errors the message, up to its first backtick, and the byte
 range that rustc marks. The package isn't run. Broken escapes with a backslash after them are left out, because rustc treats that
 backslash as the missing digit (docs/DIFFERENCES.md).
 """
 import os
 import random
+import re
 
 import frame
 import listed
@@ -67,6 +68,15 @@ def literal(source, opener):
     return opener + ''.join(pieces) + '"' + '#' * opener.count('#')
 
 
+def shown(text, errors):
+    """Returns what a literal shows: how it opens, with its number of errors, with each message and the marked text, and with each
+    message and the next one."""
+    opener, data = re.match('[^"\']*["\']', text)[0], text.encode()
+    messages = [message for _, _, message in errors]
+    return {(opener, len(errors)), *((opener, message, data[low:high]) for low, high, message in errors),
+            *((opener, *pair) for pair in zip(messages, messages[1:]))}
+
+
 def write(asked, _):
     source = random.Random(asked.seed)
     openers = list(KINDS) + ['"', '"', 'b"', 'c"']
@@ -75,13 +85,16 @@ def write(asked, _):
     # rustc treats CR LF as a line end, and drops a CR in the white space after an escaped line end.
     literals = sorted(it for it in made if '\r\n' not in it and not listed.strict_listed(it))
     found, _ = rustc.placed(literals, 'skip!(', ');\n', FRONT)
+    rows, seen = [], set()
+    for text, errors in sorted(zip(literals, found), key=lambda it: -len(it[1])):
+        assert all(high <= len(text.encode()) for _, high, _ in errors)
+        errors = sorted({(low, high, message.split('`')[0].strip()) for low, high, message in errors})
+        if not shown(text, errors) <= seen:
+            seen |= shown(text, errors)
+            rows.append('\t'.join([text.encode().hex(), *(f'{low}..{high} {message}' for low, high, message in errors)]) + '\n')
     with open(TABLE, 'w', encoding='utf-8') as table:
-        for text, errors in zip(literals, found):
-            assert all(high <= len(text.encode()) for _, high, _ in errors)
-            errors = sorted({(low, high, message.split('`')[0].strip()) for low, high, message in errors})
-            table.write('\t'.join([text.encode().hex(), *(f'{low}..{high} {message}' for low, high, message in errors)]) + '\n')
-    print(f'{sum(map(len, found))} errors')
-    return len(literals)
+        table.writelines(sorted(rows))
+    return len(rows)
 
 
 if __name__ == '__main__':

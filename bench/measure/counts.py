@@ -14,7 +14,7 @@ def count(driver, row, size):
     """Counts the instructions of one work on one corpus of this size."""
     if row.form == 'program':
         text = sources.text(driver, size)
-        return Count(len(text), build.callgrind([sources.PATH], text)[0])
+        return Count(len(text), sources.instructions(row.corpus, text))
     command = [driver, 'once', row.corpus, row.work, str(size)]
     instructions, printed = build.callgrind(command, tool=('--toggle-collect=measured',))
     return Count(int(printed.split()[0]), instructions)

@@ -4,7 +4,7 @@ import sys
 
 from measure import build
 
-OURS = ('package', 'package, source', 'rl_scan')
+OURS = ('package', 'package, source', 'rl_scan', 'rl_scan -c')
 COLOURS = {True: '#2f6db3', False: '#d98a2b'}
 # The works that are drawn, in order.
 WORKS = ('rl_scan', 'package', 'litrs, borrowed', 'litrs', 'syn', "rustc's lexer", 'proc-macro2', 'proc-macro2 and syn', 'UTF-8')

@@ -1,15 +1,18 @@
 """The Rust source files of the benchmarks, and the work of the program that prints their literals."""
 import glob
 import os
+import re
 import subprocess
 import sys
+import tempfile
 
 from measure import build
 
 # The core library in Debian's rust-src.
 FOLDERS = '/usr/src/rustc-*/library/core/src'
 CORPUS = 'rust sources'
-CORPORA = (CORPUS, 'literals of ' + CORPUS)
+TREE = 'tree of small files'
+CORPORA = (CORPUS, 'literals of ' + CORPUS, TREE)
 PROGRAM = 'rl_scan'
 PATH = os.path.join(build.TOP, 'crates', PROGRAM, 'out', PROGRAM)
 
@@ -31,10 +34,28 @@ def build_program():
 
 
 def rows():
-    """Returns the row of the program that prints the literals of whole sources."""
-    return [build.Row('program', 'ours', CORPUS, PROGRAM)]
+    """Returns the rows of the program: it prints the literals of whole sources, and counts those of many files."""
+    return [build.Row('program', 'ours', CORPUS, PROGRAM), build.Row('program', 'ours', TREE, PROGRAM + ' -c')]
 
 
 def text(driver, size):
     """Returns the sources as one text of about this many bytes."""
     return subprocess.run([driver, 'text', CORPUS, str(size)], check=True, capture_output=True).stdout
+
+
+def plant(folder, text):
+    """Writes a text to files of some KB, 20 in a folder. Each ends with a `}` at the start of a line."""
+    for number, part in enumerate(re.findall(rb'.{1,1500}.*?(?:\n}\n|\Z)', text, re.DOTALL)):
+        inner = os.path.join(folder, str(number // 20))
+        os.makedirs(inner, exist_ok=True)
+        with open(os.path.join(inner, '%d.rs' % number), 'wb') as file:
+            file.write(part)
+
+
+def instructions(corpus, text):
+    """Counts the instructions of the program on the text, as one source or as a tree of files."""
+    if corpus == CORPUS:
+        return build.callgrind([PATH], text)[0]
+    with tempfile.TemporaryDirectory() as folder:
+        plant(folder, text)
+        return build.callgrind([PATH, '-c', folder])[0]

@@ -87,7 +87,7 @@ fn rustc_names_the_same_flaws() {
         literals += 1;
         errors += ours.len();
     }
-    assert_eq!((literals, errors), (452, 1297));
+    assert_eq!((literals, errors), (198, 612));
 }
 
 /// rustc reads each CR LF of a file as LF. So the flaws of a literal with CR LF are those of the literal with LF.
@@ -109,7 +109,7 @@ fn in_a_file_a_line_end_may_have_a_cr() {
         literals += 1;
         line_ends += in_file.len() - text.len();
     }
-    assert_eq!((literals, line_ends), (274, 77));
+    assert_eq!((literals, line_ends), (143, 50));
 }
 
 #[test]

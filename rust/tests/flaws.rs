@@ -131,7 +131,7 @@ fn other_places() {
         ("b", FlawKind::UnexpectedEnd, 0, 1, 1),
         ("1e+", FlawKind::NoExponentDigit, 0, 3, 3),
         (r#""a\x4"#, FlawKind::Unclosed, 2, 5, 5),
-        (r##"r#"a""##, FlawKind::Unclosed, 0, 5, 5),
+        (r#"r#"a""#, FlawKind::Unclosed, 0, 5, 5),
         (r#""\u{00D800}""#, FlawKind::Surrogate, 1, 9, 10),
         (r#"c"\x00""#, FlawKind::Nul, 2, 5, 6),
         ("b''", FlawKind::NoCharacter, 2, 2, 3),

@@ -125,7 +125,7 @@ seen_passed : (s : RestylableState) (token : SourceToken) (tokens : CursorState)
     → IsBorrowedSource token w → seen_after (seen_of s) w ≡ seen_of (passed s token tokens)
 seen_passed s token tokens w is =
     let seen : SourceKind → ℕ → ℕ → List ℕ → Seen = λ k lo hi b. record {
-      last = last_after s.last s.end k lo;
+      last = last_after s.last s.end k lo b;
       end = hi;
       calls = advance_calls s.calls k b;
     } in

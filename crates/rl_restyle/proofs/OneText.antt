@@ -49,7 +49,7 @@ end_of p = p.2 + byte_len p.1
 seen_same : (seen : Seen) (v w : CutSource) → told v ≡ told w → seen_after seen v ≡ seen_after seen w
 seen_same seen v w e =
     let after : Token → Seen = λ p. record {
-      last = last_after seen.last seen.end p.0 p.2;
+      last = last_after seen.last seen.end p.0 p.2 (encode_utf8_all p.1);
       end = end_of p;
       calls = advance_calls seen.calls p.0 (encode_utf8_all p.1);
     } in

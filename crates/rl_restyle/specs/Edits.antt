@@ -43,7 +43,7 @@ cut_bytes w = encode_utf8_all (source_text w.token)
 
 abbrev pub seen_after : Seen → CutSource → Seen
 seen_after seen w = record {
-  last = last_after seen.last seen.end (source_kind w.token) w.at;
+  last = last_after seen.last seen.end (source_kind w.token) w.at (cut_bytes w);
   end = source_end w;
   calls = advance_calls seen.calls (source_kind w.token) (cut_bytes w);
 }

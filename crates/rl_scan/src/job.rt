@@ -9,8 +9,10 @@ use crate::checks::number_in;
 use crate::context::Around;
 use crate::finding::Finding;
 use crate::ids::character_of;
+use crate::literal::integers_of;
 use crate::modes::{Mode, REWRITING};
 use crate::position::Position;
+use crate::style::kinds_of;
 use rl_flaws::Edition;
 use rl_restyle::{Choice, Macros};
 use rl_style::Style;
@@ -38,18 +40,32 @@ pub(crate) struct Lists<'a> {
     pub kinds: &'a [Option<Kind>],
 }
 
-impl<'a> Lists<'a> {
-    pub(crate) fn new(
-        finds: &'a [&'a str],
-        allowed: &'a [&'a str],
-        numbers: &'a [u128],
-        kinds: &'a [Option<Kind>],
-    ) -> Lists<'a> {
+/// The same values, with their memory.
+#[derive(Drop)]
+pub(crate) struct Values<'a, A: Allocator> {
+    finds: Vec<&'a str, A>,
+    numbers: Vec<u128, A>,
+    allowed: Vec<&'a str, A>,
+    kinds: Vec<Option<Kind>, A>,
+}
+
+impl<'a, A: Allocator + Copy> Values<'a, A> {
+    pub(crate) fn of(alloc: A, args: &Args<'a, A>) -> Result<Values<'a, A>, AllocError> {
+        let numbers = args.all(alloc, "--number")?;
+        Ok(Values {
+            finds: args.all(alloc, "--find")?,
+            numbers: integers_of(alloc, numbers.as_slice())?,
+            allowed: args.all(alloc, "--allow")?,
+            kinds: kinds_of(alloc, args.last("--only").unwrap_or(""))?,
+        })
+    }
+
+    pub(crate) fn lists(&self) -> Lists<'_> {
         Lists {
-            finds,
-            allowed,
-            numbers,
-            kinds,
+            finds: self.finds.as_slice(),
+            numbers: self.numbers.as_slice(),
+            allowed: self.allowed.as_slice(),
+            kinds: self.kinds.as_slice(),
         }
     }
 }

@@ -13,15 +13,14 @@ use crate::errors::{both, report_end};
 use crate::escapes::{Before, Escapes, push_text};
 use crate::failure::Failure;
 use crate::findings::report_findings;
-use crate::job::{Job, Lists};
-use crate::literal::integers_of;
+use crate::job::{Job, Values};
 use crate::modes::Mode;
 use crate::options::row_named;
 use crate::pages::page_of;
 use crate::paths::{extensions_of, paths_of};
 use crate::print::Page;
 use crate::stats::Tally;
-use crate::style::{kinds_of, style_of};
+use crate::style::style_of;
 use rl_files::{PathError, Replace, Selection, Tree, Visit, Walk, WalkError};
 use rl_program::{Ending, write_bytes};
 use std::alloc::{AllocError, Allocator};
@@ -29,28 +28,28 @@ use std::io::Write;
 
 /// The standard streams, and the properties of them that a call depends on.
 #[derive(Drop)]
-pub struct Console<'s, W, E> {
+pub struct Console<'o, 'e, W, E> {
     /// Whether standard input isn't a file, a pipe or a socket.
     pub lacks_input: bool,
     /// Whether standard output displays colours.
     pub has_colors: bool,
     /// Standard output.
-    pub out: &'s mut W,
+    pub out: &'o mut W,
     /// Standard error.
-    pub err: &'s mut E,
+    pub err: &'e mut E,
 }
 
 /// A call that is being run: its job, its streams, and its counts.
 #[derive(Drop)]
-pub(crate) struct Call<'s, 'a, A: Allocator, W, E> {
+pub(crate) struct Call<'o, 'e, 'a, A: Allocator, W, E> {
     pub alloc: A,
     pub job: Job<'a>,
-    pub out: &'s mut W,
-    pub err: &'s mut E,
+    pub out: &'o mut W,
+    pub err: &'e mut E,
     pub tally: Tally,
 }
 
-impl<'s, 'a, A: Allocator + Copy, W: Write, E: Write> Call<'s, 'a, A, W, E> {
+impl<'o, 'e, 'a, A: Allocator + Copy, W: Write, E: Write> Call<'o, 'e, 'a, A, W, E> {
     // ---- errors of paths
 
     /// Prints a line about a file on standard error, after the program's name and the file's path.
@@ -312,7 +311,7 @@ fn run_walk<A: Allocator + Copy, T: Tree, W: Write, E: Write, F: Replace>(
 
 /// Prints the findings of the files at `paths`, and the totals. Returns the exit status.
 fn run_call<A: Allocator + Copy, T: Tree, W: Write, E: Write, F: Replace>(
-    call: &mut Call<'_, '_, A, W, E>,
+    call: &mut Call<'_, '_, '_, A, W, E>,
     args: &Args<'_, A>,
     tree: &T,
     files: &mut F,
@@ -327,11 +326,41 @@ fn run_call<A: Allocator + Copy, T: Tree, W: Write, E: Write, F: Replace>(
     run_walk(call, selection, tree, files, paths)
 }
 
+/// Runs a call with the given options. Returns its exit status.
+fn run_options<A: Allocator + Copy, T: Tree, W: Write, E: Write, F: Replace>(
+    alloc: A,
+    args: &Args<'_, A>,
+    console: Console<'_, '_, W, E>,
+    tree: &T,
+    files: &mut F,
+) -> Result<u8, Failure<A>>
+    ensures fixes { Fixes (T.holds tree.now) (F.handed files.old) (F.handed files.new) }
+{
+    let style = style_of(alloc, args, tree)?;
+    let values = Values::of(alloc, args)?;
+    let Console {
+        lacks_input,
+        has_colors,
+        out,
+        err,
+    } = console;
+    let job = Job::of(args, values.lists(), style, has_colors);
+    let mut paths = paths_of(alloc, args, tree, lacks_input || job.lists_files)?;
+    let mut call = Call {
+        alloc,
+        job,
+        out,
+        err,
+        tally: Tally::none(),
+    };
+    run_call(&mut call, args, tree, files, &mut paths)
+}
+
 /// Parses the arguments and runs the call. Returns its exit status.
 fn parse_and_run<A: Allocator + Copy, T: Tree, W: Write, E: Write, F: Replace>(
     alloc: A,
     words: &[String<A>],
-    console: Console<'_, W, E>,
+    console: Console<'_, '_, W, E>,
     tree: &T,
     files: &mut F,
 ) -> Result<u8, Failure<A>>
@@ -342,28 +371,7 @@ fn parse_and_run<A: Allocator + Copy, T: Tree, W: Write, E: Write, F: Replace>(
         write_bytes(console.out, page_of(alloc, &args)?.as_bytes())?;
         return Ok(0);
     }
-    let style = style_of(alloc, &args, tree)?;
-    let finds = args.all(alloc, "--find")?;
-    let allowed = args.all(alloc, "--allow")?;
-    let integers = args.all(alloc, "--number")?;
-    let numbers = integers_of(alloc, integers.as_slice())?;
-    let kinds = kinds_of(alloc, args.last("--only").unwrap_or(""))?;
-    let lists = Lists::new(
-        finds.as_slice(),
-        allowed.as_slice(),
-        numbers.as_slice(),
-        kinds.as_slice(),
-    );
-    let job = Job::of(&args, lists, style, console.has_colors);
-    let mut paths = paths_of(alloc, &args, tree, console.lacks_input || job.lists_files)?;
-    let mut call = Call {
-        alloc,
-        job,
-        out: console.out,
-        err: console.err,
-        tally: Tally::none(),
-    };
-    run_call(&mut call, &args, tree, files, &mut paths)
+    run_options(alloc, &args, console, tree, files)
 }
 
 /// Runs `rl_scan` with the arguments `args`, of which the first is the program's name, and returns the result of the call. `tree` has
@@ -371,7 +379,7 @@ fn parse_and_run<A: Allocator + Copy, T: Tree, W: Write, E: Write, F: Replace>(
 pub fn run_with_arguments<A: Allocator + Copy, T: Tree, W: Write, E: Write, F: Replace>(
     alloc: A,
     args: &[String<A>],
-    console: Console<'_, W, E>,
+    console: Console<'_, '_, W, E>,
     tree: &T,
     files: &mut F,
 ) -> Ending<Failure<A>>

@@ -14,7 +14,7 @@ state tokens last end calls stray = record { tokens = tokens; last = last; end =
 -- After a token, the code's variables `last`, `calls` and `has_stray` are equal to the fields of the cursor's next state. `last`
 -- describes the token, and `calls` is the position relative to macro calls.
 pub record Steps (s : RestylableState) (token : SourceToken) (last : Last) (calls : CallState) (stray : Bool) : Type 0 where
-  pub last_is : last ≡ last_after s.last s.end (source_view token.form) token.lo
+  pub last_is : last ≡ last_after s.last s.end (source_view token.form) token.lo token.text.now
   pub calls_are : calls ≡ advance_calls s.calls (source_view token.form) token.text.now
   pub stray_is : stray ≡ stray_after s.has_stray (source_view token.form)
 
@@ -24,7 +24,7 @@ stepped : (P : RestylableState → Type 0) (s : RestylableState) (token : Source
     (last : Last) (calls : CallState) (stray : Bool) → Steps s token last calls stray → P (passed s token tokens)
     → P (state tokens last token.hi calls stray)
 stepped P s token tokens last calls stray steps h =
-    let last_now = last_after s.last s.end (source_view token.form) token.lo in
+    let last_now = last_after s.last s.end (source_view token.form) token.lo token.text.now in
     let calls_now = advance_calls s.calls (source_view token.form) token.text.now in
     subst (λ (d : Last). P (state tokens d token.hi calls stray)) (sym steps.last_is)
     (subst (λ (k : CallState). P (state tokens last_now token.hi k stray)) (sym steps.calls_are)
@@ -34,7 +34,7 @@ unstepped : (P : RestylableState → Type 0) (s : RestylableState) (token : Sour
     (last : Last) (calls : CallState) (stray : Bool) → Steps s token last calls stray
     → P (state tokens last token.hi calls stray) → P (passed s token tokens)
 unstepped P s token tokens last calls stray steps h =
-    let last_now = last_after s.last s.end (source_view token.form) token.lo in
+    let last_now = last_after s.last s.end (source_view token.form) token.lo token.text.now in
     let calls_now = advance_calls s.calls (source_view token.form) token.text.now in
     subst (λ (b : Bool). P (state tokens last_now token.hi calls_now b)) steps.stray_is
     (subst (λ (k : CallState). P (state tokens last_now token.hi k stray)) steps.calls_are

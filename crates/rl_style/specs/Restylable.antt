@@ -1,17 +1,17 @@
 -- The literals of a source. For each literal, the definitions tell whether it may be a field of a tuple, and whether it is
 -- inside a macro call. The text of a token is a list of bytes, and the source after the token a list of characters.
-use Rattle.std.specs.Prelude.{◌≡◌, ℕ, Bool, true, false, cond, not, ◌&&◌, ◌==◌, List, [], ◌∷◌, codes, if◌then◌else◌}
+use Rattle.std.specs.Prelude.{◌≡◌, ℕ, Bool, true, false, cond, not, ◌&&◌, ◌||◌, ◌==◌, List, [], ◌∷◌, codes, if◌then◌else◌}
 use Rattle.std.specs.Char.{is_ascii_digit}
-use Rattle.std.specs.Str.{chars}
+use Rattle.std.specs.Str.{bytes_eq, chars}
 use Prim.Native.Char.{code}
 use Rattle.rl_syntax.specs.Texts.{begins_char, is_among}
 use Rattle.rl_lexer.specs.Cursors.{CursorState}
-use Rattle.rl_lexer.specs.Lexemes.{DelimiterForm, MarkForm}
+use Rattle.rl_lexer.specs.Lexemes.{DelimiterForm, IdentifierForm, MarkForm}
 use Rattle.rl_lexer.specs.Sources.{BeginsNoSource, DocCommentKind, IsLiteralText, PlainKind, SourceKind, StrayKind, TakesSource, source_view}
 use Rattle.rl_lexer.specs.declared.sources.SourceToken.{SourceToken}
 use Rattle.rl_style.specs.Calls.{CallState, advance_calls, is_in_call}
 use Rattle.rl_style.specs.declared.restylable.Last.{Last}
-use Rattle.rl_style.specs.declared.restylable.Last.TheVariants.{Other, Dot, Dots, Opening}
+use Rattle.rl_style.specs.declared.restylable.Last.TheVariants.{Other, Dot, Dots, Opening, Offset}
 use Rattle.rl_style.specs.declared.restylable.Restylable.{Restylable}
 
 -- The state of a cursor over the literals of a source: the unread source, the last token, the byte offset after it, the
@@ -46,11 +46,31 @@ is_opening (PlainKind (MarkForm c)) = c == code ","
 is_opening DocCommentKind = true
 is_opening _ = false
 
+abbrev pub is_offset : Last → Bool
+is_offset Offset = true
+is_offset _ = false
+
 -- Returns the description (`Last`) of a token, which has the given kind and begins at the byte offset `lo`. The previous
 -- token ends at the byte offset `end`, and `last` describes it.
-abbrev pub last_after : Last → ℕ → SourceKind → ℕ → Last
-last_after last end kind lo =
+abbrev pub next_after : Last → ℕ → SourceKind → ℕ → Last
+next_after last end kind lo =
     if is_dot kind then one_more last (lo == end) else if is_opening kind then Opening else Other
+
+-- The token is the word `offset_of`, the name of a macro that takes the names of fields.
+abbrev pub names_offset : SourceKind → List ℕ → Bool
+names_offset (PlainKind IdentifierForm) bytes = bytes_eq bytes (codes "offset_of")
+names_offset _ bytes = false
+
+abbrev pub ends_offset : SourceKind → Bool
+ends_offset (PlainKind (DelimiterForm c)) = is_among (codes "{}") c
+ends_offset (PlainKind (MarkForm c)) = c == code ";"
+ends_offset _ = false
+
+-- Returns the description (`Last`) of any token. It is `Offset` for the word `offset_of`, and for each later token up to the next
+-- `;` or brace.
+abbrev pub last_after : Last → ℕ → SourceKind → ℕ → List ℕ → Last
+last_after last end kind lo bytes =
+    if is_offset last && not (ends_offset kind) || names_offset kind bytes then Offset else next_after last end kind lo
 
 abbrev pub begins_number : List ℕ → Bool
 begins_number [] = false
@@ -65,11 +85,12 @@ begins_one_colon (c ∷ t) = c == code ":" && not (begins_char (code ":") t)
 -- white space nor a comment.
 abbrev pub names_field : Last → List ℕ → Bool
 names_field Dot rest = true
+names_field Offset rest = true
 names_field Opening rest = begins_one_colon rest
 names_field _ rest = false
 
--- The literal may be a field of a tuple: it is a number that follows one dot, as in `t.0`, or that precedes one colon, as in
--- `S { 0: x }`.
+-- The literal may be a field of a tuple: it is a number that follows one dot, as in `t.0`, or the word `offset_of`, or that
+-- precedes one colon, as in `S { 0: x }`.
 abbrev pub is_field : Last → List ℕ → List ℕ → Bool
 is_field last bytes rest = begins_number bytes && names_field last rest
 
@@ -77,7 +98,7 @@ is_field last bytes rest = begins_number bytes && names_field last rest
 abbrev pub passed : RestylableState → SourceToken → CursorState → RestylableState
 passed s token tokens = record {
   tokens = tokens;
-  last = last_after s.last s.end (source_view token.form) token.lo;
+  last = last_after s.last s.end (source_view token.form) token.lo token.text.now;
   end = token.hi;
   calls = advance_calls s.calls (source_view token.form) token.text.now;
   has_stray = stray_after s.has_stray (source_view token.form);

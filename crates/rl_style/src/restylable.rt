@@ -5,7 +5,7 @@ ghost use Rattle.std.specs.Str.{chars};
 ghost use Rattle.rl_lexer.specs.Cursors.{IsCursorState};
 ghost use Rattle.rl_lexer.specs.Sources.{IsCutUpTo, SourceBefore, SourceErrorAt, SourceKind, source_view};
 ghost use Rattle.rl_style.specs.Calls.{Outside};
-ghost use Rattle.rl_style.specs.Restylable.{GivesLiteral, GivesNone, begins_one_colon, is_field, last_after, names_field, one_more, stray_after};
+ghost use Rattle.rl_style.specs.Restylable.{GivesLiteral, GivesNone, begins_one_colon, ends_offset, is_field, last_after, names_field, names_offset, next_after, one_more, stray_after};
 ghost use Rattle.rl_style.specs.declared.restylable.Last.TheVariants as last;
 
 use crate::calls::{Calls, advance_calls, is_in_call};
@@ -26,6 +26,8 @@ pub(crate) enum Last {
     /// A token after which a number is a field if one colon follows the number, as in `S { 0: x }`: a doc comment, `{`, `,`,
     /// or `]`, which may end an attribute.
     Opening,
+    /// The word `offset_of`, or a later token before `;` or a brace. A number after it may be a field, as in `offset_of!(S, 0)`.
+    Offset,
 }
 
 /// A literal of a source, with its position relative to fields and macro calls.
@@ -37,7 +39,8 @@ pub struct Restylable<'t> {
     /// Whether the literal may be a field of a tuple. A field has only one name, so it isn't rewritten.
     ///
     /// A field is a number after one dot, as in `t.0`, or a number that a single `:` follows, after `{`, `,`, `]` or a doc
-    /// comment, as in `S { #[a] 0: x }`. White space and plain comments may be between these tokens.
+    /// comment, as in `S { #[a] 0: x }`. White space and plain comments may be between these tokens. Also each number after
+    /// the word `offset_of`, up to the next `;` or brace, may be a field.
     pub is_field: bool,
     /// Whether the literal is inside a macro call, a macro's definition or an attribute, where a macro may depend on the
     /// literal's text.
@@ -81,10 +84,38 @@ fn one_more(last: Last, is_joined: bool) -> Last
     }
 }
 
+/// Whether the token is the word `offset_of`, the name of a macro that takes the names of fields.
+fn names_offset(token: SourceToken<'_>) -> bool
+    ensures { result ≡ names_offset (source_view token.entry.form) token.entry.text.now }
+{
+    matches!(token.form, SourceForm::Token(Form::Identifier)) && token.text == "offset_of"
+}
+
+/// Whether the token is `;` or a brace.
+fn ends_offset(token: SourceToken<'_>) -> bool
+    ensures { result ≡ ends_offset (source_view token.entry.form) }
+{
+    matches!(
+        token.form,
+        SourceForm::Token(Form::Mark(';') | Form::Delimiter('{' | '}'))
+    )
+}
+
 /// Returns the description of the token `token`. `last` describes the token before it, and `end` is the byte offset after
 /// that token.
 fn last_after(last: Last, end: usize, token: SourceToken<'_>) -> Last
-    ensures { result ≡ last_after last end (source_view token.entry.form) token.entry.lo }
+    ensures { result ≡ last_after last end (source_view token.entry.form) token.entry.lo token.entry.text.now }
+{
+    match last {
+        Last::Offset if !ends_offset(token) => Last::Offset,
+        _ if names_offset(token) => Last::Offset,
+        _ => next_after(last, end, token),
+    }
+}
+
+/// Returns the description of the token `token`, which isn't the word `offset_of` and isn't a field of this macro.
+fn next_after(last: Last, end: usize, token: SourceToken<'_>) -> Last
+    ensures { result ≡ next_after last end (source_view token.entry.form) token.entry.lo }
 {
     match token.form {
         SourceForm::Token(Form::Mark('.')) => one_more(last, token.lo == end),
@@ -120,7 +151,7 @@ fn names_field(last: Last, rest: &str) -> bool
     ensures { result ≡ names_field last (chars rest.now) }
 {
     match last {
-        Last::Dot => true,
+        Last::Dot | Last::Offset => true,
         Last::Opening => begins_one_colon(rest),
         Last::Other | Last::Dots => false,
     }

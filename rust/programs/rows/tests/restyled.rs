@@ -57,6 +57,8 @@ fn texts_are_written_anew() {
             " f(0xa, \"'\", r\"a\", t.0xB)",
         ),
         ("S { 0xA: 0xB, 1_0: 1_1 }", "S { 0xA: 0xb, 1_0: 11 }"),
+        ("offset_of(S, 1_0.0xA); 0xA", "offset_of(S, 1_0.0xA); 0xa"),
+        ("{ offset_of(1_0) } offset_of { 1_1 }", "{ offset_of(1_0) } offset_of { 11 }"),
         (
             "let S { 1_0 // a\n : b, /** c */ 1_1:/**/:d, .. }",
             "let S { 1_0 // a\n : b, /** c */ 1_1:/**/:d, .. }",
@@ -96,6 +98,8 @@ fn edits_stand_in_order() {
     assert_eq!(text, "é(0xa, 10, 7, m!(\"'\"))");
     let told = [(3, 6, "0xa"), (8, 11, "10"), (19, 23, "\"'\"")];
     assert_eq!(edits, told.map(|(lo, hi, text)| (lo, hi, text.to_owned())));
+    let fields = styled(Macros::All, "m!(offset_of!(S, 1_0), 0xA); m!(0xA)");
+    assert_eq!(fields, "m!(offset_of!(S, 1_0), 0xA); m!(0xa)");
 }
 
 #[test]

@@ -18,6 +18,8 @@ pub(crate) enum Last {
     /// A token after which a number is a field if one colon follows the number, as in `S { 0: x }`: a doc comment, `{`, `,`,
     /// or `]`, which may end an attribute.
     Opening,
+    /// The word `offset_of`, or a later token before `;` or a brace. A number after it may be a field, as in `offset_of!(S, 0)`.
+    Offset,
 }
 
 /// A literal of a source, with its position relative to fields and macro calls.
@@ -29,7 +31,8 @@ pub struct Restylable<'t> {
     /// Whether the literal may be a field of a tuple. A field has only one name, so it isn't rewritten.
     ///
     /// A field is a number after one dot, as in `t.0`, or a number that a single `:` follows, after `{`, `,`, `]` or a doc
-    /// comment, as in `S { #[a] 0: x }`. White space and plain comments may be between these tokens.
+    /// comment, as in `S { #[a] 0: x }`. White space and plain comments may be between these tokens. Also each number after
+    /// the word `offset_of`, up to the next `;` or brace, may be a field.
     pub is_field: bool,
     /// Whether the literal is inside a macro call, a macro's definition or an attribute, where a macro may depend on the
     /// literal's text.
@@ -62,10 +65,35 @@ fn one_more(last: Last, is_joined: bool) -> Last {
     }
 }
 
+/// Whether the token is the word `offset_of`, the name of a macro that takes the names of fields.
+#[inline]
+fn names_offset(token: SourceToken<'_>) -> bool {
+    matches!(token.form, SourceForm::Token(Form::Identifier)) && token.text == "offset_of"
+}
+
+/// Whether the token is `;` or a brace.
+#[inline]
+fn ends_offset(token: SourceToken<'_>) -> bool {
+    matches!(
+        token.form,
+        SourceForm::Token(Form::Mark(';') | Form::Delimiter('{' | '}'))
+    )
+}
+
 /// Returns the description of the token `token`. `last` describes the token before it, and `end` is the byte offset after
 /// that token.
 #[inline]
 fn last_after(last: Last, end: usize, token: SourceToken<'_>) -> Last {
+    match last {
+        Last::Offset if !ends_offset(token) => Last::Offset,
+        _ if names_offset(token) => Last::Offset,
+        _ => next_after(last, end, token),
+    }
+}
+
+/// Returns the description of the token `token`, which isn't the word `offset_of` and isn't a field of this macro.
+#[inline]
+fn next_after(last: Last, end: usize, token: SourceToken<'_>) -> Last {
     match token.form {
         SourceForm::Token(Form::Mark('.')) => one_more(last, token.lo == end),
         SourceForm::Token(Form::Mark(',') | Form::Delimiter('{' | ']')) | SourceForm::DocComment =>
@@ -97,7 +125,7 @@ fn begins_one_colon(text: &str) -> bool {
 #[inline]
 fn names_field(last: Last, rest: &str) -> bool {
     match last {
-        Last::Dot => true,
+        Last::Dot | Last::Offset => true,
         Last::Opening => begins_one_colon(rest),
         Last::Other | Last::Dots => false,
     }

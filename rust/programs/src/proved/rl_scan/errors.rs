@@ -125,6 +125,7 @@ fn type_error_at(
 }
 
 /// Returns the reason why Rust has no type for a literal. `before` is the text before the literal.
+#[inline(always)]
 fn type_error_in(before: &str, text: &str, reading: &Reading) -> Option<TypeError> {
     match reading {
         Reading::Text(kind, body) => type_error_at(before, text, *kind, 0, body.suffix_at),
@@ -173,6 +174,7 @@ fn type_words(
 }
 
 /// Reports that Rust has no type for a literal. Returns whether the literal is accepted.
+#[inline(always)]
 fn report_type<'t, A: Allocator + Copy, W: Write>(
     page: &mut Page<'_, '_, A, W>,
     follower: &mut Follower<'t>,
@@ -200,6 +202,7 @@ fn report_type<'t, A: Allocator + Copy, W: Write>(
 }
 
 /// Reports the reserved prefix of a literal. Returns whether the call allows it, or `None` if the literal has none.
+#[inline(always)]
 fn report_prefix<A: Allocator + Copy, W: Write>(
     page: &mut Page<'_, '_, A, W>,
     job: Job<'_>,
@@ -277,6 +280,7 @@ fn is_literal_since_2021(text: &str) -> bool {
 }
 
 /// Reports the errors of a literal. Returns whether it is accepted.
+#[inline(always)]
 fn report_literal<'t, A: Allocator + Copy, W: Write>(
     page: &mut Page<'_, '_, A, W>,
     follower: &mut Follower<'t>,

@@ -1,14 +1,16 @@
 // Rendered from crates/rl_scan/src/job.rt by tools/render, which erases contracts: change that file, and render again.
 //! The work of a call of `rl_scan` on each file.
 
-use crate::rattle_std::prelude::{String};
+use crate::rattle_std::prelude::{String, Vec};
 use crate::rl_scan::args::{Args, is_among};
 use crate::rl_scan::checks::number_in;
 use crate::rl_scan::context::Around;
 use crate::rl_scan::finding::Finding;
 use crate::rl_scan::ids::character_of;
+use crate::rl_scan::literal::integers_of;
 use crate::rl_scan::modes::{Mode, REWRITING};
 use crate::rl_scan::position::Position;
+use crate::rl_scan::style::kinds_of;
 use crate::rl_flaws::Edition;
 use crate::rl_restyle::{Choice, Macros};
 use crate::rl_style::Style;
@@ -36,18 +38,31 @@ pub(crate) struct Lists<'a> {
     pub kinds: &'a [Option<Kind>],
 }
 
-impl<'a> Lists<'a> {
-    pub(crate) fn new(
-        finds: &'a [&'a str],
-        allowed: &'a [&'a str],
-        numbers: &'a [u128],
-        kinds: &'a [Option<Kind>],
-    ) -> Lists<'a> {
+/// The same values, with their memory.
+pub(crate) struct Values<'a, A: Allocator> {
+    finds: Vec<&'a str, A>,
+    numbers: Vec<u128, A>,
+    allowed: Vec<&'a str, A>,
+    kinds: Vec<Option<Kind>, A>,
+}
+
+impl<'a, A: Allocator + Copy> Values<'a, A> {
+    pub(crate) fn of(alloc: A, args: &Args<'a, A>) -> Result<Values<'a, A>, AllocError> {
+        let numbers = args.all(alloc, "--number")?;
+        Ok(Values {
+            finds: args.all(alloc, "--find")?,
+            numbers: integers_of(alloc, numbers.as_slice())?,
+            allowed: args.all(alloc, "--allow")?,
+            kinds: kinds_of(alloc, args.last("--only").unwrap_or(""))?,
+        })
+    }
+
+    pub(crate) fn lists(&self) -> Lists<'_> {
         Lists {
-            finds,
-            allowed,
-            numbers,
-            kinds,
+            finds: self.finds.as_slice(),
+            numbers: self.numbers.as_slice(),
+            allowed: self.allowed.as_slice(),
+            kinds: self.kinds.as_slice(),
         }
     }
 }

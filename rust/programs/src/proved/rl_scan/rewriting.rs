@@ -58,7 +58,7 @@ fn report_changes<A: Allocator + Copy, W: Write>(
     page.close()
 }
 
-impl<'s, 'a, A: Allocator + Copy, W: Write, E: Write> Call<'s, 'a, A, W, E> {
+impl<'o, 'e, 'a, A: Allocator + Copy, W: Write, E: Write> Call<'o, 'e, 'a, A, W, E> {
     /// Prints the errors because of which a source isn't rewritten. Returns whether there are any.
     fn explains<'t>(&mut self, path: &'t str, source: &'t str) -> Result<bool, Failure<A>> {
         let job = self.job;

@@ -63,7 +63,7 @@ fn push_rule_counts<A: Allocator>(
     if is_json { text.push('}') } else { Ok(()) }
 }
 
-impl<'s, 'a, A: Allocator + Copy, W: Write, E: Write> Call<'s, 'a, A, W, E> {
+impl<'o, 'e, 'a, A: Allocator + Copy, W: Write, E: Write> Call<'o, 'e, 'a, A, W, E> {
     /// Prints the totals: after a rewritten source on standard error, and otherwise on standard output.
     pub(crate) fn print_totals(&mut self) -> Result<(), Failure<A>> {
         let mut text = String::new(self.alloc);

@@ -55,9 +55,9 @@ pub(crate) fn is_near(word: &str, meant: &str) -> bool {
     let (said, meant) = (word.as_bytes(), meant.as_bytes());
     for at in 0..said.len() {
         if said.get(at) != meant.get(at) {
-            let left = meant.get(at..).unwrap_or(b"".as_slice());
             let said_left = said.get(at..).unwrap_or(said);
-            return slips_here(said_left, left);
+            let meant_left = meant.get(at..).unwrap_or(meant);
+            return slips_here(said_left, meant_left);
         }
     }
     true
