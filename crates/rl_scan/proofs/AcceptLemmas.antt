@@ -1,5 +1,5 @@
 -- Lemmas about the literals that `--bad` accepts.
-use Rattle.rl_syntax.proofs.Common.{AllByRecursion, Bool, Err, IfSome, IsTrue, List, None, Ok, Option, Some, [], ap, chars, encode_utf8_all, inl, inr, refl, subst, sym, true, ℕ, ◌++◌, ◌∙◌, ◌∷◌, ◌≡◌, ◌⊎◌, ⊤}
+use Rattle.rl_syntax.proofs.Common.{AllByRecursion, Bool, Err, IfNone, IfSome, IsTrue, List, None, Ok, Option, Some, [], ap, chars, encode_utf8_all, inl, inr, refl, subst, sym, true, ℕ, ◌++◌, ◌∙◌, ◌∷◌, ◌≡◌, ◌⊎◌, ⊤}
 use Rattle.rl_lexer.specs.Cursors.{CursorState}
 use Rattle.rl_lexer.specs.Sources.{BeginsNoSource, CutSource, IsBorrowedSource, IsCutUpTo, IsLiteralText, IsOtherToken, PassesTo, SourceBefore, SourceErrorAt, SourceKind, TakesLiteralAfter, TakesSource, source_kind, source_text, source_view}
 use Rattle.rl_lexer.specs.declared.lex_error.LexKind.{LexKind}
@@ -62,6 +62,11 @@ in_call source old new token calls inside (before, cuts, calls_are, same) takes 
     })
 
 -- ---- the tokens of a source
+
+pub none_still : (token : Option SourceToken) (old new : CursorState) → IfNone token (BeginsNoSource (chars old.rest))
+    → IfNone token (new ≡ old) → IfNone token (BeginsNoSource (chars new.rest))
+none_still None old new none stays = subst (λ (s : CursorState). BeginsNoSource (chars s.rest)) (sym stays) none
+none_still (Some token) old new none stays = tt
 
 -- The cursor has read some tokens, and if `accepted` is true, all literals among them are accepted.
 abbrev pub HasRead : Job → CursorState → Bool → Type 0

@@ -279,7 +279,7 @@ fn selection_of<'x>(
 
 /// Prints the findings of the selected files at `paths`, and the totals. Returns the exit status.
 fn run_walk<A: Allocator + Copy, T: Tree, W: Write, E: Write, F: Replace>(
-    call: &mut Call<'_, '_, A, W, E>,
+    call: &mut Call<'_, '_, '_, A, W, E>,
     selection: Selection<'_>,
     tree: &T,
     files: &mut F,
