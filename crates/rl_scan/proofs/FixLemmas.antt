@@ -1,5 +1,5 @@
 -- Lemmas about the files that `--fix` replaces.
-use Rattle.rl_syntax.proofs.Common.{AllByRecursion, IfSome, List, None, Ok, Option, Some, [], ap, append-nil, append_assoc, inl, inr, option_map, refl, sym, ℕ, ◌++◌, ◌∙◌, ◌∷◌, ◌≡◌}
+use Rattle.rl_syntax.proofs.Common.{AllByRecursion, IfSome, List, None, Ok, Option, Some, [], ap, append-nil, append_assoc, inl, inr, option_map, refl, subst, sym, ℕ, ◌++◌, ◌∙◌, ◌∷◌, ◌≡◌}
 use Rattle.rl_files.specs.Replacements.{Replacement, replacing}
 use Rattle.rl_files.specs.Trees.{World}
 use Rattle.rl_scan.specs.Fixes.{Fixes, FixesSource, IsFix, IsRewritten}

@@ -14,11 +14,11 @@ pub loop-preserved : goal.loop-preserved
 loop-preserved g c =
     let holds = g.T.Tree.holds c.args.tree.now in
     record {
-      fixes = fixes_both holds _ _ _ c.loop.invariant.fixes c.in_ok-is_accepted.ensures.fixes;
+      fixes = fixes_both holds _ _ _ c.loop.invariant.fixes c.in_ok-is_accepted-in-Ok-Some.ensures.fixes;
       accepted = λ h bad. leads_more c.args.self.now.job holds c.args.selection c.args.walk.now c.loop.walk c.next.new.self
           (visited c.in-Ok-Some.visit) (c.loop.invariant.accepted (c.both-are_accepted.ensures h).1 bad)
           (rw c.in-Ok-Some.field-0-is at c.in-Ok-Some.ensures)
-          (c.in_ok-is_accepted.ensures.accepted (c.both-are_accepted.ensures h).0 bad);
+          (c.in_ok-is_accepted-in-Ok-Some.ensures.accepted (c.both-are_accepted.ensures h).0 bad);
     }
 
 pub returns-in-Ok-None-clause-accepted : goal.returns-in-Ok-None-clause-accepted
