@@ -1,8 +1,11 @@
 -- Lemmas about the files that `--fix` replaces.
-use Rattle.rl_syntax.proofs.Common.{AllByRecursion, IfSome, List, None, Ok, Option, Some, [], ap, append-nil, append_assoc, inl, inr, option_map, refl, subst, sym, ℕ, ◌++◌, ◌∙◌, ◌∷◌, ◌≡◌}
-use Rattle.rl_files.specs.Replacements.{Replacement, replacing}
+use Rattle.rl_syntax.proofs.Common.{AllByRecursion, IfSome, List, None, Ok, Option, Some, [], ap, append-nil, append_assoc, chars, inl, inr, option_map, refl, subst, sym, ℕ, ◌++◌, ◌∙◌, ◌∷◌, ◌≡◌, ◌⊎◌}
+use Rattle.rl_files.specs.Replacements.{Replacement, handed_too, replacing}
 use Rattle.rl_files.specs.Trees.{World}
-use Rattle.rl_scan.specs.Fixes.{Fixes, FixesSource, IsFix, IsRewritten}
+use Rattle.rl_restyle.specs.Edits.{Restyles}
+use Rattle.rl_restyle.specs.declared.edit.Choice.{Choice}
+use Rattle.rl_style.specs.declared.style.Style.{Style}
+use Rattle.rl_scan.specs.Fixes.{Fixes, FixesSource, IsFix}
 
 -- No file is replaced.
 pub fixes_none : (holds : Option World) (h : Option (List Replacement)) → Fixes holds h h
@@ -15,6 +18,11 @@ pub fixes_one : (holds : Option World) (path old : List ℕ) (h0 h1 : Option (Li
 fixes_one holds path old h0 h1 read (inl same) = subst (λ h. Fixes holds h0 h) (sym same) (fixes_none holds h0)
 fixes_one holds path old h0 h1 read (inr (new, rewritten, handed)) =
     (replacing path old new ∷ [], handed, ((read, rewritten), record {}))
+
+pub fixes_read : (holds : Option World) (path old source : List ℕ) (h0 h1 : Option (List Replacement)) → source ≡ old
+    → IfSome holds (λ w. w.bytes path ≡ Ok old) → FixesSource path source h0 h1 → Fixes holds h0 h1
+fixes_read holds path old source h0 h1 same read fixes =
+    fixes_one holds path old h0 h1 read (subst (λ text. FixesSource path text h0 h1) same fixes)
 
 all_append : (P : Replacement → Type 0) (xs ys : List Replacement) → AllByRecursion P xs → AllByRecursion P ys
     → AllByRecursion P (xs ++ ys)
@@ -33,3 +41,12 @@ pub fixes_both : (holds : Option World) (h0 h1 h2 : Option (List Replacement)) �
     → Fixes holds h0 h2
 fixes_both holds h0 h1 h2 one two =
     (one.0 ++ two.0, appended h0 h1 h2 one.0 two.0 one.1 two.1, all_append (IsFix holds) one.0 two.0 one.2 two.2)
+
+-- A source is rewritten as `shown`, and its file is replaced by this text or not.
+pub fixes_shown : (path old shown bytes : List ℕ) (h0 h1 : Option (List Replacement)) (style : Style) (choice : Choice)
+    (edits : List (ℕ × ℕ × List ℕ)) → Restyles style choice (chars old) (chars bytes) edits → shown ≡ bytes
+    → (h1 ≡ h0) ⊎ (h1 ≡ handed_too (replacing path old shown) h0) → FixesSource path old h0 h1
+fixes_shown path old shown bytes h0 h1 style choice edits restyles same (inl stays) = inl stays
+fixes_shown path old shown bytes h0 h1 style choice edits restyles same (inr handed) =
+    let restyled = subst (λ t. Restyles style choice (chars old) (chars t) edits) (sym same) restyles in
+    inr (shown, record { style = style; choice = choice; edits = edits; restyles = restyled }, handed)

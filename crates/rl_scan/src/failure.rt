@@ -71,10 +71,11 @@ impl<A: Allocator> fmt::Display for Failure<A> {
             Failure::Closed | Failure::Write => write!(f, "rl_scan: write failed"),
             Failure::Said(line) => {
                 // A runner of GitHub would take a line with `##[` for a command.
-                let mut lead = "rl_scan: ";
+                let mut is_first = true;
                 for part in line.as_str().split("##[") {
+                    let lead = if is_first { "rl_scan: " } else { "##\\u{5b}" };
                     write!(f, "{lead}{part}")?;
-                    lead = "##\\u{5b}";
+                    is_first = false;
                 }
                 Ok(())
             }

@@ -234,6 +234,7 @@ impl<'o, 'e, 'a, A: Allocator + Copy, W: Write, E: Write> Call<'o, 'e, 'a, A, W,
     }
 
     /// Prints the findings of all files of a walk, and counts them. Returns whether `--bad` accepts all literals.
+    #[tactic(auto, using(crate::proofs::FixLemmas::fixes_none, crate::proofs::FixLemmas::fixes_both))]
     fn report_files<T: Tree, F: Replace>(
         &mut self,
         tree: &T,

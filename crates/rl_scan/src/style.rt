@@ -148,7 +148,7 @@ fn style_failure<A: Allocator + Copy>(
 /// Returns the error of the first number of digits without an effect: 0, or more digits than an integer of 128 bits has.
 fn size_error(text: &str) -> Option<StyleError<'_>> {
     let mut tokens = Sources::new(text);
-    let mut name = "";
+    let mut names = (0_usize, 0_usize);
     for _ in 0..u64::MAX {
         let token = tokens.next()?;
         if let Some(found) = parse_literal(token.text) {
@@ -156,13 +156,13 @@ fn size_error(text: &str) -> Option<StyleError<'_>> {
             if is_number && (found.magnitude == 0 || found.magnitude > 128) {
                 return Some(StyleError {
                     kind: StyleErrorKind::Expected(Expected::Size),
-                    name: Some(name),
+                    name: text.get(names.0..names.1),
                     lo: token.lo,
                     hi: token.hi,
                 });
             }
         } else if token.text != "=" {
-            name = token.text;
+            names = (token.lo, token.hi);
         }
     }
     None
