@@ -28,8 +28,11 @@ pub returns-in_ok-report_end-in-Some-error : goal.returns-in_ok-report_end-in-So
 returns-in_ok-report_end-in-Some-error g c = λ h.
     read_end c.args.job c.args.page.now.source.now c.loop-token.tokens c.next_token.new.tokens c.loop-token.are_accepted
     (c.loop-token.invariant.same ∙ c.new-tokens.ensures.text) c.in_default.ensures.passed c.loop-token.invariant.read
-    (inr (c.in-Some-error.error.kind, c.in-Some-error.ensures.error,
-    c.in_ok-report_end-in-Some-error.ensures (c.both.ensures h).0)) (c.both.ensures h).1
+    (inr (
+      c.in-Some-error.error.kind,
+      c.in-Some-error.ensures.error,
+      c.in_ok-report_end-in-Some-error.ensures (c.both.ensures h).0,
+    )) (c.both.ensures h).1
 
 pub returns-in-None : goal.returns-in-None
 returns-in-None g c = λ h.

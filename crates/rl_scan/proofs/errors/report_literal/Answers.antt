@@ -12,5 +12,9 @@ returns-in-Some-clause-accepted g c = λ h.
 pub returns-in_ok-report_later_flaws-in-Err-clause-accepted :
     goal.returns-in_ok-report_later_flaws-in-Err-clause-accepted
 returns-in_ok-report_later_flaws-in-Err-clause-accepted g c = λ h.
-    inr (inl (c.in-Err.flaw, c.in-Err.ensures.flaw, subst (λ (z : Flaw). Allows c.args.job (flaw_id z.kind))
-    c.after-later.ensures.flaw (c.in_ok-is_allowed-in-Err.ensures (c.both.ensures h).0)))
+    inr (inl (
+      c.in-Err.flaw,
+      c.in-Err.ensures.flaw,
+      subst (λ (z : Flaw). Allows c.args.job (flaw_id z.kind))
+          c.after-later.ensures.flaw (c.in_ok-is_allowed-in-Err.ensures (c.both.ensures h).0),
+    ))

@@ -1,4 +1,3 @@
-use Rattle.std.proofs.Common.{refl}
 use Rattle.rl_files.specs.Walks.{visited}
 use Rattle.rl_scan.proofs.AcceptLemmas.{leads_end, leads_more, leads_start}
 use Rattle.rl_scan.proofs.FixLemmas.{fixes_both, fixes_none}
