@@ -10,7 +10,7 @@ use Rattle.rl_files.specs.Walks.{Visited, Visits, VisitsFirst, VisitsNone, Waypo
 use Rattle.rl_files.specs.declared.tree.PathError.{PathError}
 use Rattle.rl_files.specs.declared.tree.PathError.TheVariants.{OutOfMemory, PathNotUtf8}
 use Rattle.rl_files.specs.declared.walk.Selection.{Selection}
-use Rattle.rl_scan.specs.Accepted.{AcceptsAll, Allows, AreAccepted, HasFollowed, IsAccepted, IsAcceptedFile, IsAcceptedToken, IsAcceptedVisit, IsInCallAt, calls_after, end_id}
+use Rattle.rl_scan.specs.Accepted.{AcceptsAll, Allows, AreAccepted, HasFollowed, IsAcceptedLiteral, IsAcceptedFile, IsAcceptedToken, IsAcceptedVisit, IsInCallAt, calls_after, end_id}
 use Rattle.rl_scan.specs.declared.job.Job.{Job}
 
 all_join : {X : Type 0} (P : X → Type 0) (xs ys : List X) → AllByRecursion P xs → AllByRecursion P ys
@@ -95,13 +95,13 @@ read_passed job old new before passes (done, cuts, all) = (
 -- If the token of the code is a literal, it is accepted.
 abbrev AcceptsToken : Job → List ℕ → SourceToken → Type 0
 AcceptsToken job source token = IsLiteralText (source_view token.form) (chars token.text.now)
-    → IsAccepted job source token.lo token.text.now
+    → IsAcceptedLiteral job source token.lo token.text.now
 
 accepted_token : (job : Job) (source : List ℕ) (token : SourceToken) (w : CutSource) → IsBorrowedSource token w
     → AcceptsToken job source token → IsAcceptedToken job source w
 accepted_token job source token w is accepted = λ literal.
-    subst (IsAccepted job source w.at) (sym is.bytes_are)
-    (subst (λ z. IsAccepted job source z token.text.now) (sym is.lo_is)
+    subst (IsAcceptedLiteral job source w.at) (sym is.bytes_are)
+    (subst (λ z. IsAcceptedLiteral job source z token.text.now) (sym is.lo_is)
     (accepted (subst (λ z. IsLiteralText z (chars token.text.now)) is.kind_is
     (subst (IsLiteralText (source_kind w.token)) is.chars_are literal))))
 
@@ -124,7 +124,7 @@ read_more job old new token is before both (inl takes) accepted parts read =
     read_token job old new token is before both takes accepted parts read
 read_more job old new token is before both (inr t) accepted parts read =
     read_token job t.between new token is before both t.takes
-    (λ h literal. subst (λ z. IsAccepted job z token.lo token.text.now) (sym t.passes.same) (accepted h literal)) parts
+    (λ h literal. subst (λ z. IsAcceptedLiteral job z token.lo token.text.now) (sym t.passes.same) (accepted h literal)) parts
     (read_passed job old t.between before t.passes read)
 
 pub text_same : (old new : CursorState) (token : SourceToken)

@@ -83,8 +83,8 @@ is_since_2021 t = begins (codes "c\"") t || begins (codes "cr") t || begins (cod
 
 -- The literal at the byte offset `at` of the source is accepted: it is valid by Rust's grammar and has a type, or its first error is
 -- allowed, or it is read as several tokens in the edition of the call.
-abbrev pub IsAccepted : Job → List ℕ → ℕ → List ℕ → Type 0
-IsAccepted job source at text =
+abbrev pub IsAcceptedLiteral : Job → List ℕ → ℕ → List ℕ → Type 0
+IsAcceptedLiteral job source at text =
     ((reading : Reading) × IsReadingOf InFile false text reading × IsTyped job source at text reading)
     ⊎ ((flaw : Flaw) × ExplainsOf InFile false (chars text) flaw × Allows job (flaw_id flaw.kind))
     ⊎ ((year_of job.edition < 2021) × IsTrue (is_since_2021 (chars text)))
@@ -92,7 +92,7 @@ IsAccepted job source at text =
 -- If the token is a literal, it is accepted.
 abbrev pub IsAcceptedToken : Job → List ℕ → CutSource → Type 0
 IsAcceptedToken job source w = IsLiteralText (source_kind w.token) (source_text w.token)
-    → IsAccepted job source w.at (encode_utf8_all (source_text w.token))
+    → IsAcceptedLiteral job source w.at (encode_utf8_all (source_text w.token))
 
 -- The identifier of the error that ends a source.
 abbrev pub end_id : LexKind → List ℕ

@@ -8,7 +8,7 @@ ghost use Rattle.rl_strict.specs.Readings.{IsReadingOf};
 ghost use Rattle.rl_strict.specs.declared.line_ends.LineEnds.TheVariants.{File as InFile};
 ghost use Rattle.rl_flaws.specs.Before.{may_negate};
 ghost use Rattle.rl_flaws.specs.TypeErrors.{HasType};
-ghost use Rattle.rl_scan.specs.Accepted.{Allows, AreAccepted, HasTypeBy, IsAccepted, IsIdOfTypeError, IsTyped, IsUnderLimit, end_id, is_since_2021};
+ghost use Rattle.rl_scan.specs.Accepted.{Allows, AreAccepted, HasTypeBy, IsAcceptedLiteral, IsIdOfTypeError, IsTyped, IsUnderLimit, end_id, is_since_2021};
 
 use crate::failure::Failure;
 use crate::finding::{Fault, Finding, Place};
@@ -335,7 +335,7 @@ fn report_literal<'t, A: Allocator + Copy, W: Write>(
     token: SourceToken<'t>,
 ) -> Result<bool, Failure<A>>
     ensures accepted { IfOk result (λ accepted. IsTrue accepted
-        → IsAccepted job.entry follower.old token.entry.lo token.entry.text.now) }
+        → IsAcceptedLiteral job.entry follower.old token.entry.lo token.entry.text.now) }
     ensures same { OnOk result (follower.new ≡ follower.old) }
 {
     if job.edition.year() < 2021 && is_literal_since_2021(token.text) {
@@ -368,7 +368,7 @@ fn report_token<'t, A: Allocator + Copy, W: Write>(
 ) -> Result<bool, Failure<A>>
     ensures accepted { IfOk result (λ accepted. IsTrue accepted
         → IsLiteralText (source_view token.entry.form) (chars token.entry.text.now)
-        → IsAccepted job.entry follower.old token.entry.lo token.entry.text.now) }
+        → IsAcceptedLiteral job.entry follower.old token.entry.lo token.entry.text.now) }
     ensures same { OnOk result (follower.new ≡ follower.old) }
 {
     if token.is_literal() {

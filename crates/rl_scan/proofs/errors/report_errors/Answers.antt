@@ -1,5 +1,5 @@
 use Rattle.std.proofs.Common.{inl, inr, refl, subst, sym, ◌∙◌}
-use Rattle.rl_scan.specs.Accepted.{IsAccepted}
+use Rattle.rl_scan.specs.Accepted.{IsAcceptedLiteral}
 use Rattle.rl_scan.proofs.AcceptLemmas.{at_end, read_end, read_more, read_start, text_same}
 use Rattle.rl_scan.proofs.errors.report_errors.Goals as goal
 
@@ -19,7 +19,7 @@ loop-token-preserved g c =
       follows = c.in_ok-is_accepted.ensures.same ∙ old.invariant.follows ∙ sym same;
       read = read_more c.args.job old.tokens c.next_token.new.tokens c.in-Some.token c.in_ok-is_accepted.is_accepted
           old.are_accepted c.both-are_accepted.result c.in-Some.ensures.next
-          (λ h literal. subst (λ z. IsAccepted c.args.job z c.in-Some.token.lo c.in-Some.token.text.now)
+          (λ h literal. subst (λ z. IsAcceptedLiteral c.args.job z c.in-Some.token.lo c.in-Some.token.text.now)
           old.invariant.follows (c.in_ok-is_accepted.ensures.accepted h literal))
           c.both-are_accepted.ensures old.invariant.read;
     }
