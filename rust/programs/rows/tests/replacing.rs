@@ -133,7 +133,7 @@ fn a_text_is_read_in_pieces() {
     let rt = HostRuntime::new();
     let bytes = (Host { rt: &rt }).any_bytes(Global, path);
     assert!(bytes.is_ok_and(|bytes| bytes.as_slice() == text));
-    // This device has no end, and a text of so many random bytes is improbable.
+    // This device has no end. Its first random bytes are hardly UTF-8.
     let random = read("/dev/urandom");
     assert!(random.starts_with("not UTF-8 at byte "), "{random}");
 }
