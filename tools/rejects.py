@@ -11,6 +11,7 @@ import importlib.machinery
 import importlib.util
 import io
 import itertools
+import os
 import pathlib
 import sys
 import tempfile
@@ -97,12 +98,18 @@ TRIED += [(LINE, PLACE, f'{item}\n\n{PLACE}', said) for item, said in [
     *((f'fn odd() {{ {word}!(1) }}', f"macros: {{'{word}'}}") for word in MACROS),
 ]]
 
-# An output of the last eraser, and the reason why it is rejected.
-ERASERS = [
-    (lambda text: text, None),
-    (lambda text: text + 'odd', "added: 'odd'"),
-    (lambda text: text.replace('|c|', '|c| !'), "added: '!'"),
-    (lambda text: text.replace('pub fn xid_ok', 'fn pub xid_ok'), "added: 'pub'"),
+# A file, and a text of its source that the renderer changes by mistake. It must report the line.
+CHANGES = [
+    # Something is added. Two words, and two statements, change places.
+    (IDENT, 'false,', 'false odd,'), (IDENT, '|c| ', '|c| !'), (IDENT, 'pub fn xid_ok', 'fn pub xid_ok'),
+    (LINE, '    push(out, word)?;\n    push(out, " ")?;', '    push(out, " ")?;\n    push(out, word)?;'),
+    # An operand, a method, a match arm, a parameter or a statement is lost.
+    (IDENT, "first == '_' || ", ''), (IDENT, '.chars()', ''), (IDENT, '        None => false,\n', ''),
+    (IDENT, 'all_continue(text: &str', 'all_continue('), (IDENT, '    text.chars().all(|c| is_xid_continue(c))\n', ''),
+    (LINE, ' && byte < 127', ''), (LINE, '        Kind::Char => "Char",\n', ''), (LINE, 'return push', 'push'),
+    (LINE, '    push(out, shown)?;\n', ''), (LINE, '    out.push_str(piece)?;\n', ''), (LINE, '!= b\'"\'', '!= b\'\''),
+    # A text, a constant or an attribute is lost.
+    (LINE, '"Verbatim", text', '"", text'), (LINE, 'const END: &str = "\\" -\\n";\n', ''), (LINE, '#[inline(never)]\n', ''),
 ]
 
 
@@ -177,16 +184,31 @@ def try_texts(render):
             if file in (LINE, IDENT):
                 said = said_of(render_file, render, file)
             else:
-                said = said_of(lambda: render.Inlining().core(render.Uncalled().core(core)))
+                said = said_of(render.core_files, core)
         yield f'{file}: {new}', said, word
 
 
-def try_erasers(render):
-    """Tests words that an eraser adds."""
+def try_changes(render):
+    """Tests changes that the erasers make, and those that the lists of uncalled and inlined functions make."""
     last = render.erase_models
-    for eraser, word in ERASERS:
-        with mock.patch.object(render, 'erase_models', lambda text: eraser(last(text))):
-            yield f'an eraser before {word}', said_of(render_file, render, IDENT), word
+    for (file, old, new), is_tried in itertools.product(CHANGES, (False, True)):
+        source, crate = (TOP / file).read_text(), file.split('/')[1]
+        line = source[:source.index(old) + len(os.path.commonprefix([old, new]))].count('\n') + 1
+
+        def changed_text(text):
+            return text.replace(old, new, 1) if is_tried else text
+        with mock.patch.object(render, 'erase_models', lambda text: changed_text(last(text))):
+            said = said_of(render_file, render, file)
+        yield f'an eraser that writes {new!r} for {old!r} in {file}', said, f'{file}, line {line}: lost or added' if is_tried else None
+        if old.startswith('#'):
+            continue
+        part, listed = (render.rendered, render.core_files) if file == IDENT else (render.rendered_program, render.files_above)
+        with contextlib.ExitStack() as patched:
+            for owner, name in (render.Uncalled, 'core'), (render.Inlining, 'core'), (render.Uncalled, 'above'):
+                patched.enter_context(mock.patch.object(
+                    owner, name, lambda _, files: {name: changed_text(text) for name, text in files.items()}))
+            said = said_of(listed, {crate: part(crate, TOP / file)})
+        yield f'a list that writes {new!r} for {old!r} in {file}', said, 'lost or added' if is_tried else None
 
 
 def report_of(render):
@@ -219,7 +241,7 @@ def try_folders(render):
 
 def main():
     render, tried, wrong = render_itself(), 0, 0
-    for what, said, word in itertools.chain(try_texts(render), try_erasers(render), try_folders(render)):
+    for what, said, word in itertools.chain(try_texts(render), try_changes(render), try_folders(render)):
         tried += 1
         if said is not None if word is None else word not in (said or ''):
             wrong += 1
