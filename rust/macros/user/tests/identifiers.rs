@@ -1,4 +1,6 @@
 //! Compares the characters of identifiers with rustc's. The package has the tables of Unicode 18. Rust 1.95 has those of Unicode 17.
+//! Debug builds leave the comparison out, because it takes some seconds.
+#![cfg(not(debug_assertions))]
 
 use navyspindle::LitInt;
 use navyspindle_macros::identifier_sequences;
