@@ -87,6 +87,12 @@ def newer(text):
     return any(unicodedata.category(c) == 'Cn' or c in '\u200c\u200d\u30fb\uff65' for c in text)
 
 
+def replaced(data):
+    """Returns the text with a letter in place of each character that `newer` finds. A difference that remains has another cause."""
+    text = data.decode(errors='surrogateescape')
+    return ''.join('\u00e9' if newer(c) else c for c in text).encode(errors='surrogateescape')
+
+
 def is_big(line):
     """Whether a line of syn's is about an integer above 128 bits."""
     words = line.split(b' ')
@@ -259,9 +265,11 @@ def kind_of(command, their, our):
     return 'places' if command == 'skip' else our.split(b' ', 1)[0].decode()
 
 
-def compare(report, command, texts, theirs, ours):
-    """Compares the results of two programs for the texts, for one command. If a lexer rejects a text, our program may reject it for
-    any reason."""
+def compare(report, command, texts, ask):
+    """Compares the results of two programs for the texts, for one command. `ask` returns both programs' results. If a lexer rejects a
+    text, our program may reject it for any reason. If a difference is listed only because of a newer character, the results without
+    this character are compared, too."""
+    others, (theirs, ours) = [], ask(texts)
     rejected = (b'unlexed',) if command in OF_RUSTC else (b'rejected', b'unlexed')
     for data, their, our in zip(texts, theirs, ours):
         # A byte literal that rustc rejects must be `Verbatim` here, so equal results are a difference.
@@ -270,6 +278,9 @@ def compare(report, command, texts, theirs, ours):
             report.agreeing[command, kind_of(command, their, our)] += 1
         elif known := listed(command, data, their, our):
             report.listed[command, known] += 1
+            others += [replaced(data)] if known == NEWER else []
         else:
             report.differs(command, data, their, our)
     report.compared += len(texts)
+    if others:
+        compare(report, command, others, ask)

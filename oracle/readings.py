@@ -47,7 +47,7 @@ def compare(asked, report):
     for name, batch in texts.fresh_batches(asked, filter(about.get, names)):
         count += len(batch)
         for command in about[name]:
-            listed.compare(report, command, batch, others[command](batch), frame.of_rows(asked.rl_rows, command, batch))
+            listed.compare(report, command, batch, lambda of: (others[command](of), frame.of_rows(asked.rl_rows, command, of)))
     return count
 
 

@@ -155,10 +155,13 @@ def compare_model(asked, report, answers, data):
     for command, line_of in COMMANDS.items():
         models = [line_of(text) for text in texts]
         lines = frame.of_rows(asked.rl_answers, command, data)
+        newer = [text for text, model, line in zip(texts, models, lines) if model != line and listed.newer(text)]
         for text, it, model, line in zip(texts, data, models, lines):
-            report.judge(command, it, model, line, listed.NEWER if model != line and listed.newer(text) else None)
+            report.judge(command, it, model, line, listed.NEWER if text in newer else None)
         if command == 'explain':
             answers.update(zip(texts, lines))
+        if newer:
+            compare_model(asked, report, {}, [listed.replaced(text.encode()) for text in newer])
 
 
 def stored_texts():

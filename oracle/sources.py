@@ -205,19 +205,27 @@ class Sides:
         """Compares the results for these sources, with a process of rl_scan for each, or in bulk."""
         cuts = self.cuts(datas)
         our = self.ours(datas, each)
-        newer = lambda data, applies=True: listed.NEWER if applies and listed.newer(data.decode(errors='replace')) else None
+        others = {}
+
+        def newer(name, data, applies=True):
+            if applies and listed.newer(data.decode(errors='replace')):
+                others[listed.replaced(data)] = name
+                return listed.NEWER
+            return None
         for name, data, cut, answer in zip(names, datas, cuts, our):
             self.sources, self.report.compared = self.sources + 1, self.report.compared + sum(line[:1].isdigit() for line in answer)
-            self.judge('model', name, data, self.lines(cut), answer, lambda: newer(data))
+            self.judge('model', name, data, self.lines(cut), answer, lambda: newer(name, data))
         for words in WORDS if each else ():
             side, wide = 'rl_scan ' + ' '.join(words), '--no-stray' in words
             for name, data, cut, answer, lines in zip(names, datas, cuts, our, self.scanned(datas, *words)):
-                self.judge(side, name, data, under(words, data, answer, cut), lines, lambda: newer(data, wide), by_line=False)
+                self.judge(side, name, data, under(words, data, answer, cut), lines, lambda: newer(name, data, wide), by_line=False)
         for name, data, (their, edition), answer in zip(names, datas, self.theirs(datas) if rustc else (), our):
             if their is None:
                 self.report.agreeing['rustc', 'rejected: ' + told_words(edition)] += 1
             else:
                 self.judge('rustc, edition ' + edition, name, data, their, answer, lambda: cut_listed(data, edition, their, answer))
+        if others:
+            self.compare([*others], [*others.values()], each, rustc=False)
 
     def compare_front(self, text):
         """Compares a first line, which rustc may treat as a line for an interpreter. An attribute in the first line would remove the
@@ -239,8 +247,8 @@ def compare_files(asked, report):
     literals = [text.encode() for text in sides.known]
     print('%d files, %d lines; %d different literals' % (sides.sources, report.compared, len(literals)), flush=True)
     for batch, command in itertools.product(frame.batches(literals), ('text', 'int', 'float', 'value', 'strict')):
-        theirs = sides.lexer.answers(command, batch) if command == 'strict' else syn(asked.path, command, batch)
-        listed.compare(report, command, batch, theirs, frame.of_rows(asked.rl_rows, command, batch))
+        ask = functools.partial(sides.lexer.answers if command == 'strict' else functools.partial(syn, asked.path), command)
+        listed.compare(report, command, batch, lambda of: (ask(of), frame.of_rows(asked.rl_rows, command, of)))
     return sides.sources
 
 

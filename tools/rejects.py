@@ -11,6 +11,7 @@ import importlib.machinery
 import importlib.util
 import io
 import itertools
+import os
 import pathlib
 import sys
 import tempfile
@@ -21,14 +22,19 @@ sys.dont_write_bytecode = True
 TOP = pathlib.Path(__file__).resolve().parent.parent
 LINE, BARE = 'crates/rl_program/src/line.rt', 'bytes.iter().all('
 IDENT, ALL = 'crates/rl_syntax/src/ident.rt', 'text.chars().all('
+DEEP = 'crates/rl_attributes/src/attributes/name.rt'
 UNCALLED, INLINING = 'tools/uncalled.txt', 'tools/inlining.txt'
 # A file, a text in it, the text that replaces it, and a word of the error (None: the change is accepted).
 TRIED = [(LINE, BARE, f'bytes{call}.iter().all(', word) for call, word in [
-    ('', None), ('.to_vec()', 'to_vec'), ('.frobnicate()', 'frobnicate'), ('.clone()', 'clone')]]
-TRIED += [(LINE, BARE, f'{call}(bytes).iter().all(', word) for call, word in [
-    ('u8::from_str_radix', 'u8::from_str_radix'), ('Box::new', 'Box')]]
+    ('', None), ('.to_vec()', 'to_vec'), ('.frobnicate()', 'frobnicate'), ('.frobnicate::<u8>()', 'frobnicate'),
+    ('.to_vec::<u8>()', 'to_vec'), ('. frobnicate()', 'frobnicate'), ('\n    .frobnicate()', 'frobnicate')]]
+TRIED += [(LINE, BARE, f'{call}(bytes).iter().all(', word or call) for call, word in [
+    *((f'{name}::odd', None) for name in ('str', 'char', 'bool', 'usize', 'isize', *(f'{sign}{bits}' for sign in 'iu' for bits in (8, 16, 32, 64, 128)))),
+    ('u8::from_str_radix', None), ('str::from_utf8_mut', None), ('u64::from_le', None), ('u128::pow', None), ('Box::new', 'Box')]]
 TRIED += [(IDENT, ALL, f'{text}.chars().all(', word) for text, word in [
     ('text', None), ('text.to_lowercase()', 'to_lowercase'), ('String::new(text)', 'String')]]
+# A file in a folder of its crate.
+TRIED += [(DEEP, 'impl', 'impl', None), (DEEP, '\nimpl', '\nunsafe impl', "{'unsafe'}")]
 # Entries of the list of uncalled items whose file, function, method, module or variant doesn't exist; lines that aren't entries.
 TRIED += [(UNCALLED, *change) for change in [
     ('body_unit', 'body_unit', None), ('kind.rs Kind::description', 'kinds.rs Kind::description', 'kinds.rs'),
@@ -67,12 +73,35 @@ WORDS = {
 }
 CORE_MEMORY = ['Allocator', 'AllocError', 'Global', 'String', 'Vec', 'Box']
 RUSTS_OWN = ['Box', 'Rc', 'Arc', 'Cow', 'ToString', 'ToOwned']
-CORE_MACROS = ['assert', 'format', 'write', 'vec', 'include', 'panic', 'println', 'prove']
-MACROS = ['assert', 'include', 'panic', 'println', 'dbg', 'env']
+# Macros of Rust's std that no file may use, and those that only the core may not use.
+MACROS = """assert assert_eq assert_ne cfg column compile_error concat dbg debug_assert debug_assert_eq env eprint eprintln file format_args
+    include include_bytes include_str line module_path option_env panic print println stringify thread_local todo
+    unimplemented""".split()
+CORE_MACROS = [*MACROS, 'format', 'write', 'writeln', 'vec', 'prove']
 CORE_IMPLS = {
     'Clone': 'impl Clone for Odd {\n}', 'Drop': 'impl<T> core::ops::Drop for Odd<T> {\n}', 'From': 'impl From<u8> for Odd {\n}',
     'PartialEq': 'impl<T: Fn(u8) -> u8> PartialEq<Odd<T>> for Odd<T> {\n}', 'Add': 'impl<T>\nops::Add<T>\nfor Odd {\n}',
+    **{name: f'impl {name} for Odd {{\n}}' for name in ('Hash', 'Ord', 'PartialOrd', 'Eq', 'Deref', 'DerefMut', 'Not', 'Neg', 'Default', 'AsRef',
+                                                        'Borrow', 'Debug', 'TryFrom', 'IntoIterator', 'Hasher', 'Write', 'FromStr')},
 }
+# Code that both languages accept, but with another meaning, each with the reason why it is rejected: a row for each line of the lists
+# of the kit's pages FROM_RUST.md and MACROS.md, and for the two cases of LANGUAGE.md. The reason of the macros is in the rows above.
+SILENT = [
+    ('fn odd() { v.iter().map(|s| s.clone()) }', '`clone()`'), ('fn odd() { v.iter().map(Clone::clone) }', '`clone()`'),
+    ('fn odd() { s . clone ( ) }', '`clone()`'), ('fn odd() -> Result<(), fmt::Error> {\n}', '`fmt::Error`'),
+    ('fn odd() -> anyhow::Error {\n}', "{'anyhow'}"), ('use anyhow::Error;', "{'anyhow'}"),
+    ('fn odd() { thread::spawn(rt, odd) }', "{'thread'}"), ('fn odd() { odd.try_send(1) }', "{'try_send'}"),
+    ('fn odd() { odd.try_recv() }', "{'try_recv'}"), ('fn odd() { (250u8..).take(9) }', 'a range without an end'),
+    ('fn odd() { for n in 250u8.. {\n} }', 'a range without an end'), ('fn odd() { let all = 250u8..; }', 'a range without an end'),
+    ('impl<T> Odd<&T> {\n}', 'some arguments'), ("impl<'a, T> Odd<&'a T> {\n}", 'some arguments'),
+    ('fn odd<T: Index<usize>>(w: W<T::Output>) {}', "{'Index'}"), ('impl<T> A for Once<T> {\n}', 'some arguments'),
+    ('impl A for num::TryFromIntError {\n}', 'some arguments'), ('impl A for Infallible {\n}', 'some arguments'),
+    ('impl<X: Clone> A for X {\n}', 'an impl for all types'), ('fn odd() { size_of::<fn()>() }', "{'size_of'}"),
+    ('trait Odd {\n    fn odd();\n    fn len(&self) -> usize;\n}', 'a method of a trait'),
+    ('fn odd() { if let (E::A([p, q]), Some(r)) = (x, y) {\n} }', 'an array in a pattern'),
+    ('fn odd() { while let Some([p, q]) = x {\n} }', 'an array in a pattern'), ('fn odd() { S { a: 1, ..v[i] } }', 'other fields'),
+    ('impl<T> Drop for Odd<T> {\n}', 'an impl of `Drop`'),
+]
 LEFT = {
     **{f"{{'{word}'}}": f'fn {word}() {{}}' for word in ('ghost', 'requires', 'ensures')}, "{'Model'}": 'fn odd(it: Model) {}',
     'True': 'fn \u00e9() {}',
@@ -94,15 +123,22 @@ TRIED += [(IDENT, CORE_PLACE, f'{item}\n\n{CORE_PLACE}', said) for item, said in
 TRIED += [(LINE, PLACE, f'{item}\n\n{PLACE}', said) for item, said in [
     *BOTH, *((item, None) for item in FINE),
     *((f'fn odd(it: {word}) {{}}', f"rejected: {{'{word}'}}") for word in RUSTS_OWN),
-    *((f'fn odd() {{ {word}!(1) }}', f"macros: {{'{word}'}}") for word in MACROS),
+    *((f'fn odd() {{ {word}!(1) }}', f"macros: {{'{word}'}}") for word in MACROS), *SILENT,
+    ('fn odd() { line![] }', "macros: {'line'}"), ('fn odd() { concat! { } }', "macros: {'concat'}"),
 ]]
 
-# An output of the last eraser, and the reason why it is rejected.
-ERASERS = [
-    (lambda text: text, None),
-    (lambda text: text + 'odd', "added: 'odd'"),
-    (lambda text: text.replace('|c|', '|c| !'), "added: '!'"),
-    (lambda text: text.replace('pub fn xid_ok', 'fn pub xid_ok'), "added: 'pub'"),
+# A file, and a text of its source that the renderer changes by mistake. It must report the line.
+CHANGES = [
+    # Something is added. Two words, and two statements, change places.
+    (IDENT, 'false,', 'false odd,'), (IDENT, '|c| ', '|c| !'), (IDENT, 'pub fn xid_ok', 'fn pub xid_ok'),
+    (LINE, '    push(out, word)?;\n    push(out, " ")?;', '    push(out, " ")?;\n    push(out, word)?;'),
+    # An operand, a method, a match arm, a parameter or a statement is lost.
+    (IDENT, "first == '_' || ", ''), (IDENT, '.chars()', ''), (IDENT, '        None => false,\n', ''),
+    (IDENT, 'all_continue(text: &str', 'all_continue('), (IDENT, '    text.chars().all(|c| is_xid_continue(c))\n', ''),
+    (LINE, ' && byte < 127', ''), (LINE, '        Kind::Char => "Char",\n', ''), (LINE, 'return push', 'push'),
+    (LINE, '    push(out, shown)?;\n', ''), (LINE, '    out.push_str(piece)?;\n', ''), (LINE, '!= b\'"\'', '!= b\'\''),
+    # A text, a constant or an attribute is lost.
+    (LINE, '"Verbatim", text', '"", text'), (LINE, 'const END: &str = "\\" -\\n";\n', ''), (LINE, '#[inline(never)]\n', ''),
 ]
 
 
@@ -110,6 +146,12 @@ def change_modules(folder, change):
     """Changes the list of modules of the folder."""
     path = folder / 'mod.rs'
     path.write_text(change(path.read_text()))
+
+
+def write(path):
+    """Writes an empty file, and the folders that it is in."""
+    path.parent.mkdir(parents=True)
+    path.write_text('')
 
 
 def linked(folder):
@@ -133,6 +175,7 @@ FOLDERS = [
     (lambda folder: change_modules(folder, lambda text: text.replace('pub mod', '#[path = "../odd/mod.rs"]\npub mod', 1)), 'mod.rs'),
     (lambda folder: change_modules(folder, lambda text: text.rsplit('pub mod', 1)[0]), 'mod.rs'),
     (linked, 'mod.rs'),
+    (lambda folder: write(folder / 'odd/odd/odd.rs'), 'odd/odd/odd.rs'),
 ]
 
 
@@ -176,17 +219,34 @@ def try_texts(render):
         with changed(file, old, new):
             if file in (LINE, IDENT):
                 said = said_of(render_file, render, file)
+            elif file == DEEP:
+                said = said_of(render.files_of, ['rl_attributes'], render.rendered_program)
             else:
-                said = said_of(lambda: render.Inlining().core(render.Uncalled().core(core)))
+                said = said_of(render.core_files, core)
         yield f'{file}: {new}', said, word
 
 
-def try_erasers(render):
-    """Tests words that an eraser adds."""
+def try_changes(render):
+    """Tests changes that the erasers make, and those that the lists of uncalled and inlined functions make."""
     last = render.erase_models
-    for eraser, word in ERASERS:
-        with mock.patch.object(render, 'erase_models', lambda text: eraser(last(text))):
-            yield f'an eraser before {word}', said_of(render_file, render, IDENT), word
+    for (file, old, new), is_tried in itertools.product(CHANGES, (False, True)):
+        source, crate = (TOP / file).read_text(), file.split('/')[1]
+        line = source[:source.index(old) + len(os.path.commonprefix([old, new]))].count('\n') + 1
+
+        def changed_text(text):
+            return text.replace(old, new, 1) if is_tried else text
+        with mock.patch.object(render, 'erase_models', lambda text: changed_text(last(text))):
+            said = said_of(render_file, render, file)
+        yield f'an eraser that writes {new!r} for {old!r} in {file}', said, f'{file}, line {line}: lost or added' if is_tried else None
+        if old.startswith('#'):
+            continue
+        part, listed = (render.rendered, render.core_files) if file == IDENT else (render.rendered_program, render.files_above)
+        with contextlib.ExitStack() as patched:
+            for owner, name in (render.Uncalled, 'core'), (render.Inlining, 'core'), (render.Uncalled, 'above'):
+                patched.enter_context(mock.patch.object(
+                    owner, name, lambda _, files: {name: changed_text(text) for name, text in files.items()}))
+            said = said_of(listed, {crate: part(crate, TOP / file)})
+        yield f'a list that writes {new!r} for {old!r} in {file}', said, 'lost or added' if is_tried else None
 
 
 def report_of(render):
@@ -219,7 +279,7 @@ def try_folders(render):
 
 def main():
     render, tried, wrong = render_itself(), 0, 0
-    for what, said, word in itertools.chain(try_texts(render), try_erasers(render), try_folders(render)):
+    for what, said, word in itertools.chain(try_texts(render), try_changes(render), try_folders(render)):
         tried += 1
         if said is not None if word is None else word not in (said or ''):
             wrong += 1

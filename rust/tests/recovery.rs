@@ -1,6 +1,6 @@
 //! Tests of the literals after an error in a source. Hostile texts must not take more time per byte if they are long.
 
-use navyspindle::{source, Recover};
+use navyspindle::{parse_list, source, Recover};
 use std::time::{Duration, Instant};
 use std::{fs, thread};
 
@@ -83,6 +83,24 @@ fn clones() {
             shown(items.recover()),
             "{text:?}"
         );
+    }
+}
+
+/// The same for lists: after a literal, after the last one, after an error, and at the end.
+#[test]
+fn clones_of_lists() {
+    for (text, count) in [("1 2", 2), ("1 word", 2), ("1 (2", 2), ("", 0)] {
+        let mut items = parse_list(text);
+        for taken in 0..=count {
+            let mut copy = items.clone();
+            assert_eq!(format!("{copy:?}"), format!("{items:?}"), "{text:?}");
+            assert_eq!(copy.by_ref().count(), count - taken, "{text:?}");
+            assert!(
+                copy.next().is_none() && copy.clone().next().is_none(),
+                "{text:?}"
+            );
+            assert_eq!(items.next().is_some(), taken < count, "{text:?}");
+        }
     }
 }
 

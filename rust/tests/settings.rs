@@ -58,6 +58,15 @@ fn numbers_are_judged_as_the_types_own_literals() {
     assert_eq!(error.to_string(), words);
 }
 
+/// An integer without a suffix that is too large for `f32`: the error is at the number.
+#[test]
+fn an_integer_out_of_range_of_a_float() {
+    let text = "a = 340282366920938463463374607431768211455";
+    let read = Settings::read(text).expect("settings");
+    let error = read.number::<f32>(Key::new("a", "")).unwrap_err();
+    assert_eq!(error.range(), 4..text.len());
+}
+
 #[test]
 fn the_first_unknown_name_is_reported() {
     let read = Settings::read("a = 1, port = 2, Port = 3, por = 4, ports = 5").expect("settings");

@@ -2,6 +2,8 @@
 
 mod attributes;
 mod growth;
+mod identifiers;
+mod kept;
 mod places;
 mod written;
 
@@ -482,4 +484,16 @@ pub fn checked_digits(input: TokenStream) -> TokenStream {
 #[proc_macro]
 pub fn checked_text(input: TokenStream) -> TokenStream {
     or_error(places::without_brace(input))
+}
+
+/// Returns the list of `identifiers::sequences`.
+#[proc_macro]
+pub fn identifier_sequences(_: TokenStream) -> TokenStream {
+    tokens_of(&identifiers::sequences())
+}
+
+/// Returns the list of `kept::changed`.
+#[proc_macro]
+pub fn changed(_: TokenStream) -> TokenStream {
+    tokens_of(&format!("[{}]", kept::changed()))
 }

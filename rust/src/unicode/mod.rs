@@ -1,4 +1,4 @@
-//! Tests whether a character can begin or continue an identifier, by Unicode's properties XID_Start and XID_Continue.
+//! Tests whether a character can begin or continue an identifier, by the properties XID_Start and XID_Continue of Unicode 18.
 
 mod runs;
 

@@ -1,9 +1,9 @@
 //! Tests of literals that rustc passes to procedural macros.
 
 use navyspindle_macros::{
-    again, byte_errors, digits, entries_of, errors_of_tokens, hex_bytes, joined_slashes, literals,
-    made_errors, named, only_string, placed, printed, settings, slow_calls, small, strings,
-    strings_errors, sum, sum_error, text, whole, whole_string, without_brace, written,
+    again, byte_errors, changed, digits, entries_of, errors_of_tokens, hex_bytes, joined_slashes,
+    literals, made_errors, named, only_string, placed, printed, settings, slow_calls, small,
+    strings, strings_errors, sum, sum_error, text, whole, whole_string, without_brace, written,
 };
 use std::ffi::CStr;
 use std::fmt::Debug;
@@ -470,4 +470,10 @@ fn settings_by_name() {
 #[test]
 fn the_time_grows_with_the_input() {
     assert_eq!(slow_calls!(), "");
+}
+
+#[test]
+fn values_keep_their_state() {
+    let changed: [&str; 0] = changed!();
+    assert!(changed.is_empty());
 }

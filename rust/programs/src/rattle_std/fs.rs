@@ -164,8 +164,8 @@ pub fn remove_file<R: Files>(_rt: &R, path: &str) -> Result<()> {
 ///
 /// A read returns one name. Rattle's reads return as many names as the buffer has room for, also `.` and `..`. If the directory is
 /// removed, there are no more names.
-pub struct Dir {
-    entries: std::fs::ReadDir,
+pub struct Dir<I = std::fs::ReadDir> {
+    entries: I,
     /// The number of bytes that a memory check reserves for the path of an entry.
     room: usize,
 }
@@ -186,7 +186,14 @@ impl Dir {
     }
 }
 
-impl Read for Dir {
+impl<I> Dir<I> {
+    /// Returns a directory with the given entries, for tests.
+    pub fn of(entries: I) -> Dir<I> {
+        Dir { entries, room: 0 }
+    }
+}
+
+impl<I: Iterator<Item = std::io::Result<std::fs::DirEntry>>> Read for Dir<I> {
     fn read(&mut self, buf: &mut [u8]) -> Result<usize> {
         if !has_room(self.room) {
             return Err(Error::of(ErrorKind::OutOfMemory));

@@ -3,25 +3,19 @@
 
 use crate::rl_lexer::{Form, LexError, LexKind, Tokens, is_opener};
 
-/// The maximum number of nested groups.
 const MAX_OPEN: usize = 128;
 
-/// A group that is open: its opening delimiter and its position.
 #[derive(Clone, Copy)]
 struct Opened {
-    /// The opening delimiter of the group: `(`, `[` or `{`.
     opener: char,
-    /// The byte offset of the group's opening delimiter.
     at: usize,
 }
 
-/// The groups that are open, innermost first. They are the last elements of the array, from the index `start` on.
 struct Groups {
     groups: [Opened; MAX_OPEN],
     start: usize,
 }
 
-/// Whether the delimiter `closer` closes a group that `opener` opens.
 #[inline]
 fn is_pair(opener: char, closer: char) -> bool {
     match opener {
@@ -33,7 +27,6 @@ fn is_pair(opener: char, closer: char) -> bool {
 }
 
 impl Groups {
-    /// Creates the state without open groups.
     #[inline]
     fn new() -> Groups {
         Groups {
@@ -42,7 +35,6 @@ impl Groups {
         }
     }
 
-    /// Returns the innermost open group, or `None` if no group is open.
     #[inline]
     fn innermost(&self) -> Option<Opened> {
         if self.start >= MAX_OPEN {
@@ -51,7 +43,6 @@ impl Groups {
         Some(self.groups[self.start])
     }
 
-    /// Opens a group inside the open ones. Returns `false`, and opens no group, if 128 groups are open already.
     #[inline]
     fn open_group(&mut self, opener: char, at: usize) -> bool {
         if self.start == 0 {
@@ -62,7 +53,6 @@ impl Groups {
         true
     }
 
-    /// Closes the innermost open group if `closer` is its closing delimiter. Returns whether the group was closed.
     #[inline]
     fn close_group(&mut self, closer: char) -> bool {
         if self.start >= MAX_OPEN {
@@ -75,8 +65,6 @@ impl Groups {
         true
     }
 
-    /// Updates the open groups for a token of the form `form` at the byte offset `at`. Returns the kind of error if the token
-    /// is a delimiter that the open groups don't allow.
     #[inline]
     fn pass(&mut self, form: Form, at: usize) -> Option<LexKind> {
         let Form::Delimiter(c) = form else {
@@ -95,7 +83,6 @@ impl Groups {
         }
     }
 
-    /// Returns the error for a text that ends while a group is open, or `None` if no group is open.
     #[inline]
     fn error_at_end(&self) -> Option<LexError> {
         match self.innermost() {
@@ -105,11 +92,6 @@ impl Groups {
     }
 }
 
-/// Returns the first error of a text's tokens and groups, or `None` if the text has none.
-///
-/// The possible errors are the lexer's errors, a group with a wrong closing delimiter, and a group inside 128 others. If the
-/// text has none of these errors, and groups are open at its end, the error is the innermost open group. `lex` of `rl_tokens`
-/// returns this error too. Nothing is allocated.
 #[inline]
 pub fn first_error(text: &str) -> Option<LexError> {
     let mut tokens = Tokens::new(text);

@@ -4,14 +4,12 @@
 use crate::rl_cursors::next_literals::{ListStep, next_list_literal};
 use crate::rl_lexer::Tokens;
 
-/// A cursor over the literals of a list. It never allocates.
 pub struct ListLiterals<'t> {
     tokens: Tokens<'t>,
     is_done: bool,
 }
 
 impl<'t> ListLiterals<'t> {
-    /// Creates the cursor at the start of a text.
     pub fn new(text: &'t str) -> ListLiterals<'t> {
         ListLiterals {
             tokens: Tokens::new(text),
@@ -19,9 +17,6 @@ impl<'t> ListLiterals<'t> {
         }
     }
 
-    /// Returns the next literal, which is consumed, or the error of the list, or its end.
-    ///
-    /// After an error, all further results are [`ListStep::End`].
     #[inline(always)]
     pub fn next(&mut self) -> ListStep<'t> {
         if self.is_done {
@@ -34,7 +29,6 @@ impl<'t> ListLiterals<'t> {
         step
     }
 
-    /// Returns a copy of the cursor. The two cursors advance independently.
     pub fn fork(&self) -> ListLiterals<'t> {
         ListLiterals {
             tokens: self.tokens.fork(),
@@ -42,7 +36,6 @@ impl<'t> ListLiterals<'t> {
         }
     }
 
-    /// Returns the rest of the text, which begins with the next literal, or with the list's error.
     pub fn rest(&self) -> &'t str {
         self.tokens.rest()
     }

@@ -5,54 +5,34 @@ use crate::rl_lenient::found::parse_bool_literal;
 use crate::rl_lenient::{Found, parse_literal, parse_with_added_minus};
 use crate::rl_lexer::{Form, LexKind, Lexeme, Tokens};
 
-/// The next literal of a list: its token, the minus before it, and its parse result. The token may be an invalid
-/// literal, which has no parse result.
 #[derive(Clone, Copy)]
 pub struct NextLiteral<'t> {
-    /// The literal's token, without the minus before it.
     pub token: Lexeme<'t>,
-    /// The byte offset of the minus before a number, or `None` without a minus.
     pub minus_at: Option<usize>,
-    /// The literal's parse result, or `None` if the token is an invalid literal.
-    ///
-    /// With a minus, the byte offsets in the result count from the minus, as if it were directly before the number.
     pub found: Option<Found>,
 }
 
-/// The reason why a list doesn't continue with a literal.
 #[derive(Clone, Copy, PartialEq, Eq, Debug)]
 pub enum RejectionKind {
-    /// An error of the lexer: no token begins at this position.
     Lex(LexKind),
-    /// The next token is an opening delimiter. A list of literals contains no groups.
     Group,
-    /// The next token is a closing delimiter, although no group is open.
     UnmatchedClose,
-    /// The next token is an identifier or a punctuation character that doesn't begin a literal, as `a` or `+`.
     NotALiteral,
 }
 
-/// An error of a list where a literal was expected: its kind, and its byte offset.
 #[derive(Clone, Copy, PartialEq, Eq, Debug)]
 pub struct Rejection {
-    /// The kind of the error.
     pub kind: RejectionKind,
-    /// The byte offset of the error in the whole text.
     pub at: usize,
 }
 
-/// The result of [`next_list_literal`], which advances over a list of literals by one literal.
 #[derive(Clone, Copy)]
 pub enum ListStep<'t> {
-    /// The end of the list.
     End,
-    /// The next literal, which was consumed.
     Literal(NextLiteral<'t>),
-    /// An error of the list. No token was consumed.
     Rejected(Rejection),
 }
 
-/// Creates a literal without a minus, from its token and its parse result.
 #[inline(always)]
 fn alone<'t>(token: Lexeme<'t>, found: Option<Found>) -> NextLiteral<'t> {
     NextLiteral {
@@ -62,8 +42,6 @@ fn alone<'t>(token: Lexeme<'t>, found: Option<Found>) -> NextLiteral<'t> {
     }
 }
 
-/// Consumes the next literal of a list, which is one or two tokens, and returns it. If another token or the end
-/// follows, the result is `None`, and up to two tokens may be consumed nevertheless.
 #[cfg_attr(debug_assertions, inline)]
 #[cfg_attr(not(debug_assertions), inline(always))]
 fn take_literal<'t>(tokens: &mut Tokens<'t>) -> Option<NextLiteral<'t>> {
@@ -90,10 +68,6 @@ fn take_literal<'t>(tokens: &mut Tokens<'t>) -> Option<NextLiteral<'t>> {
     }
 }
 
-/// Consumes the next literal of a list and returns it. A literal is a literal token, valid or not; `true` or `false`;
-/// or a minus and a number that are parsed together.
-///
-/// Returns `None` if another token or the end follows. No token is consumed then.
 #[inline(always)]
 pub fn next_literal<'t>(tokens: &mut Tokens<'t>) -> Option<NextLiteral<'t>> {
     let mut ahead = tokens.fork();
@@ -102,7 +76,6 @@ pub fn next_literal<'t>(tokens: &mut Tokens<'t>) -> Option<NextLiteral<'t>> {
     Some(literal)
 }
 
-/// Returns the reason why a token of the form `form` doesn't begin a literal.
 fn token_rejection(form: Form) -> RejectionKind {
     match form {
         Form::Delimiter('(' | '[' | '{') => RejectionKind::Group,
@@ -111,7 +84,6 @@ fn token_rejection(form: Form) -> RejectionKind {
     }
 }
 
-/// Returns the error of a list at the cursor's position, where neither a literal nor the end of the text follows.
 #[inline(never)]
 fn rejection_at(tokens: &Tokens<'_>) -> Rejection {
     if let Some(error) = tokens.error() {
@@ -129,8 +101,6 @@ fn rejection_at(tokens: &Tokens<'_>) -> Rejection {
     }
 }
 
-/// Consumes the next literal of a list as [`next_literal`] does, and returns it. If another token, an error or the end
-/// of the list follows, consumes nothing, and returns the list's error or end. Nothing is allocated.
 #[inline(always)]
 pub fn next_list_literal<'t>(tokens: &mut Tokens<'t>) -> ListStep<'t> {
     if tokens.rest().is_empty() {

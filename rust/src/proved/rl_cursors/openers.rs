@@ -4,17 +4,12 @@
 use crate::rl_syntax::classes::skip_hashes;
 use crate::rl_syntax::text::{before, split_ascii, strip_byte};
 
-/// The opening delimiter of a string, without its prefix `b` or `c`.
 #[derive(Clone, Copy)]
 pub(crate) enum Opener {
-    /// A double quote, without `r`.
     Quoted,
-    /// The prefix `r` of a raw string, this number of hashes, and a double quote.
     Raw(usize),
 }
 
-/// Returns the opening delimiter of a string at the start of the text, optionally after the prefix `b` or `c`, and the text
-/// after it.
 pub(crate) fn split_opener(text: &str) -> Option<(Opener, &str)> {
     match split_ascii(text) {
         Some((b'b', following)) => split_bare_opener(following),
@@ -23,7 +18,6 @@ pub(crate) fn split_opener(text: &str) -> Option<(Opener, &str)> {
     }
 }
 
-/// Returns the opening delimiter of a string at the start of the text, without a prefix, and the text after it.
 fn split_bare_opener(text: &str) -> Option<(Opener, &str)> {
     match split_ascii(text) {
         Some((b'"', body)) => Some((Opener::Quoted, body)),
@@ -32,7 +26,6 @@ fn split_bare_opener(text: &str) -> Option<(Opener, &str)> {
     }
 }
 
-/// Returns the opening delimiter of a raw string, whose `r` is before the text, and the text after the opening quote.
 fn split_raw_opener(text: &str) -> Option<(Opener, &str)> {
     let quote = skip_hashes(text);
     let body = strip_byte(quote, b'"')?;

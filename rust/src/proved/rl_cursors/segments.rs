@@ -8,45 +8,29 @@ use crate::rl_lenient::parse_literal;
 use crate::rl_syntax::Kind;
 use crate::rl_syntax::text::{before, split_char};
 
-/// The value of a segment, which is a part of the text between a literal's quotes.
 #[derive(Clone, Copy)]
 pub enum SegmentValue<'t> {
-    /// Plain characters, which are their own value. The sequence is as long as possible.
     Text(&'t str),
-    /// In a literal of characters, the character of an escape, or the LF of a line end CR LF. In a literal of bytes,
-    /// only the character of an escape `\u{..}`.
     Char(char),
-    /// In a literal of bytes, the byte of any escape except `\u{..}`, or the LF of a line end CR LF.
     Byte(u8),
-    /// The empty value of an escaped line end: of a backslash, a line end and the white space after it.
     Nothing,
 }
 
-/// A part of the text between a literal's quotes: its range and its value.
 #[derive(Clone, Copy)]
 pub struct Segment<'t> {
-    /// The byte offset in the literal's text where the segment begins.
     pub lo: usize,
-    /// The byte offset in the literal's text after the segment's last byte.
     pub hi: usize,
-    /// The segment's decoded value.
     pub value: SegmentValue<'t>,
 }
 
-/// An iterator over the segments of a quoted literal, from its opening to its closing quote. Each segment is a sequence
-/// of plain characters or one escape, with its range and its value.
-///
-/// The body of a raw literal is one segment. All offsets are in bytes of the literal's text. Nothing is allocated.
 pub struct Segments<'t> {
     kind: Kind,
     plain: bool,
-    // The byte offset of the closing quote in the literal's text.
     end: usize,
     rest: &'t str,
 }
 
 impl<'t> SegmentValue<'t> {
-    /// Returns the length in bytes of the segment's value. Characters count as their UTF-8 bytes.
     #[inline(always)]
     pub fn len(self) -> usize {
         match self {
@@ -58,8 +42,6 @@ impl<'t> SegmentValue<'t> {
     }
 }
 
-/// Splits the text after the plain characters at its start. In a character or byte literal, at most one character is
-/// split off.
 #[inline(always)]
 fn split_run(kind: Kind, text: &str) -> (&str, &str) {
     if kind.is_string() {
@@ -71,8 +53,6 @@ fn split_run(kind: Kind, text: &str) -> (&str, &str) {
     }
 }
 
-/// Returns the value of an escape or a line end CR LF as the value of a segment, in a literal of the kind. In a literal
-/// of characters, a byte becomes a character.
 #[inline(always)]
 fn value_of<'t>(kind: Kind, piece: Piece) -> SegmentValue<'t> {
     match piece {
@@ -83,8 +63,6 @@ fn value_of<'t>(kind: Kind, piece: Piece) -> SegmentValue<'t> {
     }
 }
 
-/// Returns the value of the first segment of `text`, and the text after that segment. `text` is the end of a literal's
-/// body, from the start of a segment on. If `plain` is `true`, the body is its own value, and `text` is one segment.
 #[cfg_attr(debug_assertions, inline)]
 #[cfg_attr(not(debug_assertions), inline(always))]
 pub fn split_segment(kind: Kind, plain: bool, text: &str) -> (SegmentValue<'_>, &str) {
@@ -102,8 +80,6 @@ pub fn split_segment(kind: Kind, plain: bool, text: &str) -> (SegmentValue<'_>, 
 }
 
 impl<'t> Segment<'t> {
-    /// Returns the start of the range of the literal's text that encodes the byte `at` of the segment's value. In a
-    /// segment of plain characters, each byte encodes itself. Any other segment encodes its value as a whole.
     #[inline(always)]
     pub fn text_offset(self, at: usize) -> usize {
         match self.value {
@@ -112,8 +88,6 @@ impl<'t> Segment<'t> {
         }
     }
 
-    /// Returns the end of the range of the literal's text that encodes the byte `at` of the segment's value. In a
-    /// segment of plain characters, each byte encodes itself. Any other segment encodes its value as a whole.
     #[inline(always)]
     pub fn text_offset_after(self, at: usize) -> usize {
         match self.value {
@@ -124,8 +98,6 @@ impl<'t> Segment<'t> {
 }
 
 impl<'t> Segments<'t> {
-    /// Returns the segments of the quoted literal `text` of the kind, where `body` contains the byte offsets of its
-    /// parts, as [`parse_literal`] returns them. The text isn't parsed again.
     #[inline(always)]
     pub fn of_body(kind: Kind, text: &'t str, body: &Body) -> Segments<'t> {
         Segments {
@@ -136,7 +108,6 @@ impl<'t> Segments<'t> {
         }
     }
 
-    /// Returns the segments of the quoted literal `text`, or `None` if the text isn't a quoted literal.
     #[cfg(feature = "__rendered")]
     #[inline]
     pub fn of(text: &'t str) -> Option<Segments<'t>> {
@@ -147,7 +118,6 @@ impl<'t> Segments<'t> {
         Some(Segments::of_body(found.kind, text, &found.body))
     }
 
-    /// Returns the next segment, or `None` at the closing quote.
     #[inline(always)]
     pub fn next(&mut self) -> Option<Segment<'t>> {
         if self.rest.is_empty() {
@@ -160,16 +130,11 @@ impl<'t> Segments<'t> {
         Some(Segment { lo, hi, value })
     }
 
-    /// Returns the byte offset in the literal's text where the next segment begins, or that of the closing quote if no
-    /// segment is left.
     #[inline]
     pub fn next_offset(&self) -> usize {
         self.end - self.rest.len()
     }
 
-    /// Returns the segment whose value contains the byte `at` of the literal's value, and the byte's offset in the
-    /// segment's value. `at` counts from the start of the next segment's value. Returns `None` if the literal's value
-    /// has no byte `at`.
     #[cfg_attr(debug_assertions, inline)]
     #[cfg_attr(not(debug_assertions), inline(always))]
     fn giving(mut self, at: usize) -> Option<(Segment<'t>, usize)> {
@@ -184,11 +149,6 @@ impl<'t> Segments<'t> {
         None
     }
 
-    /// Returns the start of the range of the literal's text that encodes the byte `at` of the literal's value. A byte
-    /// of a plain character encodes itself, and an escape as a whole encodes its value.
-    ///
-    /// `at` counts from the start of the next segment's value. At the end of the value, and beyond it, the result is
-    /// the offset of the closing quote.
     #[inline]
     pub fn text_offset(self, at: usize) -> usize {
         let end = self.end;
@@ -198,12 +158,6 @@ impl<'t> Segments<'t> {
         }
     }
 
-    /// Returns the end of the range of the literal's text that encodes the byte `at` of the literal's value. A byte of
-    /// a plain character encodes itself, and an escape as a whole encodes its value. An escaped line end after the
-    /// range isn't included.
-    ///
-    /// `at` counts from the start of the next segment's value. At the end of the value, and beyond it, the result is
-    /// the offset of the closing quote.
     #[inline]
     pub fn text_offset_after(self, at: usize) -> usize {
         let end = self.end;
@@ -214,7 +168,6 @@ impl<'t> Segments<'t> {
     }
 }
 
-/// Yields the segments of the literal up to its closing quote.
 impl<'t> Iterator for Segments<'t> {
     type Item = Segment<'t>;
 
@@ -224,15 +177,12 @@ impl<'t> Iterator for Segments<'t> {
     }
 }
 
-/// Whether literals of the kind have quotes: strings, byte strings, C strings, bytes and characters.
 #[cfg(feature = "__rendered")]
 #[inline]
 fn is_quoted(kind: Kind) -> bool {
     !matches!(kind, Kind::Int | Kind::Float | Kind::Bool)
 }
 
-/// Returns the start of the range of the quoted literal `text` that encodes the byte `at` of its decoded value.
-/// Returns `None` if the text isn't a quoted literal. [`Segments::text_offset`] describes the result.
 #[cfg(feature = "__rendered")]
 #[inline]
 pub fn text_offset(text: &str, at: usize) -> Option<usize> {

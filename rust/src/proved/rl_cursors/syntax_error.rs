@@ -56,14 +56,10 @@ pub enum SyntaxErrorKind {
     TooDeep,
 }
 
-/// An error of a text: its kind, and its range.
 #[derive(Clone, Copy, PartialEq, Eq, Debug)]
 pub struct SyntaxError {
-    /// The kind of error.
     pub kind: SyntaxErrorKind,
-    /// The byte offset where the error begins.
     pub lo: usize,
-    /// The byte offset after the error.
     pub hi: usize,
 }
 
@@ -126,7 +122,6 @@ impl SyntaxErrorKind {
     }
 }
 
-/// Converts the kind of a lexer's error to a `SyntaxErrorKind`. `kind` isn't an allocation failure.
 #[inline]
 pub fn lexer_error(kind: LexKind) -> SyntaxErrorKind {
     match kind {
@@ -143,7 +138,6 @@ pub fn lexer_error(kind: LexKind) -> SyntaxErrorKind {
     }
 }
 
-/// Converts the kind of an error in a list of literals. `rest` is the unread text of the list.
 #[inline]
 pub fn list_error(kind: RejectionKind, rest: &str) -> SyntaxErrorKind {
     match kind {

@@ -6,8 +6,6 @@ use crate::rl_cursors::next_literals::NextLiteral;
 use crate::rl_lenient::digit_runs::is_negative;
 use crate::rl_lenient::values::number_found;
 
-/// Whether the byte offset `at` is the end of a literal. `text` is the literal's token without its minus. If `minus_at`
-/// is `Some`, a minus precedes the token, and `at` counts from the minus.
 fn ends_at(text: &str, minus_at: Option<usize>, at: usize) -> bool {
     match minus_at {
         Some(_) => at == text.len() + 1,
@@ -16,7 +14,6 @@ fn ends_at(text: &str, minus_at: Option<usize>, at: usize) -> bool {
 }
 
 impl NextLiteral<'_> {
-    /// Whether the literal is a number after a minus.
     fn is_minus(&self) -> bool {
         match self.minus_at {
             Some(_) => true,
@@ -24,8 +21,6 @@ impl NextLiteral<'_> {
         }
     }
 
-    /// Returns `true` if the literal has a suffix. For a literal token without a parse result, which is invalid, it
-    /// returns `false`.
     pub fn has_suffix(&self) -> bool {
         match self.found {
             Some(found) => !ends_at(self.token.text, self.minus_at, found.body.suffix_at),
@@ -33,8 +28,6 @@ impl NextLiteral<'_> {
         }
     }
 
-    /// Returns the value of an integer literal with its sign, whatever its suffix. Returns `None` for any other
-    /// literal, and for an integer that doesn't fit an `i128`.
     pub fn signed(&self) -> Option<i128> {
         match self.found {
             Some(found) => number_found(&found, self.is_minus()),
@@ -42,8 +35,6 @@ impl NextLiteral<'_> {
         }
     }
 
-    /// Returns the value of an integer literal without a suffix, with its sign. Returns `None` for any other literal,
-    /// and for an integer that doesn't fit an `i128`.
     pub fn value_if_unsuffixed(&self) -> Option<i128> {
         if self.has_suffix() {
             return None;

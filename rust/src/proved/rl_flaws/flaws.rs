@@ -11,20 +11,13 @@ use crate::rl_strict::{Flaw, FlawKind, LineEnds};
 use crate::rl_syntax::Kind;
 use crate::rl_syntax::text::{before, without_first_char};
 
-/// The part of a text that is still to be checked for flaws.
 #[derive(Clone, Copy)]
 pub enum Left<'t> {
-    /// The text after a quoted literal's opening delimiter, or after an invalid character or escape inside the literal.
     Inside(Opened<'t>, &'t str),
-    /// The text that begins at the closing quote of a character or byte literal, after a flaw before that quote.
     Closed(Kind, &'t str),
-    /// Nothing: all of the text is checked.
     Nothing,
 }
 
-/// Returns the part of the text to check after a flaw of the kind `flaw`. The flaw was found in the text `inside`, and
-/// `piece` is the end of `inside` that begins with the flaw's piece. After a flaw in a character or byte literal, the
-/// returned part begins at the closing quote. If no quote closes the literal, nothing is left to check.
 #[inline]
 fn left_after<'t>(
     ends: LineEnds,
@@ -45,18 +38,14 @@ fn left_after<'t>(
     }
 }
 
-/// The result of one search for a flaw: the valid text before the flaw, the flaw, and the part of the text still to check.
 #[derive(Clone, Copy)]
 pub struct NextFlaw<'t> {
-    /// The valid content of a quoted literal before the flaw or the closing delimiter.
     pub good: &'t str,
-    /// The byte offset where `good` ends.
     pub end: usize,
     pub bad: Option<InvalidPiece>,
     pub left: Left<'t>,
 }
 
-/// Returns the next flaw inside a quoted literal, or after its closing quote.
 #[inline]
 pub fn next_flaw_inside<'t>(
     ends: LineEnds,
@@ -83,7 +72,6 @@ pub fn next_flaw_inside<'t>(
     }
 }
 
-/// Returns the flaw after a character or byte literal. `closing` is the text that begins with its closing quote.
 #[inline]
 fn judge_closed<'t>(ends: LineEnds, len: usize, kind: Kind, closing: &'t str) -> NextFlaw<'t> {
     let suffix = without_first_char(closing);
@@ -103,7 +91,6 @@ fn judge_closed<'t>(ends: LineEnds, len: usize, kind: Kind, closing: &'t str) ->
     }
 }
 
-/// Returns the next flaw in the part `left` of a text of `len` bytes.
 #[inline]
 pub fn next_flaw<'t>(ends: LineEnds, len: usize, left: Left<'t>) -> NextFlaw<'t> {
     match left {
@@ -118,13 +105,6 @@ pub fn next_flaw<'t>(ends: LineEnds, len: usize, left: Left<'t>) -> NextFlaw<'t>
     }
 }
 
-/// A cursor over the flaws in the text of a literal, after the first one. A valid literal token has no flaw. Nothing is
-/// allocated.
-///
-/// The first flaw is the error that [`read`](crate::rl_strict::read) returns with `signed = false`. After an invalid character or
-/// escape in a string, the search continues inside the string. After a flaw before the closing quote of a character or byte
-/// literal, only the suffix is checked. Any other flaw is the last one. Offsets are in bytes of the text as written. In a
-/// file, where CR LF is read as LF, no offset is between the CR and the LF.
 #[derive(Clone)]
 pub struct Flaws<'t> {
     ends: LineEnds,
@@ -133,8 +113,6 @@ pub struct Flaws<'t> {
 }
 
 impl<'t> Flaws<'t> {
-    /// Returns the first flaw of `text` with its piece, and the cursor after this flaw. `flaw` is the error that
-    /// [`read`](crate::rl_strict::read) returned for `text` and `ends` with `signed = false`.
     #[inline]
     pub fn after(text: &'t str, ends: LineEnds, flaw: Flaw) -> (InvalidPiece, Flaws<'t>) {
         let len = text.len();
@@ -155,7 +133,6 @@ impl<'t> Flaws<'t> {
         }
     }
 
-    /// Returns the next flaw and its piece, or `None` if the unchecked text has no flaw.
     #[inline]
     pub fn next(&mut self) -> Option<InvalidPiece> {
         let judged = next_flaw(self.ends, self.len, self.left);

@@ -4,26 +4,21 @@
 use crate::rl_flaws::number_types::NumberType;
 use crate::rl_syntax::text::{before, split_char};
 
-/// A limit for exponents: an exponent of at least this value exceeds the number of digits in any text.
 const HUGE: u128 = 1 << 100;
 
-/// The decimal digits of 2^128 - 2^103, the smallest number that rounds to infinity as an `f32`.
 const F32_DIGITS: &str = "340282356779733661637539395458142568448";
 
-/// The decimal digits of 2^1024 - 2^970, the smallest number that rounds to infinity as an `f64`.
 const F64_DIGITS: &str =
     "1797693134862315807937289714053034150799341327100378269361737789804449682927647509466\
      4901797758720709633028641669288791094655554785194040263065748867150582068190890200070\
      8383676273854845817711531764475730270069855571366959622842914819860834936475292719074\
      168444365510704342711559699508093042880177904174497792";
 
-/// Whether the character begins an exponent: `e` or `E`.
 #[inline]
 fn is_exponent_letter(c: char) -> bool {
     matches!(c, 'e' | 'E')
 }
 
-/// Splits a number's text at the letter of its exponent, and returns the text before the letter and the text after it.
 #[inline]
 fn split_letter(numeral: &str) -> (&str, &str) {
     let mut rest = numeral;
@@ -36,7 +31,6 @@ fn split_letter(numeral: &str) -> (&str, &str) {
     (numeral, rest)
 }
 
-/// Returns the part of the text after its first dot, or an empty text if it has no dot.
 #[inline]
 fn after_point(text: &str) -> &str {
     let mut rest = text;
@@ -49,7 +43,6 @@ fn after_point(text: &str) -> &str {
     rest
 }
 
-/// Whether the text contains a minus.
 #[inline]
 fn has_minus(text: &str) -> bool {
     let mut rest = text;
@@ -62,7 +55,6 @@ fn has_minus(text: &str) -> bool {
     false
 }
 
-/// Returns the first ASCII digit in the text, and the text after this digit.
 #[inline]
 fn split_digit(text: &str) -> Option<(char, &str)> {
     let mut rest = text;
@@ -75,7 +67,6 @@ fn split_digit(text: &str) -> Option<(char, &str)> {
     None
 }
 
-/// Returns the text from its first nonzero digit on. Characters that aren't digits are skipped too.
 #[inline]
 fn skip_zeros(text: &str) -> &str {
     let mut rest = text;
@@ -85,7 +76,6 @@ fn skip_zeros(text: &str) -> &str {
     rest
 }
 
-/// Returns the number of ASCII digits in the text.
 #[inline]
 fn count_digits(text: &str) -> usize {
     let mut count = 0;
@@ -97,8 +87,6 @@ fn count_digits(text: &str) -> usize {
     count
 }
 
-/// Returns the number that the decimal digits in the text represent. The number is exact if it is below `HUGE`. Otherwise the
-/// result is at least `HUGE`.
 #[inline]
 fn capped_value(text: &str) -> u128 {
     let mut value = 0;
@@ -112,7 +100,6 @@ fn capped_value(text: &str) -> u128 {
     value
 }
 
-/// Returns the first ASCII digit in the text and the text after it, or `'0'` and an empty text if there is no digit.
 #[inline]
 fn digit_or_zero(text: &str) -> (char, &str) {
     match split_digit(text) {
@@ -121,8 +108,6 @@ fn digit_or_zero(text: &str) -> (char, &str) {
     }
 }
 
-/// Whether the number with the digits `digits` is at least the number with the digits `bound`. The first digits of both
-/// numbers belong to equal powers of ten: the digits `5` are greater than `12`, as 50 is greater than 12.
 #[inline]
 fn is_not_below(digits: &str, bound: &str) -> bool {
     let mut left = digits;
@@ -138,13 +123,11 @@ fn is_not_below(digits: &str, bound: &str) -> bool {
     true
 }
 
-/// Returns `value` if `condition` is true, and 0 otherwise.
 #[inline]
 fn value_if(condition: bool, value: u128) -> u128 {
     if condition { value } else { 0 }
 }
 
-/// Whether the decimal number `numeral` is at least the integer that the digits `bound` represent.
 #[inline]
 fn reaches(bound: &str, numeral: &str) -> bool {
     let (significand, exponent) = split_letter(numeral);
@@ -167,7 +150,6 @@ fn reaches(bound: &str, numeral: &str) -> bool {
     is_not_below(digits, bound)
 }
 
-/// Whether the decimal number `numeral` rounds to infinity as the type `ty`. In an integer type the result is `false`.
 #[inline]
 pub(crate) fn is_infinite(ty: NumberType, numeral: &str) -> bool {
     match ty {

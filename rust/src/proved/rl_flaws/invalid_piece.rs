@@ -6,17 +6,12 @@ use crate::rl_strict::flaws::FlawAt;
 use crate::rl_strict::strict_reading::skip_first_char;
 use crate::rl_strict::{Flaw, LineEnds};
 
-/// A flaw, and the end of its piece: the range of text to show for the flaw.
 #[derive(Clone, Copy, PartialEq, Eq, Debug)]
 pub struct InvalidPiece {
-    /// The flaw. Its piece begins at the byte offset `flaw.from`.
     pub flaw: Flaw,
-    /// The byte offset after the piece. For an invalid escape or character, it is the byte offset where parsing
-    /// continues. For any other flaw, it is the flaw's `hi`.
     pub end: usize,
 }
 
-/// Returns the byte offset after the flaw's piece. The text `piece` begins with this piece.
 #[inline]
 pub fn end_of(ends: LineEnds, len: usize, quote: char, flaw: Flaw, piece: &str) -> usize {
     if is_flaw_of_unit(flaw.kind) {
@@ -26,8 +21,6 @@ pub fn end_of(ends: LineEnds, len: usize, quote: char, flaw: Flaw, piece: &str) 
     }
 }
 
-/// Converts a flaw that was found inside a literal to byte offsets. The input text has `len` bytes. `found` has ends of the
-/// input text in place of byte offsets.
 #[inline]
 pub fn invalid_piece_with_offsets(
     ends: LineEnds,

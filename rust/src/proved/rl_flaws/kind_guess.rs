@@ -8,7 +8,6 @@ use crate::rl_lenient::number_forms::split_radix;
 use crate::rl_strict::read_numbers::begins_float;
 use crate::rl_syntax::Kind;
 
-/// Returns the kind of a number, which begins with a digit: integer or float.
 #[inline]
 fn number_kind(digits: &str) -> Kind {
     let (radix, run) = split_radix(digits);
@@ -22,7 +21,6 @@ fn number_kind(digits: &str) -> Kind {
     }
 }
 
-/// Returns the kind of literal that the text begins as, or `None` if it begins otherwise.
 #[inline]
 fn front_kind(text: &str) -> Option<Kind> {
     if let Some((opened, _)) = split_opening_delimiter(text) {
@@ -38,14 +36,6 @@ fn front_kind(text: &str) -> Option<Kind> {
     }
 }
 
-/// Returns the kind of literal that the text begins as, whether or not it is a valid literal.
-///
-/// A prefix and an opening quote identify a quoted literal. A digit, or a minus and a digit, identify a number. Among other
-/// texts only `true` and `false` have a kind.
-///
-/// For a valid literal token, the result is the token's kind. A number is a float if a dot, `e` or `E` follows its decimal
-/// digits, and an integer otherwise. A raw string begins with its prefix, at most 255 hashes, and a quote. Nothing is
-/// allocated.
 #[inline]
 pub fn guess_kind(text: &str) -> Option<Kind> {
     front_kind(text)

@@ -3,7 +3,6 @@
 
 use crate::rl_syntax::IntegerType;
 
-/// A number type of Rust: an integer type, `f32` or `f64`.
 #[derive(Clone, Copy, PartialEq, Eq, Debug)]
 pub enum NumberType {
     Integer(IntegerType),
@@ -11,7 +10,6 @@ pub enum NumberType {
     F64,
 }
 
-/// Returns the number type that the suffix names, or `None` if the suffix isn't the name of a number type.
 #[inline]
 pub fn type_named(suffix: &str) -> Option<NumberType> {
     match suffix {
@@ -24,9 +22,6 @@ pub fn type_named(suffix: &str) -> Option<NumberType> {
     }
 }
 
-/// Returns the greatest integer that a literal of the integer type `ty` may be. `usize` and `isize` have 64 bits.
-///
-/// If a minus precedes the literal (`negated`), a signed type allows an integer that is greater by one.
 #[inline]
 fn greatest_integer(ty: IntegerType, negated: bool) -> u128 {
     let more = if negated { 1 } else { 0 };
@@ -44,9 +39,6 @@ fn greatest_integer(ty: IntegerType, negated: bool) -> u128 {
     }
 }
 
-/// Returns the greatest integer that a literal of the type `ty` may be, or `None` for a float type.
-///
-/// If a minus precedes the literal (`negated`), a signed type allows an integer that is greater by one.
 #[inline]
 pub fn max_integer(ty: NumberType, negated: bool) -> Option<u128> {
     match ty {

@@ -4,7 +4,6 @@
 use crate::rl_strict::walk_units::split_first_char;
 use crate::rl_strict::{FlawKind, LineEnds};
 
-/// Returns the text without its first character, or all of the text if this character is a backslash or the quote `quote`.
 #[inline]
 fn after_one(ends: LineEnds, quote: char, text: &str) -> &str {
     match split_first_char(ends, text) {
@@ -13,7 +12,6 @@ fn after_one(ends: LineEnds, quote: char, text: &str) -> &str {
     }
 }
 
-/// Returns the text after an invalid `\x` escape. `text` begins after `\x`.
 #[inline]
 fn after_hex(ends: LineEnds, quote: char, text: &str) -> &str {
     match split_first_char(ends, text) {
@@ -22,14 +20,11 @@ fn after_hex(ends: LineEnds, quote: char, text: &str) -> &str {
     }
 }
 
-/// Whether the character may occur between the braces of `\u{..}`: a hexadecimal digit or an underscore.
 #[inline]
 fn is_code_part(c: char) -> bool {
     c.is_ascii_hexdigit() || c == '_'
 }
 
-/// Returns the text after an invalid `\u{..}` escape. `text` begins after the escape's first digit. The function skips digits
-/// and underscores, and then one character that isn't a backslash or the quote.
 #[inline]
 fn after_code_digits(ends: LineEnds, quote: char, text: &str) -> &str {
     let mut rest = text;
@@ -42,7 +37,6 @@ fn after_code_digits(ends: LineEnds, quote: char, text: &str) -> &str {
     rest
 }
 
-/// Returns the text after an invalid `\u{..}` escape. `text` begins after `\u{`.
 #[inline]
 fn after_brace(ends: LineEnds, quote: char, text: &str) -> &str {
     match split_first_char(ends, text) {
@@ -51,7 +45,6 @@ fn after_brace(ends: LineEnds, quote: char, text: &str) -> &str {
     }
 }
 
-/// Returns the text after an invalid `\u` escape. `text` begins after `\u`.
 #[inline]
 fn after_unicode(ends: LineEnds, quote: char, text: &str) -> &str {
     match split_first_char(ends, text) {
@@ -60,7 +53,6 @@ fn after_unicode(ends: LineEnds, quote: char, text: &str) -> &str {
     }
 }
 
-/// Returns the text after an invalid escape. `text` begins after the escape's backslash.
 #[inline]
 fn after_escape(ends: LineEnds, quote: char, text: &str) -> &str {
     match split_first_char(ends, text) {
@@ -71,8 +63,6 @@ fn after_escape(ends: LineEnds, quote: char, text: &str) -> &str {
     }
 }
 
-/// Returns the text after the invalid escape or character with which the given text begins. The parsing of a string continues
-/// at the returned text.
 #[inline]
 pub fn after_bad_piece(ends: LineEnds, quote: char, text: &str) -> &str {
     match split_first_char(ends, text) {
@@ -82,7 +72,6 @@ pub fn after_bad_piece(ends: LineEnds, quote: char, text: &str) -> &str {
     }
 }
 
-/// Returns `true` if a flaw of this kind is an invalid character or an invalid escape between the quotes of a literal.
 #[inline]
 pub fn is_flaw_of_unit(kind: FlawKind) -> bool {
     matches!(
@@ -103,7 +92,6 @@ pub fn is_flaw_of_unit(kind: FlawKind) -> bool {
     )
 }
 
-/// Returns `true` if a flaw of this kind is after the closing quote of a literal.
 #[inline]
 pub fn is_flaw_after_quote(kind: FlawKind) -> bool {
     matches!(

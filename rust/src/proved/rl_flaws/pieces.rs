@@ -9,30 +9,20 @@ use crate::rl_lenient::quoted_forms::QuotedForm;
 use crate::rl_strict::LineEnds;
 use crate::rl_syntax::Kind;
 
-/// A part of a quoted literal: a valid segment or an invalid piece.
 #[derive(Clone, Copy)]
 pub enum Piece<'t> {
-    /// A valid segment: its range, and its decoded value.
     Good(Segment<'t>),
-    /// A flaw, and the end of the piece to show for it.
     Bad(InvalidPiece),
 }
 
-/// Whether the form is a raw string.
 #[inline]
 fn is_raw(form: QuotedForm) -> bool {
     matches!(form, QuotedForm::Raw)
 }
 
-/// A cursor over the pieces of a quoted literal that may be invalid, from its opening delimiter on. The pieces are the valid
-/// segments, and the flaws between them. Nothing is allocated.
-///
-/// The invalid pieces are all flaws that a [`Flaws`](crate::rl_flaws::Flaws) cursor finds in the text. A valid literal token has only
-/// valid pieces, its segments.
 pub struct Pieces<'t> {
     kind: Kind,
     plain: bool,
-    // The byte offset where `good`, the valid text before the next flaw, ends.
     end: usize,
     good: &'t str,
     bad: Option<InvalidPiece>,
@@ -41,7 +31,6 @@ pub struct Pieces<'t> {
 }
 
 impl<'t> Pieces<'t> {
-    /// Creates a cursor over the pieces of `text`, or returns `None` if `text` doesn't begin as a quoted literal.
     #[inline]
     pub fn of(text: &'t str) -> Option<Pieces<'t>> {
         match split_opening_delimiter(text) {
@@ -61,7 +50,6 @@ impl<'t> Pieces<'t> {
         }
     }
 
-    /// Returns the next piece, or `None` at the end.
     #[inline]
     pub fn next(&mut self) -> Option<Piece<'t>> {
         if !self.good.is_empty() {

@@ -48,22 +48,18 @@ impl TypeError {
     }
 }
 
-/// Whether the number's text begins with the prefix of a base: `0b`, `0o` or `0x`.
 #[inline]
 fn is_of_base(text: &str) -> bool {
     begins(text, "0b") || begins(text, "0o") || begins(text, "0x")
 }
 
-/// Whether the suffix begins with `f`, as a float's suffix does.
 #[inline]
 fn begins_float(suffix: &str) -> bool {
     matches!(suffix.as_bytes(), [b'f', ..])
 }
 
-/// The number 2^128 - 2^103, the smallest that rounds to infinity as an `f32`.
 const F32_INFINITE: u128 = 0xFFFF_FF80_0000_0000_0000_0000_0000_0000;
 
-/// Returns the error of a decimal integer whose suffix is the float type `ty` and that rounds to infinity in this type.
 #[inline]
 fn infinite_error(ty: NumberType, magnitude: u128, negated: bool) -> Option<TypeError> {
     match ty {
@@ -77,7 +73,6 @@ fn infinite_error(ty: NumberType, magnitude: u128, negated: bool) -> Option<Type
     }
 }
 
-/// Returns the error of an integer that the number type `ty` can't represent.
 #[inline]
 fn range_error(ty: NumberType, magnitude: u128, negated: bool) -> Option<TypeError> {
     match max_integer(ty, negated) {
@@ -87,7 +82,6 @@ fn range_error(ty: NumberType, magnitude: u128, negated: bool) -> Option<TypeErr
     }
 }
 
-/// Returns the error of an integer with the suffix `suffix` that Rust has no type for.
 #[inline]
 fn integer_error(text: &str, suffix: &str, magnitude: u128, negated: bool) -> Option<TypeError> {
     if is_of_base(text) && begins_float(suffix) {
@@ -99,7 +93,6 @@ fn integer_error(text: &str, suffix: &str, magnitude: u128, negated: bool) -> Op
     }
 }
 
-/// Returns the type of a float with the suffix `suffix`: `f64` without a suffix, or `None` if the suffix is unknown.
 #[inline]
 fn type_of_float(suffix: &str) -> Option<NumberType> {
     if suffix.is_empty() {
@@ -108,7 +101,6 @@ fn type_of_float(suffix: &str) -> Option<NumberType> {
     type_named(suffix)
 }
 
-/// Returns the error of a float that rounds to infinity as the float type `ty`. `numeral` is its text without the suffix.
 #[inline]
 fn decimal_error(
     ty: NumberType,
@@ -123,7 +115,6 @@ fn decimal_error(
     None
 }
 
-/// Returns the error of a float that Rust has no type for. `numeral` is its text without the suffix.
 #[inline]
 fn float_error(text: &str, numeral: &str, suffix: &str, negated: bool) -> Option<TypeError> {
     let Some(ty) = type_of_float(suffix) else {
@@ -135,11 +126,6 @@ fn float_error(text: &str, numeral: &str, suffix: &str, negated: bool) -> Option
     }
 }
 
-/// Returns the reason why Rust has no type for a literal of the kind `kind`, or `None` if Rust has a type for it.
-///
-/// [`type_error`] says which reasons there are. `text` is the text of the literal, and `suffix` is its suffix. `magnitude` is the
-/// number that an integer represents. Other literals have none, and any number may be passed. `negated` is true if a minus may
-/// precede the literal. Nothing is allocated.
 #[inline]
 pub fn type_error_of(
     kind: Kind,
@@ -161,14 +147,6 @@ pub fn type_error_of(
     }
 }
 
-/// Returns the reason why Rust has no type for a literal, or `None` if Rust has a type for it.
-///
-/// The reason is a suffix that isn't the name of a fitting type, or a number that is out of its type's range. An integer
-/// without a suffix has no error: Rust infers its type. A float is out of range if it rounds to infinity in its type, which is
-/// `f64` without a suffix.
-///
-/// `text` is the text of the literal, and `found` its parse result. `negated` is true if a minus may precede the literal. Then
-/// `128i8` is in range. Nothing is allocated.
 #[inline]
 pub fn type_error(text: &str, found: &Found, negated: bool) -> Option<TypeError> {
     type_error_of(

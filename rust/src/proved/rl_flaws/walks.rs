@@ -8,16 +8,13 @@ use crate::rl_strict::walk::{
 };
 use crate::rl_syntax::Kind;
 
-/// The opening delimiter of a quoted literal: the literal's form and kind, and a raw string's hashes.
 #[derive(Clone, Copy)]
 pub struct Opened<'t> {
     pub form: QuotedForm,
     pub kind: Kind,
-    /// The hashes of a raw string, or an empty text for other forms.
     pub hashes: &'t str,
 }
 
-/// Returns the opening delimiter of the quoted literal that `text` begins with, and the text after it.
 #[inline]
 pub fn split_opening_delimiter(text: &str) -> Option<(Opened<'_>, &str)> {
     match split_opener(text) {
@@ -35,7 +32,6 @@ pub fn split_opening_delimiter(text: &str) -> Option<(Opened<'_>, &str)> {
     }
 }
 
-/// Parses the text after the opening quote of a character or byte literal.
 #[inline]
 fn walk_unit(ends: LineEnds, kind: Kind, text: &str) -> QuotedContent<'_> {
     let stretch = parse_single_unit(ends, kind, text);
@@ -55,8 +51,6 @@ fn walk_unit(ends: LineEnds, kind: Kind, text: &str) -> QuotedContent<'_> {
     }
 }
 
-/// Parses a quoted literal whose opening delimiter is `opened`. `text` begins after that delimiter, or at a later character or
-/// escape inside the literal.
 #[inline]
 pub fn parse_quoted_content<'t>(
     ends: LineEnds,

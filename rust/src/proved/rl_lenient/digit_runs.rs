@@ -5,25 +5,19 @@
 use crate::rl_syntax::ident::xid_ok;
 use crate::rl_syntax::text::{split_ascii, split_char};
 
-/// A parsed sequence of digits and underscores: whether it contains a digit, its number, and the text after it.
 #[derive(Clone, Copy)]
 pub struct DigitRun<'t> {
     pub has_digit: bool,
-    /// The number that the digits represent, or `None` if it is above 128 bits.
     pub magnitude: Option<u128>,
     pub rest: &'t str,
 }
 
-/// A skipped sequence of digits and underscores: whether it contains a digit, and the text after it. Its number isn't
-/// computed.
 #[derive(Clone, Copy)]
 pub struct Skipped<'t> {
     pub has_digit: bool,
     pub rest: &'t str,
 }
 
-/// Returns the value of a digit or a letter in the bases up to 36, where `a` and `A` are 10. For any other byte the
-/// result is 36.
 fn digit_value(byte: u8) -> u32 {
     let digit = byte.wrapping_sub(b'0');
     if digit < 10 {
@@ -36,20 +30,14 @@ fn digit_value(byte: u8) -> u32 {
     }
 }
 
-/// A bound for numbers: a smaller number with one more digit after it still fits 64 bits, in every base up to 36.
 const MAY_GROW: u64 = 1 << 58;
 
-/// The first digits of an integer, whose number fits 64 bits.
 #[derive(Clone, Copy)]
 struct FirstDigits {
-    /// The number that the first digits represent.
     spelled: u64,
-    /// The byte offset after the first digits.
     end: usize,
 }
 
-/// Parses digits in the base `radix` at the start of the text, as long as their number surely fits 64 bits. Returns
-/// their number and the byte offset after them.
 #[cfg_attr(debug_assertions, inline)]
 #[cfg_attr(not(debug_assertions), inline(always))]
 fn first_digits(text: &str, radix: u32) -> FirstDigits {
@@ -67,9 +55,6 @@ fn first_digits(text: &str, radix: u32) -> FirstDigits {
     FirstDigits { spelled, end }
 }
 
-/// Parses the digits in the base `radix` and the underscores at the start of the text.
-///
-/// The function is inlined, so that a base that is constant in a caller costs no full multiplication.
 #[cfg_attr(debug_assertions, inline)]
 #[cfg_attr(not(debug_assertions), inline(always))]
 fn read_digit_run_in(text: &str, radix: u32) -> DigitRun<'_> {
@@ -96,8 +81,6 @@ fn read_digit_run_in(text: &str, radix: u32) -> DigitRun<'_> {
     }
 }
 
-/// Parses the digits in the base `radix` and the underscores at the start of the text. For base ten the loop is
-/// compiled separately, with the base as a constant.
 #[inline(always)]
 pub fn read_digit_run(text: &str, radix: u32) -> DigitRun<'_> {
     if radix == 10 {
@@ -107,7 +90,6 @@ pub fn read_digit_run(text: &str, radix: u32) -> DigitRun<'_> {
     }
 }
 
-/// Returns the number of decimal digits at the start of the text.
 #[inline(always)]
 fn digits_len(text: &str) -> usize {
     let bytes = text.as_bytes();
@@ -118,7 +100,6 @@ fn digits_len(text: &str) -> usize {
     len
 }
 
-/// Skips the decimal digits and underscores at the start of the text, without computing their number.
 #[cfg_attr(debug_assertions, inline)]
 #[cfg_attr(not(debug_assertions), inline(always))]
 pub fn skip_digits(text: &str) -> Skipped<'_> {
@@ -140,7 +121,6 @@ pub fn skip_digits(text: &str) -> Skipped<'_> {
     }
 }
 
-/// Whether the text may be the suffix of a number: it is empty, or an identifier that doesn't begin with `_`.
 #[inline(always)]
 pub(crate) fn is_suffix(text: &str) -> bool {
     match split_char(text) {
@@ -149,8 +129,6 @@ pub(crate) fn is_suffix(text: &str) -> bool {
     }
 }
 
-/// Whether the text after the digits of a decimal integer is an exponent, as `e5` or `e5f32`, so that the number is a
-/// float.
 #[inline]
 pub(crate) fn is_exponent_suffix(text: &str) -> bool {
     match split_char(text) {
@@ -162,12 +140,10 @@ pub(crate) fn is_exponent_suffix(text: &str) -> bool {
     }
 }
 
-/// Returns `true` if the text begins with a minus.
 pub fn is_negative(text: &str) -> bool {
     matches!(split_ascii(text), Some((b'-', _)))
 }
 
-/// Returns the text after the minus at its start, or the text itself if it doesn't begin with a minus.
 pub fn after_minus(text: &str) -> &str {
     match split_ascii(text) {
         Some((b'-', rest)) => rest,
@@ -175,7 +151,6 @@ pub fn after_minus(text: &str) -> &str {
     }
 }
 
-/// Returns `true` if the text begins with a decimal digit.
 pub fn begins_digit(text: &str) -> bool {
     match split_ascii(text) {
         Some((first, _)) => (first as char).is_ascii_digit(),
@@ -183,20 +158,13 @@ pub fn begins_digit(text: &str) -> bool {
     }
 }
 
-/// The number of a sequence of digits that are appended one by one, if it fits 128 bits. Digits are collected in 64
-/// bits, and added to the number of 128 bits only when the 64 bits are full.
 pub struct Tally {
-    /// The number that all digits except the last ones represent, or `None` if it is above 128 bits.
     front: Option<u128>,
-    /// The number that the last digits represent, which are collected in 64 bits.
     last: u64,
-    /// The number of all digits is `front * scale + last`, and `last` is below `scale`. Once `front` isn't 0, `scale`
-    /// is the base to the power of the count of the last digits.
     scale: u64,
 }
 
 impl Tally {
-    /// Creates the [`Tally`] of digits that represent the number `spelled`.
     pub(crate) fn of(spelled: u64) -> Tally {
         Tally {
             front: Some(0),
@@ -205,7 +173,6 @@ impl Tally {
         }
     }
 
-    /// Returns the [`Tally`] of the digits with one more digit in the base `radix`, which is `digit`.
     #[cfg_attr(debug_assertions, inline)]
     #[cfg_attr(not(debug_assertions), inline(always))]
     pub(crate) fn append_digit(self, radix: u32, digit: u32) -> Tally {
@@ -223,7 +190,6 @@ impl Tally {
         }
     }
 
-    /// Returns the number that the digits represent, or `None` if it is above 128 bits.
     pub fn magnitude(&self) -> Option<u128> {
         if self.front == Some(0) {
             return Some(u128::from(self.last));

@@ -12,8 +12,6 @@ use crate::rl_lenient::found::{
 use crate::rl_syntax::classes::{CharClass, skip_class};
 use crate::rl_syntax::text::{split_ascii, split_char};
 
-/// Returns the base of an integer, and the text after its prefix. The prefix is `0b`, `0o` or `0x`. Without a prefix,
-/// the base is 10, and the result contains the text itself.
 #[cfg_attr(debug_assertions, inline)]
 #[cfg_attr(not(debug_assertions), inline(always))]
 pub fn split_radix(text: &str) -> (u32, &str) {
@@ -28,14 +26,12 @@ pub fn split_radix(text: &str) -> (u32, &str) {
     (10, text)
 }
 
-/// The parsed start of a number: its base, and the sequence of digits after sign and prefix.
 #[derive(Clone, Copy)]
 pub struct Head<'t> {
     pub radix: u32,
     pub run: DigitRun<'t>,
 }
 
-/// Parses the start of a number, its prefix and digits. `unsigned` is the number's text after its sign.
 #[inline(always)]
 fn head_of(unsigned: &str) -> Head<'_> {
     let (radix, digits) = split_radix(unsigned);
@@ -43,9 +39,6 @@ fn head_of(unsigned: &str) -> Head<'_> {
     Head { radix, run }
 }
 
-/// Parses the start of a number: its sign, prefix and digits. Returns `None` if no digit follows the sign.
-///
-/// The function is inlined, so a text that isn't a number costs no call.
 #[inline(always)]
 pub(crate) fn read_head(text: &str) -> Option<Head<'_>> {
     let unsigned = after_minus(text);
@@ -56,15 +49,12 @@ pub(crate) fn read_head(text: &str) -> Option<Head<'_>> {
     }
 }
 
-/// A parsed integer literal: its magnitude and its suffix.
 #[derive(Clone, Copy)]
 pub struct Integer<'t> {
-    /// The integer's absolute value, or `None` if it is above 128 bits.
     pub magnitude: Option<u128>,
     pub suffix: &'t str,
 }
 
-/// Returns the integer with the parsed start `head`, or `None` if the text after its digits isn't an integer's suffix.
 #[cfg_attr(debug_assertions, inline)]
 #[cfg_attr(not(debug_assertions), inline(always))]
 pub(crate) fn integer_of(head: Head<'_>) -> Option<Integer<'_>> {
@@ -82,7 +72,6 @@ pub(crate) fn integer_of(head: Head<'_>) -> Option<Integer<'_>> {
     }
 }
 
-/// Parses the text as an integer literal. Returns `None` if it isn't one.
 #[inline]
 pub fn integer_magnitude_and_suffix(text: &str) -> Option<Integer<'_>> {
     match read_head(text) {
@@ -91,10 +80,6 @@ pub fn integer_magnitude_and_suffix(text: &str) -> Option<Integer<'_>> {
     }
 }
 
-/// Returns the kind, body and suffix of the integer literal `text`. Returns `None` if the text isn't an integer
-/// literal, and `Some(None)` for an integer above 128 bits.
-///
-/// The body is the text before the suffix, with sign and prefix. Body and suffix are slices of the text.
 #[cfg(feature = "__rendered")]
 #[inline]
 pub fn int_shape(text: &str) -> Option<Option<Parts<'_>>> {
@@ -105,8 +90,6 @@ pub fn int_shape(text: &str) -> Option<Option<Parts<'_>>> {
     }
 }
 
-/// Returns the text after the fraction at its start, which is a dot and digits. Returns the text itself if it doesn't
-/// begin with a dot.
 #[inline(always)]
 fn after_fraction(text: &str) -> &str {
     match split_char(text) {
@@ -115,8 +98,6 @@ fn after_fraction(text: &str) -> &str {
     }
 }
 
-/// Returns the text from the digits of an exponent on: after leading underscores and a sign. `text` follows the letter
-/// `e` or `E`.
 #[inline(always)]
 fn power_digits(text: &str) -> &str {
     let signed = skip_class(CharClass::Underscore, text);
@@ -126,7 +107,6 @@ fn power_digits(text: &str) -> &str {
     }
 }
 
-/// Returns the text after the exponent at its start, as `e+5`, or the text itself if it doesn't begin with an exponent.
 #[inline(always)]
 fn after_exponent(text: &str) -> &str {
     if let Some(('e' | 'E', power)) = split_char(text) {
@@ -138,8 +118,6 @@ fn after_exponent(text: &str) -> &str {
     text
 }
 
-/// Returns the suffix of a float, or `None` if the number isn't a float. `text` follows the digits before the float's
-/// dot.
 #[inline(always)]
 fn tail_suffix(text: &str) -> Option<&str> {
     let suffix = after_exponent(after_fraction(text));
@@ -150,7 +128,6 @@ fn tail_suffix(text: &str) -> Option<&str> {
     }
 }
 
-/// Returns the suffix of the float literal `text`, or `None` if the text isn't a float literal.
 #[inline]
 pub(crate) fn float_suffix(text: &str) -> Option<&str> {
     let whole = after_minus(text);
@@ -160,10 +137,6 @@ pub(crate) fn float_suffix(text: &str) -> Option<&str> {
     tail_suffix(skip_digits(whole).rest)
 }
 
-/// Returns the suffix of the float literal `text`, whose start was parsed as `head`, or `None` if the text isn't a
-/// float literal.
-///
-/// If the text begins with a prefix as `0x`, the float's digits before the dot are only the `0`.
 #[inline(always)]
 pub(crate) fn head_suffix<'t>(text: &'t str, head: Head<'t>) -> Option<&'t str> {
     if head.radix == 10 {
@@ -173,10 +146,6 @@ pub(crate) fn head_suffix<'t>(text: &'t str, head: Head<'t>) -> Option<&'t str> 
     }
 }
 
-/// Returns the kind, body and suffix of the float literal `text`, or `None` if it isn't one. The text may be an integer
-/// literal too.
-///
-/// The body is the text before the suffix, with the sign. Body and suffix are slices of the text.
 #[cfg(feature = "__rendered")]
 #[inline]
 pub fn float_shape(text: &str) -> Option<Parts<'_>> {
@@ -184,15 +153,12 @@ pub fn float_shape(text: &str) -> Option<Parts<'_>> {
     Some(found.parts(text))
 }
 
-/// A parsed number: an integer within 128 bits, with its magnitude and suffix, or a float, with its suffix. A text that
-/// is an integer of any magnitude isn't a float here.
 #[derive(Clone, Copy)]
 pub enum Number<'t> {
     Integer(u128, &'t str),
     Float(&'t str),
 }
 
-/// Parses the text as a number. Returns `None` if it isn't one, or is an integer above 128 bits.
 #[inline(always)]
 pub(crate) fn read_number(text: &str) -> Option<Number<'_>> {
     let head = read_head(text)?;
@@ -202,10 +168,6 @@ pub(crate) fn read_number(text: &str) -> Option<Number<'_>> {
     }
 }
 
-/// Returns the kind, body and suffix of the number that consists of a minus and `text`.
-///
-/// Returns `Some` exactly if a minus and the text are a literal. That literal is an integer or a float. Body and suffix
-/// are slices of the text, without the minus.
 #[cfg(feature = "__rendered")]
 #[inline]
 pub fn shape_negative(text: &str) -> Option<Parts<'_>> {

@@ -4,7 +4,6 @@
 use crate::rl_lenient::found::Body;
 use crate::rl_syntax::Kind;
 
-/// Returns the suffix of a literal.
 #[inline]
 pub fn suffix_of<'t>(text: &'t str, body: &Body) -> &'t str {
     let end = text.len();
@@ -15,13 +14,11 @@ pub fn suffix_of<'t>(text: &'t str, body: &Body) -> &'t str {
     }
 }
 
-/// Returns the text between the quotes of a literal.
 #[inline]
 pub fn body_of<'t>(text: &'t str, body: &Body) -> &'t str {
     &text[body.lo..body.hi]
 }
 
-/// Returns the text between the quotes of a string, if it is the string's value byte for byte.
 #[inline]
 pub fn plain_body_of<'t>(text: &'t str, body: &Body) -> Option<&'t str> {
     if body.plain {
@@ -31,13 +28,11 @@ pub fn plain_body_of<'t>(text: &'t str, body: &Body) -> Option<&'t str> {
     }
 }
 
-/// Returns `true` if a literal of the kind with these offsets is raw.
 #[inline]
 pub fn is_raw(kind: Kind, text: &str, body: &Body) -> bool {
     body.lo > kind.opener().len()
 }
 
-/// Returns the number of hashes of a raw literal, or 0.
 #[inline]
 pub fn hashes(kind: Kind, text: &str, body: &Body) -> usize {
     let opener = kind.opener().len();

@@ -7,7 +7,6 @@ use crate::rl_syntax::Kind;
 use crate::rl_syntax::classes::skip_hashes;
 use crate::rl_syntax::text::{after_prefix, before, split_ascii};
 
-/// The forms of quoted literals: strings with escapes, raw strings, and single characters or bytes between `'`.
 #[derive(Clone, Copy)]
 pub enum QuotedForm {
     Cooked,
@@ -15,9 +14,6 @@ pub enum QuotedForm {
     Single,
 }
 
-/// Selects the form of a string literal of the kind by the first character of `text`: `"` for a string with escapes,
-/// `r` for a raw string. Returns the form, the kind, and the text after this character. Returns `None` if the text
-/// begins otherwise.
 #[inline(always)]
 fn split_string_opener(kind: Kind, text: &str) -> Option<(QuotedForm, Kind, &str)> {
     match split_ascii(text) {
@@ -29,8 +25,6 @@ fn split_string_opener(kind: Kind, text: &str) -> Option<(QuotedForm, Kind, &str
     }
 }
 
-/// Returns the form and the kind of a literal with the prefix `b`, and the text after its quote, or after the `r` of
-/// `br`. `text` is the text after the `b`. Returns `None` if the text begins otherwise.
 #[inline]
 fn split_byte_opener(text: &str) -> Option<(QuotedForm, Kind, &str)> {
     match split_ascii(text) {
@@ -41,23 +35,17 @@ fn split_byte_opener(text: &str) -> Option<(QuotedForm, Kind, &str)> {
     }
 }
 
-/// Returns the form and the kind of the quoted literal that the text begins like, and the text after its opening
-/// quote. For a raw literal, the result has the text after its `r` instead. Returns `None` if the text begins like no
-/// quoted literal.
 #[inline(always)]
 pub fn split_opener(text: &str) -> Option<(QuotedForm, Kind, &str)> {
     let (first, rest) = split_ascii(text)?;
     match first {
         b'\'' => Some((QuotedForm::Single, Kind::Char, rest)),
-        // Byte literals and byte strings begin with the same letter.
         b'b' => split_byte_opener(rest),
         b'c' => split_string_opener(Kind::CStr, rest),
         _ => split_string_opener(Kind::Str, text),
     }
 }
 
-/// Returns the text after the characters and escapes at its start that a string literal of the kind may contain. For
-/// `Str` the loop is compiled separately, with the kind as a constant.
 #[inline]
 pub fn skip_string_content(kind: Kind, text: &str) -> &str {
     match kind {
@@ -66,8 +54,6 @@ pub fn skip_string_content(kind: Kind, text: &str) -> &str {
     }
 }
 
-/// Returns the text after the characters and escapes at its start that a string literal of the kind may contain. The
-/// function is inlined, so a kind that is constant in a caller is constant in the loop.
 #[inline(always)]
 fn skip_units_of(kind: Kind, text: &str) -> &str {
     let mut rest = text;
@@ -78,20 +64,16 @@ fn skip_units_of(kind: Kind, text: &str) -> &str {
     rest
 }
 
-/// Splits the text at its last `"`, and returns the text before it and the text after it, or `None` if there is no `"`.
 #[inline]
 pub fn split_last_quote(text: &str) -> Option<(&str, &str)> {
     text.rsplit_once('"')
 }
 
-/// Whether the text contains the character NUL.
 #[inline]
 pub(crate) fn has_nul(text: &str) -> bool {
     text.as_bytes().contains(&b'\0')
 }
 
-/// Returns the text after the quote at its start, or `None` if it doesn't begin with the quote of the kind: `'` for
-/// characters and bytes, `"` for strings.
 #[inline(always)]
 pub fn strip_quote(kind: Kind, text: &str) -> Option<&str> {
     match split_ascii(text) {
@@ -100,8 +82,6 @@ pub fn strip_quote(kind: Kind, text: &str) -> Option<&str> {
     }
 }
 
-/// Returns the byte offsets of the parts of the quoted literal `text`. `opened` is the end of `text` from the body on,
-/// `closer` is the end of `text` from the closing quote on, and `suffix` is the suffix.
 #[inline(always)]
 pub fn part_offsets(text: &str, opened: &str, closer: &str, suffix: &str, plain: bool) -> Body {
     Body {
@@ -112,8 +92,6 @@ pub fn part_offsets(text: &str, opened: &str, closer: &str, suffix: &str, plain:
     }
 }
 
-/// Creates the parse result of a quoted literal of the kind, from the byte offsets `body` of its parts. `unit` is the
-/// value of a character or byte literal, and 0 for a string.
 #[inline(always)]
 fn quoted(kind: Kind, body: Body, unit: u32) -> Found {
     Found {
@@ -125,11 +103,8 @@ fn quoted(kind: Kind, body: Body, unit: u32) -> Found {
     }
 }
 
-/// Parses `text` as a string literal of the kind, with escapes, where `inside` is the text after its opening quote.
-/// Returns `None` if it isn't one.
 #[inline(always)]
 pub(crate) fn find_cooked(kind: Kind, text: &str, inside: &str) -> Option<Found> {
-    // Each string literal ends with `"`. Naming the kind `Str` makes this quote a constant for the compiler.
     let (_, following) = split_plain(kind, inside);
     if let Some(suffix) = strip_quote(Kind::Str, following) {
         return Some(quoted(kind, part_offsets(text, inside, following, suffix, true), 0));
@@ -139,8 +114,6 @@ pub(crate) fn find_cooked(kind: Kind, text: &str, inside: &str) -> Option<Found>
     Some(quoted(kind, part_offsets(text, inside, closer, suffix, false), 0))
 }
 
-/// Parses `text` as a raw string literal of the kind, where `inside` is the text after its `r`. Returns the byte
-/// offsets of its parts, or `None` if it isn't one.
 #[inline]
 fn raw_places(kind: Kind, text: &str, inside: &str) -> Option<Body> {
     let rest = skip_hashes(inside);
@@ -155,16 +128,12 @@ fn raw_places(kind: Kind, text: &str, inside: &str) -> Option<Body> {
     Some(part_offsets(text, opened, closer, suffix, true))
 }
 
-/// Parses `text` as a raw string literal of the kind, where `inside` is the text after its `r`. Returns `None` if it
-/// isn't one.
 #[inline(always)]
 pub(crate) fn find_raw(kind: Kind, text: &str, inside: &str) -> Option<Found> {
-    // `raw_places` returns only byte offsets, since a whole parse result would be copied once more.
     let body = raw_places(kind, text, inside)?;
     Some(quoted(kind, body, 0))
 }
 
-/// Whether a raw string of the kind may contain each character of the text.
 #[inline]
 fn holds_all(kind: Kind, text: &str) -> bool {
     match kind {
@@ -174,8 +143,6 @@ fn holds_all(kind: Kind, text: &str) -> bool {
     }
 }
 
-/// Parses `text` as a character or byte literal, where `inside` is the text after its opening quote. Returns `None` if
-/// it isn't one.
 #[inline(always)]
 pub(crate) fn find_single(kind: Kind, text: &str, inside: &str) -> Option<Found> {
     let (piece, closer) = parse_char_or_escape(kind, inside)?;
@@ -184,15 +151,12 @@ pub(crate) fn find_single(kind: Kind, text: &str, inside: &str) -> Option<Found>
     Some(quoted(kind, body, piece_code(kind, piece)))
 }
 
-/// Whether the text begins with `'`, and has the three bytes that a character literal has at least.
 #[inline(always)]
 pub(crate) fn begins_character(text: &str) -> bool {
     let bytes = text.as_bytes();
     bytes.len() >= 3 && bytes[0] == b'\''
 }
 
-/// Parses an ASCII character between single quotes, except a backslash, as `'a'`. Returns `None` if the text begins
-/// otherwise. The text must begin with `'` and have at least three bytes.
 #[cfg_attr(debug_assertions, inline)]
 #[cfg_attr(not(debug_assertions), inline(always))]
 pub(crate) fn find_bare_character(text: &str) -> Option<Found> {
@@ -209,7 +173,6 @@ pub(crate) fn find_bare_character(text: &str) -> Option<Found> {
     Some(quoted(Kind::Char, body, bytes[1] as u32))
 }
 
-/// Parses a text that begins with `'` as a character literal. Returns `None` if it isn't one.
 #[inline]
 pub(crate) fn find_character(text: &str) -> Option<Found> {
     find_single(Kind::Char, text, crate::slices::after_first!(text))

@@ -7,19 +7,15 @@ use crate::rl_lenient::found::Found;
 use crate::rl_syntax::Kind;
 use crate::rl_syntax::slice_writer::put;
 
-/// The greatest `i128`, as a `u128`.
 const GREATEST: u128 = 0x7fff_ffff_ffff_ffff_ffff_ffff_ffff_ffff;
 
-/// The absolute value of the least `i128`.
 const LEAST: u128 = 0x8000_0000_0000_0000_0000_0000_0000_0000;
 
-/// Returns the signed number with the absolute value `magnitude`, which must be below 2^127.
 fn number(magnitude: u128, negative: bool) -> i128 {
     let number = magnitude as i128;
     if negative { 0 - number } else { number }
 }
 
-/// Returns the signed number with the absolute value `magnitude`, or `None` if it doesn't fit an `i128`.
 fn number_of(magnitude: u128, negative: bool) -> Option<i128> {
     if magnitude <= GREATEST {
         Some(number(magnitude, negative))
@@ -30,8 +26,6 @@ fn number_of(magnitude: u128, negative: bool) -> Option<i128> {
     }
 }
 
-/// Returns the value of a parsed integer literal, negative if `negative` is `true`. Returns `None` if the literal isn't
-/// an integer, or its value doesn't fit an `i128`.
 pub fn number_found(found: &Found, negative: bool) -> Option<i128> {
     if found.kind != Kind::Int {
         return None;
@@ -40,13 +34,10 @@ pub fn number_found(found: &Found, negative: bool) -> Option<i128> {
 }
 
 impl Found {
-    /// Returns `true` if the literal has a suffix. `text` must be the literal's text, which was parsed.
     pub fn has_suffix(&self, text: &str) -> bool {
         !self.suffix_in(text).is_empty()
     }
 
-    /// Decodes a string literal, writes its value to the start of `out`, and returns the value's length in bytes. The
-    /// length is at most that of the literal's body. `text` must be the literal's text, which was parsed.
     pub fn decode_str_into(&self, text: &str, out: &mut [u8]) -> usize {
         let body = self.body_in(text);
         if self.body.plain {
@@ -56,8 +47,6 @@ impl Found {
         }
     }
 
-    /// Returns the value of an integer literal with its sign, whatever its suffix. Returns `None` for any other
-    /// literal, and for an integer that doesn't fit an `i128`. `text` must be the literal's text, which was parsed.
     pub fn signed(&self, text: &str) -> Option<i128> {
         number_found(self, is_negative(text))
     }

@@ -15,32 +15,20 @@ use crate::rl_syntax::lanes::has_bit;
 use crate::rl_syntax::text::{begins_with_char, split_ascii, split_char, strip_byte, without_first_char};
 pub(crate) use suffix::after_suffix;
 
-/// The form of a token that [`Tokens`](crate::rl_lexer::Tokens) returns, which its first characters decide. A token with the form
-/// `Literal` isn't checked further, and may be an invalid literal.
 #[derive(Clone, Copy, PartialEq, Eq, Debug)]
 pub enum Form {
-    /// A literal of any kind, except `true` and `false`.
     Literal,
-    /// An identifier or a keyword, also `true` and `false`.
     Identifier,
-    /// One of the six delimiters: `(`, `)`, `[`, `]`, `{` and `}`.
     Delimiter(char),
-    /// A punctuation character that isn't a delimiter, as `+`.
     Mark(char),
 }
 
-/// Returns the form of the token at the start of a text, and the text after the token. Returns `None` if no token
-/// begins the text.
-///
-/// Most tokens of a list are numbers, identifiers and punctuation characters. These tokens are recognized without a
-/// call.
 #[cfg_attr(debug_assertions, inline)]
 #[cfg_attr(not(debug_assertions), inline(always))]
 pub(crate) fn first_lexeme(text: &str) -> Option<(Form, &str)> {
     if let Some(following) = after_number(text) {
         return Some((Form::Literal, following));
     }
-    // A quote begins neither an identifier nor a punctuation character.
     if strip_byte(text, b'"').is_none() {
         if let Some((form, following)) = word_or_mark(text) {
             return Some((form, following));
@@ -49,8 +37,6 @@ pub(crate) fn first_lexeme(text: &str) -> Option<(Form, &str)> {
     rebuilt_lexeme(text)
 }
 
-/// Returns the result of [`first_lexeme`] without a call of [`word_or_mark`]. The caller has called `word_or_mark`
-/// already, and the result was `None`.
 #[inline(always)]
 pub(crate) fn number_or_other(text: &str) -> Option<(Form, &str)> {
     if let Some(following) = after_number(text) {
@@ -59,7 +45,6 @@ pub(crate) fn number_or_other(text: &str) -> Option<(Form, &str)> {
     rebuilt_lexeme(text)
 }
 
-/// Returns `text` without the number at its start, or `None` if `text` doesn't begin with a decimal digit.
 #[inline(always)]
 fn after_number(text: &str) -> Option<&str> {
     match split_ascii(text) {
@@ -68,17 +53,11 @@ fn after_number(text: &str) -> Option<&str> {
     }
 }
 
-/// Returns the result of [`lexeme_but_number`] as a new value.
-///
-/// The memory for a call's result is zeroed when the calling function begins. As this call is in a function of its own,
-/// only the texts that need the call cost that zeroing.
 #[inline(always)]
 fn rebuilt_lexeme(text: &str) -> Option<(Form, &str)> {
     rebuilt(lexeme_but_number(text))
 }
 
-/// Returns the form of the token at the start of a text, and the text after the token. The first character, which must
-/// not be a digit, selects the function that lexes the token.
 #[inline(never)]
 fn lexeme_but_number(text: &str) -> Option<(Form, &str)> {
     let Some((byte, following)) = split_ascii(text) else {
@@ -94,8 +73,6 @@ fn lexeme_but_number(text: &str) -> Option<(Form, &str)> {
     }
 }
 
-/// Returns a new value that equals `found`. So the result of one call isn't joined in memory with the results of other
-/// calls.
 #[inline(always)]
 pub(crate) fn rebuilt<F>(found: Option<(F, &str)>) -> Option<(F, &str)> {
     match found {
@@ -104,8 +81,6 @@ pub(crate) fn rebuilt<F>(found: Option<(F, &str)>) -> Option<(F, &str)> {
     }
 }
 
-/// Returns the identifier at the start of a text whose first character is non-ASCII, and the text after the identifier.
-/// Returns `None` if that character can't begin an identifier.
 #[inline(never)]
 fn wide_identifier(text: &str) -> Option<(Form, &str)> {
     let (c, following) = split_char(text)?;
@@ -115,8 +90,6 @@ fn wide_identifier(text: &str) -> Option<(Form, &str)> {
     Some((Form::Identifier, skip_id_continue(following)))
 }
 
-/// Returns the form of a token that begins with the letter `letter`, and the text after the token: a literal with a
-/// prefix, or an identifier. `text` follows the letter. For a raw identifier the result is `None`.
 #[inline(never)]
 fn literal_or_identifier(letter: char, text: &str) -> Option<(Form, &str)> {
     match letter {
@@ -129,10 +102,6 @@ fn literal_or_identifier(letter: char, text: &str) -> Option<(Form, &str)> {
     }
 }
 
-/// Returns the form of the token at the start of a text, and the text after the token, if the first one or two ASCII
-/// bytes decide the form. The token is then an identifier that doesn't begin like a literal, a delimiter, or a
-/// punctuation character that doesn't begin a comment. Otherwise the result is `None`, and the text may still begin
-/// with a token.
 #[cfg_attr(debug_assertions, inline)]
 #[cfg_attr(not(debug_assertions), inline(always))]
 pub(crate) fn word_or_mark(text: &str) -> Option<(Form, &str)> {
@@ -148,22 +117,15 @@ pub(crate) fn word_or_mark(text: &str) -> Option<(Form, &str)> {
     }
 }
 
-/// A class of ASCII characters, by the tokens that begin with them.
 #[derive(Clone, Copy)]
 enum Lead {
-    /// A character that always begins an identifier: `_`, and each letter except `b`, `c` and `r`.
     Word,
-    /// A character that always is a token by itself: a delimiter, or a punctuation character except `/`.
     Mark,
-    /// A letter that begins a literal's prefix or an identifier: `b`, `c` or `r`.
     Prefix,
-    /// The slash, which begins a comment or is a punctuation character.
     Slash,
-    /// Every other ASCII character.
     Other,
 }
 
-/// Returns the class of an ASCII character. Masks of 64 bits contain the characters of the classes `Word` and `Mark`.
 #[cfg_attr(debug_assertions, inline)]
 #[cfg_attr(not(debug_assertions), inline(always))]
 fn lead_of(byte: u8) -> Lead {
@@ -188,12 +150,6 @@ fn lead_of(byte: u8) -> Lead {
     Lead::Other
 }
 
-/// Whether `following`, the text after a letter `b`, `c` or `r`, begins with an ASCII character whose code is at least
-/// 64 (`@`), except `r`. If the result is `true`, the letter begins an identifier or is one, and isn't a literal's
-/// prefix.
-///
-/// Before a digit and before a non-ASCII character the result is `false`, although the letter begins an identifier
-/// there too.
 #[inline(always)]
 fn continues_word(following: &str) -> bool {
     match split_ascii(following) {
@@ -202,8 +158,6 @@ fn continues_word(following: &str) -> bool {
     }
 }
 
-/// Whether the text after a slash begins with an ASCII character other than `/` and `*`, so that the slash begins no
-/// comment.
 #[inline(always)]
 fn begins_other_than_comment(following: &str) -> bool {
     match split_ascii(following) {
@@ -212,13 +166,9 @@ fn begins_other_than_comment(following: &str) -> bool {
     }
 }
 
-/// A bit for each of the ASCII characters 0 to 63, set where [`is_always_token`] is true.
 const LOW_MARKS: u64 = 0xfc00_7f7a_0000_0000;
-/// A bit for each of the ASCII characters 64 to 127, set where [`is_always_token`] is true.
 const HIGH_MARKS: u64 = 0x7800_0000_6800_0001;
 
-/// Whether the ASCII character is a token by itself, whatever follows it: a delimiter, or a punctuation character
-/// except `/`.
 #[inline(always)]
 fn is_always_token(byte: u8) -> bool {
     if byte < 64 {
@@ -228,7 +178,6 @@ fn is_always_token(byte: u8) -> bool {
     }
 }
 
-/// Returns the form of the delimiter or the punctuation character `c`.
 #[inline(always)]
 fn mark_form(c: char) -> Form {
     if is_delimiter(c) {
@@ -238,32 +187,21 @@ fn mark_form(c: char) -> Form {
     }
 }
 
-// The functions `quoted_literal`, `character_literal` and `raw_literal` are alike. They are separate functions, because
-// a function zeroes the memory for the results of all its calls when it begins.
-
-/// Returns the form `Literal` and the text after a string literal, where `text` follows the opening `"`. Returns `None`
-/// if the literal isn't closed.
 #[inline(always)]
 fn quoted_literal(text: &str) -> Option<(Form, &str)> {
     Some((Form::Literal, after_quoted(text)?))
 }
 
-/// Returns the form `Literal` and the text after a character or byte literal, where `text` follows the opening `'`.
-/// Returns `None` if no `'` follows the one character or the escape.
 #[inline(always)]
 fn character_literal(text: &str) -> Option<(Form, &str)> {
     Some((Form::Literal, after_character(text)?))
 }
 
-/// Returns the form `Literal` and the text after a raw literal, where `text` follows the `r`. Returns `None` if the
-/// literal isn't closed.
 #[inline(always)]
 fn raw_literal(text: &str) -> Option<(Form, &str)> {
     Some((Form::Literal, after_raw_literal(text)?))
 }
 
-/// Returns the slash as a punctuation character, and `text`, which follows the slash. Returns `None` if the slash
-/// begins a comment.
 #[inline(never)]
 fn after_slash(text: &str) -> Option<(Form, &str)> {
     match split_char(text) {
@@ -272,10 +210,6 @@ fn after_slash(text: &str) -> Option<(Form, &str)> {
     }
 }
 
-/// Returns the text after a number, where `text` follows the first digit of the number.
-///
-/// A prefix such as `0x` needs no test: the letter of the prefix and the digits after the letter are lexed like a
-/// suffix. Most numbers end after a sequence of digits.
 #[inline(always)]
 fn after_digit(text: &str) -> &str {
     let rest = after_digits(text);
@@ -285,12 +219,10 @@ fn after_digit(text: &str) -> &str {
     after_decimal(rest)
 }
 
-/// Whether the text begins with `r`, any number of hashes, and `"`.
 fn begins_raw_literal(text: &str) -> bool {
     begins_with_char(text, 'r') && begins_hashed_quote(without_first_char(text))
 }
 
-/// Whether the text begins with `#` and a character that may begin an identifier.
 pub(crate) fn begins_marked_identifier(text: &str) -> bool {
     match split_char(text) {
         Some(('#', following)) => match split_char(following) {
@@ -301,12 +233,10 @@ pub(crate) fn begins_marked_identifier(text: &str) -> bool {
     }
 }
 
-/// Returns `true` if the delimiter opens a group: `(`, `[` or `{`.
 pub fn is_opener(c: char) -> bool {
     matches!(c, '(' | '[' | '{')
 }
 
-/// Whether the character is one of the six delimiters: `(`, `)`, `[`, `]`, `{` and `}`.
 fn is_delimiter(c: char) -> bool {
     matches!(c, '(' | ')' | '[' | ']' | '{' | '}')
 }

@@ -7,8 +7,6 @@ use crate::rl_syntax::characters::is_id_start;
 use crate::rl_syntax::kind::{BYTE_OPENER, BYTE_STR_OPENER, C_STR_OPENER, CHAR_OPENER, STR_OPENER};
 use crate::rl_syntax::text::{begins, begins_with_char, split_char};
 
-/// Returns the kind of the lexer's error at the start of `rest`, where no token begins. The first characters of `rest`
-/// decide.
 pub(crate) fn error_kind(rest: &str) -> LexKind {
     if begins_doc_comment(rest) {
         LexKind::DocComment
@@ -25,8 +23,6 @@ pub(crate) fn error_kind(rest: &str) -> LexKind {
     }
 }
 
-/// Returns the kind of the lexer's error at the start of `rest`, the end of a source. No token begins `rest`, because
-/// `rest` begins with a comment or a quoted literal that isn't closed.
 pub fn source_error_kind(rest: &str) -> LexKind {
     if begins(rest, "/*") {
         LexKind::UnclosedComment
@@ -35,7 +31,6 @@ pub fn source_error_kind(rest: &str) -> LexKind {
     }
 }
 
-/// Whether the text begins like a quoted literal or a block comment.
 pub(crate) fn opens(text: &str) -> bool {
     begins(text, "/*") || (begins_quote(text) || begins_with_char(text, '\''))
 }
@@ -47,8 +42,6 @@ fn begins_doc_comment(text: &str) -> bool {
         || begins(text, "/*!")
 }
 
-/// Whether the text begins with the opening quote of a string, raw or byte literal, prefix included, or with an
-/// apostrophe that begins no lifetime.
 fn begins_quote(text: &str) -> bool {
     begins(text, STR_OPENER)
         || begins(text, BYTE_STR_OPENER)
@@ -58,7 +51,6 @@ fn begins_quote(text: &str) -> bool {
         || (begins(text, CHAR_OPENER) && !begins_lifetime(text))
 }
 
-/// Whether the text begins like a raw literal: with `r`, `br` or `cr`, any number of hashes, and `"`.
 fn begins_raw(text: &str) -> bool {
     match split_char(text) {
         Some(('r', following)) => begins_hashed_quote(following),
@@ -70,7 +62,6 @@ fn begins_raw(text: &str) -> bool {
     }
 }
 
-/// Whether the text begins like a lifetime: with an apostrophe and a character that may begin an identifier.
 fn begins_lifetime(text: &str) -> bool {
     match split_char(text) {
         Some(('\'', following)) => match split_char(following) {
@@ -81,7 +72,6 @@ fn begins_lifetime(text: &str) -> bool {
     }
 }
 
-/// Whether the text begins like a raw identifier: with `r#` and a character that may begin an identifier.
 pub(crate) fn begins_raw_identifier(text: &str) -> bool {
     match split_char(text) {
         Some(('r', following)) => begins_marked_identifier(following),

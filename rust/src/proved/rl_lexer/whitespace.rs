@@ -7,11 +7,6 @@ use crate::rl_syntax::lines::after_first_line_feed;
 use crate::rl_syntax::scan::{Marks, len_before_near_mark};
 use crate::rl_syntax::text::{begins_with_char, split_ascii, strip_byte};
 
-/// Returns `text` without the white space and plain comments at its start, as a slice.
-///
-/// The result begins with the first character that is neither white space nor part of a plain comment. Doc comments
-/// aren't skipped, and neither are block comments that aren't closed. If the text ends in a line comment, the result is
-/// empty.
 #[inline(always)]
 pub fn skip(text: &str) -> &str {
     let rest = skip_white(text);
@@ -21,8 +16,6 @@ pub fn skip(text: &str) -> &str {
     skip_comments(rest)
 }
 
-/// Returns `text` without the plain comments at its start, and without the white space after each of them. The text
-/// must not begin with white space.
 #[inline(never)]
 fn skip_comments(text: &str) -> &str {
     let mut rest = text;
@@ -35,8 +28,6 @@ fn skip_comments(text: &str) -> &str {
     rest
 }
 
-/// Returns the text after a plain comment, where `text` follows the first slash. Returns `None` if the slash begins no
-/// plain comment, and if a block comment isn't closed.
 #[cfg_attr(debug_assertions, inline)]
 #[cfg_attr(not(debug_assertions), inline(always))]
 fn after_comment(text: &str) -> Option<&str> {
@@ -52,7 +43,6 @@ fn after_comment(text: &str) -> Option<&str> {
     }
 }
 
-/// Whether a line comment is plain, and not a doc comment. `body` is the text after the `//` of the comment.
 #[inline(always)]
 pub(crate) fn is_comment_line(body: &str) -> bool {
     match split_ascii(body) {
@@ -62,7 +52,6 @@ pub(crate) fn is_comment_line(body: &str) -> bool {
     }
 }
 
-/// Whether a block comment is plain, and not a doc comment. `inside` is the text after the `/*` of the comment.
 #[cfg_attr(debug_assertions, inline)]
 #[cfg_attr(not(debug_assertions), inline(always))]
 pub(crate) fn is_comment_block(inside: &str) -> bool {
@@ -77,15 +66,10 @@ pub(crate) fn is_comment_block(inside: &str) -> bool {
     }
 }
 
-/// Returns the text after the LF that ends a line comment, or an empty text if the comment is at the end of the text.
 pub(crate) fn after_line(text: &str) -> &str {
     after_first_line_feed(text).unwrap_or("")
 }
 
-/// Returns the text after a block comment, where `text` follows the `/*` of the comment. Returns `None` if the comment
-/// isn't closed.
-///
-/// The loop is over bytes, from one `*` or `/` to the next. The loop counts the nested block comments that are open.
 #[cfg_attr(debug_assertions, inline)]
 #[cfg_attr(not(debug_assertions), inline(always))]
 pub(crate) fn after_block(text: &str) -> Option<&str> {

@@ -177,16 +177,13 @@ impl fmt::Display for Flaw {
 
 impl core::error::Error for Flaw {}
 
-/// A flaw that is found during parsing: its kind, and the text that begins at its byte offset.
 #[derive(Clone, Copy)]
 pub struct FlawAt<'t> {
     pub kind: FlawKind,
-    /// The text that begins with the text to show: an escape, a character, a suffix, a number or a word.
     pub piece: &'t str,
     pub rest: &'t str,
 }
 
-/// Creates a flaw of the kind `kind`. The flaw, and the text to show for it, begin where `rest` begins.
 pub fn make_flaw(kind: FlawKind, rest: &str) -> FlawAt<'_> {
     FlawAt {
         kind,
@@ -196,7 +193,6 @@ pub fn make_flaw(kind: FlawKind, rest: &str) -> FlawAt<'_> {
 }
 
 impl<'t> FlawAt<'t> {
-    /// Returns the flaw with its field `piece` replaced by the argument.
     pub fn with_piece(self, piece: &'t str) -> FlawAt<'t> {
         FlawAt {
             kind: self.kind,
@@ -206,36 +202,21 @@ impl<'t> FlawAt<'t> {
     }
 }
 
-/// One error in the text of a literal: its kind, its byte range, and the piece of the text to show.
-///
-/// The text before `lo` is the longest prefix of the text that can still become a literal: some ending completes it, and with
-/// the text's next character no ending does. For an integer above 128 bits, the text before `lo` is the number without its
-/// suffix. A compiler would underline `from..hi`.
 #[derive(Clone, Copy, PartialEq, Eq, Debug)]
 pub struct Flaw {
-    /// The kind of error.
     pub kind: FlawKind,
-    /// The byte offset where the faulty piece begins. The piece is, for example, an escape, a character, a suffix, a whole number,
-    /// or a whole word. In a character or byte literal, the piece may be all of the text after the opening quote.
     pub from: usize,
-    /// The byte offset of the first character that can't continue a literal, or the text's end if the text is too short. For an
-    /// integer above 128 bits it is the byte offset of the suffix.
     pub lo: usize,
-    /// The byte offset after the character at `lo`, or the text's end.
     pub hi: usize,
 }
 
 impl Flaw {
-    /// Returns the flaw's range `lo..hi` in the file, where `span` is the span of the literal's token.
-    ///
-    /// The offsets count from the span's first byte, and are limited to its end.
     #[cfg(feature = "__rendered")]
     pub fn in_span(self, span: Span) -> Span {
         Span::new(span.file, place_in(span, self.lo), place_in(span, self.hi))
     }
 }
 
-/// Returns the byte offset `at` counted from the beginning of `span`, limited to the end of `span`.
 #[cfg(feature = "__rendered")]
 fn place_in(span: Span, at: usize) -> usize {
     match span.lo.checked_add(at) {
@@ -244,7 +225,6 @@ fn place_in(span: Span, at: usize) -> usize {
     }
 }
 
-/// Returns a flaw at the beginning of `text`: of the kind `at_end` if `text` is empty, of the kind `before` otherwise.
 pub fn flaw_at_end_or_before(at_end: FlawKind, before: FlawKind, text: &str) -> FlawAt<'_> {
     match split_char(text) {
         None => make_flaw(at_end, text),
@@ -252,7 +232,6 @@ pub fn flaw_at_end_or_before(at_end: FlawKind, before: FlawKind, text: &str) -> 
     }
 }
 
-/// Returns the part of `text` after the longest common prefix of `word` and `text`.
 fn skip_letters<'t>(word: &str, text: &'t str) -> &'t str {
     let mut left = word;
     let mut rest = text;
@@ -268,7 +247,6 @@ fn skip_letters<'t>(word: &str, text: &'t str) -> &'t str {
     rest
 }
 
-/// Returns the flaw of a text that begins neither as a number nor as a quoted literal.
 pub fn non_literal_flaw(text: &str) -> FlawAt<'_> {
     match split_char(text) {
         None => make_flaw(FlawKind::Empty, text),

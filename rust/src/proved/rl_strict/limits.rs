@@ -6,7 +6,6 @@ use crate::rl_strict::line_ends::LineEnds;
 use crate::rl_strict::strict_reading::{Reading, flaw_with_offsets};
 use crate::rl_lenient::digit_runs::{after_minus, begins_digit, skip_digits};
 
-/// Returns the byte offset of the suffix if `reading` is an integer above 128 bits, and `None` otherwise.
 pub fn suffix_at_if_above_128_bits(reading: Reading) -> Option<usize> {
     match reading {
         Reading::Integer(None, suffix_at) => Some(suffix_at),
@@ -14,10 +13,6 @@ pub fn suffix_at_if_above_128_bits(reading: Reading) -> Option<usize> {
     }
 }
 
-/// Returns `true` if Rust reads the text as a float because of its suffix: decimal digits, optionally after a minus, and `f32`
-/// or `f64`.
-///
-/// A float because of its suffix may be above 128 bits, as in rustc: `340282366920938463463374607431768211456f64` is valid.
 pub fn is_float_by_suffix(text: &str) -> bool {
     let number = after_minus(text);
     if begins_digit(number) {
@@ -27,15 +22,11 @@ pub fn is_float_by_suffix(text: &str) -> bool {
     }
 }
 
-/// Returns the flaw of an integer above 128 bits, whose suffix begins at the byte offset `suffix_at`. The text to show for
-/// the flaw begins at the start of `text`.
 pub fn flaw_above_128_bits(text: &str, suffix_at: usize) -> Flaw {
     let found = make_flaw(FlawKind::TooLarge, &text[suffix_at..]).with_piece(text);
     flaw_with_offsets(LineEnds::Text, found, text)
 }
 
-/// Returns the flaw of `text` if `reading`, its parse result, is an integer above 128 bits that its suffix doesn't make a
-/// float.
 pub fn flaw_if_above_128_bits(text: &str, reading: Reading) -> Option<Flaw> {
     match suffix_at_if_above_128_bits(reading) {
         Some(suffix_at) => {

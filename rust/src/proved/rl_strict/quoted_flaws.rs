@@ -6,8 +6,6 @@ use crate::rl_lenient::units::{CodeDigits, allows_code, allows_unicode_escapes, 
 use crate::rl_syntax::Kind;
 use crate::rl_syntax::text::split_char;
 
-/// Returns the flaw of an invalid `\x` escape after its first digit. `text` begins at the second digit. If the second digit is
-/// valid, the flaw is a NUL, which is `\x00` in a C string.
 fn low_digit_flaw(text: &str) -> FlawAt<'_> {
     match split_char(text) {
         None => make_flaw(FlawKind::Unclosed, text),
@@ -16,7 +14,6 @@ fn low_digit_flaw(text: &str) -> FlawAt<'_> {
     }
 }
 
-/// Returns the first flaw after `\x` in a literal of the kind `kind`.
 fn hex_flaw(kind: Kind, text: &str) -> FlawAt<'_> {
     let Some((first, rest)) = split_char(text) else {
         return make_flaw(FlawKind::Unclosed, text);
@@ -31,12 +28,10 @@ fn hex_flaw(kind: Kind, text: &str) -> FlawAt<'_> {
     }
 }
 
-/// Whether a literal of the kind `kind` can contain the character with the code point `code`.
 fn is_code(kind: Kind, code: u32) -> bool {
     char::from_u32(code).is_some() && allows_code(kind, code)
 }
 
-/// Returns the reason why a literal can't contain the character with the code point `code`.
 fn code_flaw(code: u32) -> FlawKind {
     if code > 0x10FFFF {
         FlawKind::UnicodeEscapeOutOfRange
@@ -47,8 +42,6 @@ fn code_flaw(code: u32) -> FlawKind {
     }
 }
 
-/// Returns the flaw of a `\u{..}` escape with the digits `digits`: a flaw of the code point that they represent, or the
-/// first flaw after them.
 fn digits_flaw(kind: Kind, text: &str, digits: CodeDigits) -> FlawAt<'_> {
     if digits.count == 6 && !is_code(kind, digits.value) {
         return make_flaw(code_flaw(digits.value), &text[digits.last..]);
@@ -62,7 +55,6 @@ fn digits_flaw(kind: Kind, text: &str, digits: CodeDigits) -> FlawAt<'_> {
     }
 }
 
-/// Returns the first flaw after `\u{`.
 fn first_digit_flaw(kind: Kind, text: &str) -> FlawAt<'_> {
     if let Some(digits) = parse_code_digits(text, 0) {
         return digits_flaw(kind, text, digits);
@@ -74,7 +66,6 @@ fn first_digit_flaw(kind: Kind, text: &str) -> FlawAt<'_> {
     }
 }
 
-/// Returns the first flaw after a backslash.
 pub(crate) fn escape_flaw(kind: Kind, text: &str) -> FlawAt<'_> {
     match split_char(text) {
         None => make_flaw(FlawKind::Unclosed, text),
@@ -94,7 +85,6 @@ pub(crate) fn escape_flaw(kind: Kind, text: &str) -> FlawAt<'_> {
     }
 }
 
-/// Returns the reason why the character `c` isn't allowed unescaped.
 pub(crate) fn character_flaw(c: char) -> FlawKind {
     match c {
         '\0' => FlawKind::Nul,

@@ -9,23 +9,18 @@ use crate::rl_syntax::characters::is_id_start;
 use crate::rl_syntax::classes::{CharClass, skip_class};
 use crate::rl_syntax::text::{split_ascii, split_char};
 
-/// The reason why parsing a number stopped, and the text that begins where parsing stopped.
 #[derive(Clone, Copy)]
 pub struct Stop<'t> {
     pub kind: FlawKind,
     pub rest: &'t str,
 }
 
-/// A parsed number.
 #[derive(Clone, Copy)]
 pub enum Number<'t> {
-    /// An integer: its magnitude, or `None` above 128 bits, and its suffix.
     Integer(Option<u128>, &'t str),
-    /// A float, with its suffix.
     Float(&'t str),
 }
 
-/// Returns the text after the identifier at the beginning of `text`, or all of `text` if it doesn't begin with an identifier.
 #[inline(always)]
 pub(crate) fn skip_suffix(text: &str) -> &str {
     match split_char(text) {
@@ -34,7 +29,6 @@ pub(crate) fn skip_suffix(text: &str) -> &str {
     }
 }
 
-/// Whether each byte is an ASCII letter, an ASCII digit or an underscore.
 #[inline(always)]
 fn are_suffix_bytes(bytes: &[u8]) -> bool {
     bytes
@@ -42,7 +36,6 @@ fn are_suffix_bytes(bytes: &[u8]) -> bool {
         .all(|byte| byte.is_ascii_alphanumeric() || *byte == b'_')
 }
 
-/// Whether the text is an ASCII letter, followed by ASCII letters, digits and underscores only.
 #[inline(always)]
 fn is_ascii_word(text: &str) -> bool {
     let bytes = text.as_bytes();
@@ -52,14 +45,12 @@ fn is_ascii_word(text: &str) -> bool {
     are_suffix_bytes(bytes)
 }
 
-/// Returns all of `text` as a number's suffix, or a stop at the first character that a suffix can't contain.
 #[cfg_attr(debug_assertions, inline)]
 #[cfg_attr(not(debug_assertions), inline(always))]
 fn read_suffix(text: &str) -> Result<&str, Stop<'_>> {
     if text.is_empty() {
         return Ok(text);
     }
-    // Most suffixes are ASCII words, and `is_ascii_word` is inlined.
     if is_ascii_word(text) {
         return Ok(text);
     }
@@ -74,7 +65,6 @@ fn read_suffix(text: &str) -> Result<&str, Stop<'_>> {
     }
 }
 
-/// Returns `text` without the `+` or `-` at its beginning, if it has one.
 #[inline(always)]
 fn after_sign(text: &str) -> &str {
     match split_ascii(text) {
@@ -83,7 +73,6 @@ fn after_sign(text: &str) -> &str {
     }
 }
 
-/// Parses the text after the letter of a float's exponent, and returns the float's suffix.
 #[cfg_attr(debug_assertions, inline)]
 #[cfg_attr(not(debug_assertions), inline(always))]
 fn read_power(text: &str) -> Result<&str, Stop<'_>> {
@@ -98,7 +87,6 @@ fn read_power(text: &str) -> Result<&str, Stop<'_>> {
     }
 }
 
-/// Parses the text after the digits of a float's fraction, and returns the float's suffix.
 #[inline(always)]
 fn read_exponent(text: &str) -> Result<&str, Stop<'_>> {
     match split_ascii(text) {
@@ -107,7 +95,6 @@ fn read_exponent(text: &str) -> Result<&str, Stop<'_>> {
     }
 }
 
-/// Parses the text after a float's dot, and returns the float's suffix.
 #[cfg_attr(debug_assertions, inline)]
 #[cfg_attr(not(debug_assertions), inline(always))]
 fn read_fraction(text: &str) -> Result<&str, Stop<'_>> {
@@ -123,7 +110,6 @@ fn read_fraction(text: &str) -> Result<&str, Stop<'_>> {
     }
 }
 
-/// Parses a decimal number from the end of its whole part `run` on.
 #[inline(always)]
 fn read_whole(run: DigitRun<'_>) -> Result<Number<'_>, Stop<'_>> {
     match split_ascii(run.rest) {
@@ -133,12 +119,10 @@ fn read_whole(run: DigitRun<'_>) -> Result<Number<'_>, Stop<'_>> {
     }
 }
 
-/// Whether the text begins with a character that only floats have after their whole part: a dot, `e` or `E`.
 pub fn begins_float(text: &str) -> bool {
     matches!(split_char(text), Some(('.' | 'e' | 'E', _)))
 }
 
-/// Parses the integer after its base prefix. `radix` is the base, other than ten.
 #[inline(never)]
 fn read_based(radix: u32, text: &str) -> Result<Number<'_>, Stop<'_>> {
     let run = read_digit_run(text, radix);
@@ -163,7 +147,6 @@ fn read_based(radix: u32, text: &str) -> Result<Number<'_>, Stop<'_>> {
     }
 }
 
-/// Parses all of `text`, which begins with a digit, as a number.
 #[inline]
 pub fn parse_number(text: &str) -> Result<Number<'_>, Stop<'_>> {
     let (radix, digits) = split_radix(text);
@@ -174,8 +157,6 @@ pub fn parse_number(text: &str) -> Result<Number<'_>, Stop<'_>> {
     }
 }
 
-/// Parses all of `text`, which begins with a digit, as a number. The error is the reason why the text isn't a number, and the
-/// text that begins where parsing stopped.
 #[inline(always)]
 pub fn parse_number_token(text: &str) -> Result<Number<'_>, Stop<'_>> {
     parse_number(text)

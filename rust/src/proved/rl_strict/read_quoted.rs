@@ -13,7 +13,6 @@ use crate::rl_lenient::units::{Piece, is_allowed_in_single_quotes, parse_char_or
 use crate::rl_syntax::Kind;
 use crate::rl_syntax::text::split_char;
 
-/// Whether the text is a single underscore.
 fn is_lone_underscore(text: &str) -> bool {
     match split_char(text) {
         Some((first, rest)) => rest.is_empty() && first == '_',
@@ -21,8 +20,6 @@ fn is_lone_underscore(text: &str) -> bool {
     }
 }
 
-/// Returns the flaw after the closing quote, unless the text there is a suffix. `closing` is the text that begins with the
-/// closing quote, and `suffix` is the text after the closing delimiter. `suffix` isn't empty.
 #[inline(never)]
 fn some_suffix_flaw<'t>(form: QuotedForm, closing: &'t str, suffix: &'t str) -> Option<FlawAt<'t>> {
     if begins_hash(form, suffix) {
@@ -44,9 +41,6 @@ fn some_suffix_flaw<'t>(form: QuotedForm, closing: &'t str, suffix: &'t str) -> 
     }
 }
 
-/// Returns the flaw after the closing quote, unless the text there is a suffix or empty. `closing` is the text that begins with
-/// the closing quote, and `suffix` is the text after the closing delimiter. Most literals have no suffix, and return here at
-/// once.
 #[inline(always)]
 pub fn suffix_flaw<'t>(form: QuotedForm, closing: &'t str, suffix: &'t str) -> Option<FlawAt<'t>> {
     if suffix.is_empty() {
@@ -55,8 +49,6 @@ pub fn suffix_flaw<'t>(form: QuotedForm, closing: &'t str, suffix: &'t str) -> O
     some_suffix_flaw(form, closing, suffix)
 }
 
-/// Whether the body is known to be the literal's value, byte for byte. In a file the result is `false`, since a CR LF in the
-/// body would be read as LF.
 #[inline(always)]
 fn plain_of(ends: LineEnds, plain: bool) -> bool {
     match ends {
@@ -65,8 +57,6 @@ fn plain_of(ends: LineEnds, plain: bool) -> bool {
     }
 }
 
-/// Parses a string with escapes, and returns the byte offsets of its parts, or its flaw. `inside` is the text after the opening
-/// quote.
 #[cfg_attr(debug_assertions, inline)]
 #[cfg_attr(not(debug_assertions), inline(always))]
 pub(crate) fn text_at<'t>(
@@ -88,15 +78,12 @@ pub(crate) fn text_at<'t>(
     }
 }
 
-/// A parsed character or byte literal: the byte offsets of its parts, and its value.
 #[derive(Clone, Copy)]
 pub struct Single {
     pub body: Body,
     pub unit: u32,
 }
 
-/// Returns the character or escape at the beginning of `text`, and the text after the character or escape. `text` begins
-/// after the opening quote of a character or byte literal.
 #[cfg_attr(debug_assertions, inline)]
 #[cfg_attr(not(debug_assertions), inline(always))]
 pub fn parse_strict_char_or_escape(kind: Kind, text: &str) -> Option<(Piece, &str)> {
@@ -113,8 +100,6 @@ pub fn parse_strict_char_or_escape(kind: Kind, text: &str) -> Option<(Piece, &st
     }
 }
 
-/// Parses a character or byte literal, and returns the byte offsets of its parts and its value, or its flaw. `inside` is the
-/// text after the opening quote.
 #[inline(always)]
 pub(crate) fn unit_at<'t>(
     ends: LineEnds,
@@ -132,8 +117,6 @@ pub(crate) fn unit_at<'t>(
     }
 }
 
-/// Parses a raw string, and returns the byte offsets of its parts, or its flaw. `inside` is the text that begins with the
-/// hashes.
 fn raw_at<'t>(
     ends: LineEnds,
     kind: Kind,
@@ -158,8 +141,6 @@ fn raw_at<'t>(
     }
 }
 
-/// Parses a quoted literal of the form `form` and the kind `kind`, or returns its flaw. `inside` is the text after the opening
-/// delimiter.
 #[cfg_attr(debug_assertions, inline)]
 #[cfg_attr(not(debug_assertions), inline(always))]
 pub(crate) fn quoted_at<'t>(

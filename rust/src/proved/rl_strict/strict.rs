@@ -6,8 +6,6 @@ use crate::rl_syntax::Kind;
 use crate::rl_syntax::scan::{Marks, split_before_mark};
 use crate::rl_syntax::text::after_prefix;
 
-/// The characters at which the search in a raw string or raw byte string stops: `"`, which may close it, and CR, which it can't
-/// contain.
 const INSIDE_STRING: Marks = Marks {
     first: b'"',
     second: b'\r',
@@ -15,7 +13,6 @@ const INSIDE_STRING: Marks = Marks {
     fourth: b'\r',
 };
 
-/// The characters at which the search in a raw C string stops: `"`, which may close it, and CR and NUL, which it can't contain.
 const INSIDE_C_STRING: Marks = Marks {
     first: b'"',
     second: b'\r',
@@ -23,7 +20,6 @@ const INSIDE_C_STRING: Marks = Marks {
     fourth: 0,
 };
 
-/// Returns `true` if a raw string of the kind `kind` may contain the character `c`.
 pub fn is_raw_character(kind: Kind, c: char) -> bool {
     match kind {
         Kind::Str => c != '\r',
@@ -33,8 +29,6 @@ pub fn is_raw_character(kind: Kind, c: char) -> bool {
     }
 }
 
-/// Returns the text after a raw string's closing delimiter. The result is `None` if `c` and the first characters of `after`
-/// aren't the closing delimiter, `"` and the hashes `hashes`.
 pub fn after_closer<'t>(hashes: &str, c: char, after: &'t str) -> Option<&'t str> {
     if c == '"' {
         after_prefix(hashes, after)
@@ -43,8 +37,6 @@ pub fn after_closer<'t>(hashes: &str, c: char, after: &'t str) -> Option<&'t str
     }
 }
 
-/// Skips all characters at the beginning of the text that a raw string of the kind `kind` may contain, except quotes, and
-/// returns the text after them.
 #[inline]
 pub fn skip_raw_characters(kind: Kind, text: &str) -> &str {
     match kind {

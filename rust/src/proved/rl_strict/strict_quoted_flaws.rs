@@ -7,7 +7,6 @@ use crate::rl_lenient::quoted_forms::QuotedForm;
 use crate::rl_syntax::Kind;
 use crate::rl_syntax::text::split_char;
 
-/// Returns the closing quote of a literal of the form `form`: `'` or `"`.
 pub(crate) fn quote_of(form: QuotedForm) -> char {
     match form {
         QuotedForm::Single => '\'',
@@ -15,7 +14,6 @@ pub(crate) fn quote_of(form: QuotedForm) -> char {
     }
 }
 
-/// Whether the text after a raw string's closing delimiter begins with one more hash.
 pub(crate) fn begins_hash(form: QuotedForm, text: &str) -> bool {
     match form {
         QuotedForm::Raw => matches!(split_char(text), Some(('#', _))),
@@ -23,7 +21,6 @@ pub(crate) fn begins_hash(form: QuotedForm, text: &str) -> bool {
     }
 }
 
-/// Returns the flaw of a text that begins with neither a character nor an escape that a literal of the kind `kind` may contain.
 pub fn unit_flaw(kind: Kind, text: &str) -> FlawAt<'_> {
     match split_char(text) {
         None => make_flaw(FlawKind::Unclosed, text),
@@ -36,7 +33,6 @@ pub fn unit_flaw(kind: Kind, text: &str) -> FlawAt<'_> {
     }
 }
 
-/// Returns the flaw of a character that a raw string of the kind `kind` can't contain.
 pub fn raw_character_flaw(kind: Kind, c: char) -> FlawKind {
     match c {
         '\r' => FlawKind::CarriageReturn,

@@ -13,41 +13,24 @@ use crate::rl_lenient::{Body, bool_of};
 use crate::rl_syntax::Kind;
 use crate::rl_syntax::text::{ascii_at, begins_with_char, strip_byte};
 
-/// The parse result of a literal token. Offsets are in bytes of the token's text as written.
-///
-/// For a text in a file, `plain` is always false: it isn't known whether the body is the literal's value.
 #[derive(Clone, Copy)]
 pub enum Reading {
-    /// A string of this kind, and the byte offsets of its parts.
     Text(Kind, Body),
-    /// A character or byte literal, the byte offsets of its parts, and its value.
     Unit(Kind, Body, u32),
-    /// An integer: its magnitude, or `None` above 128 bits, and the byte offset of its suffix. Without a suffix, this is the
-    /// text's end.
     Integer(Option<u128>, usize),
-    /// A float, and the byte offset of its suffix.
     Float(usize),
-    /// The literal `true` or `false`.
     Truth(bool),
 }
 
-/// How a text begins. The first bytes identify most literals, and the function that parses each of them.
 #[derive(Clone, Copy)]
 pub enum Front<'t> {
-    /// The text begins with `"`, and this field is the text after the `"`. [`read_string`] parses the text.
     Quote(&'t str),
-    /// The text is this ASCII character, unescaped, between single quotes, for example `'a'`.
     Bare(u8),
-    /// The text begins with `'`, and this field is the text after the `'`. [`read_character`] parses the text.
     Apostrophe(&'t str),
-    /// The text begins with a digit. [`read_unsigned_number`] parses the text.
     Digit,
-    /// The text is empty, or begins with a character other than a quote and a digit. [`read_non_digit_start`] parses the
-    /// text.
     Other,
 }
 
-/// Returns the character if the text is one unescaped ASCII character between single quotes, for example `'a'`.
 #[cfg_attr(debug_assertions, inline)]
 #[cfg_attr(not(debug_assertions), inline(always))]
 fn bare_of(text: &str) -> Option<u8> {
@@ -62,7 +45,6 @@ fn bare_of(text: &str) -> Option<u8> {
     }
 }
 
-/// Returns how the text begins.
 #[cfg_attr(debug_assertions, inline)]
 #[cfg_attr(not(debug_assertions), inline(always))]
 pub fn classify_start(text: &str) -> Front<'_> {
@@ -77,7 +59,6 @@ pub fn classify_start(text: &str) -> Front<'_> {
     }
 }
 
-/// Converts a parsed number, whose suffix is the end of `text`, to a `Reading` with the suffix's byte offset in `text`.
 #[inline(always)]
 pub fn reading_of_number(text: &str, number: Number<'_>) -> Reading {
     match number {
@@ -88,7 +69,6 @@ pub fn reading_of_number(text: &str, number: Number<'_>) -> Reading {
     }
 }
 
-/// Parses all of `text`, which begins with a digit, as a number.
 #[inline(always)]
 fn number_at(text: &str) -> Result<Reading, FlawAt<'_>> {
     match parse_number(text) {
@@ -101,7 +81,6 @@ fn number_at(text: &str) -> Result<Reading, FlawAt<'_>> {
     }
 }
 
-/// Parses a negative number. `number` is the part of `text` after the minus.
 #[cfg_attr(debug_assertions, inline)]
 #[cfg_attr(not(debug_assertions), inline(always))]
 fn negative_at<'t>(text: &'t str, number: &'t str) -> Result<Reading, FlawAt<'t>> {
@@ -124,7 +103,6 @@ fn negative_at<'t>(text: &'t str, number: &'t str) -> Result<Reading, FlawAt<'t>
     }
 }
 
-/// Returns the flaw of a text that begins neither with a digit nor as a quoted literal, and isn't `true` or `false`.
 fn word_flaw(text: &str) -> FlawAt<'_> {
     if begins_with_char(text, '-') {
         make_flaw(FlawKind::Minus, text)
@@ -133,7 +111,6 @@ fn word_flaw(text: &str) -> FlawAt<'_> {
     }
 }
 
-/// Parses a text that doesn't begin with a digit as a literal token.
 #[inline(always)]
 fn other_at(ends: LineEnds, text: &str) -> Result<Reading, FlawAt<'_>> {
     match split_opener(text) {
@@ -145,8 +122,6 @@ fn other_at(ends: LineEnds, text: &str) -> Result<Reading, FlawAt<'_>> {
     }
 }
 
-/// Parses a text that doesn't begin with a digit as a literal token. Each value of `ends` has its own compiled copy of the
-/// code.
 #[inline]
 fn read_rare(ends: LineEnds, text: &str) -> Result<Reading, FlawAt<'_>> {
     match ends {
@@ -155,8 +130,6 @@ fn read_rare(ends: LineEnds, text: &str) -> Result<Reading, FlawAt<'_>> {
     }
 }
 
-/// Parses the text as a literal token. The error contains the kind of flaw, the text that begins at the flaw, and the text
-/// that begins with the text to show. The caller converts the two texts to byte offsets.
 #[inline]
 fn read_at(ends: LineEnds, text: &str) -> Result<Reading, FlawAt<'_>> {
     match classify_start(text) {
@@ -185,15 +158,11 @@ fn read_at(ends: LineEnds, text: &str) -> Result<Reading, FlawAt<'_>> {
     }
 }
 
-/// Returns the text after its minus if `signed` is true and the text begins with one.
 #[inline(always)]
 fn after_minus(signed: bool, text: &str) -> Option<&str> {
     if signed { strip_byte(text, b'-') } else { None }
 }
 
-/// Parses the text as a literal token, or as a minus and a number if `signed` is true. The error contains the kind of flaw,
-/// the text that begins at the flaw, and the text that begins with the text to show. The caller converts the two texts to
-/// byte offsets.
 #[cfg_attr(debug_assertions, inline)]
 #[cfg_attr(not(debug_assertions), inline(always))]
 fn signed_at(text: &str, ends: LineEnds, signed: bool) -> Result<Reading, FlawAt<'_>> {
@@ -209,7 +178,6 @@ fn signed_at(text: &str, ends: LineEnds, signed: bool) -> Result<Reading, FlawAt
     }
 }
 
-/// Returns `text` without its first character, or an empty text if `text` is empty. In a file, a CR LF is one character.
 pub fn skip_first_char(ends: LineEnds, text: &str) -> &str {
     match split_first_char(ends, text) {
         Some((_, rest)) => rest,
@@ -217,7 +185,6 @@ pub fn skip_first_char(ends: LineEnds, text: &str) -> &str {
     }
 }
 
-/// Converts a flaw to byte offsets in `text` as written. In a file, a CR LF at the flaw's position is one character.
 pub fn flaw_with_offsets(ends: LineEnds, found: FlawAt<'_>, text: &str) -> Flaw {
     let after = skip_first_char(ends, found.rest);
     Flaw {
@@ -228,12 +195,6 @@ pub fn flaw_with_offsets(ends: LineEnds, found: FlawAt<'_>, text: &str) -> Flaw 
     }
 }
 
-/// Parses all of `text` as a string literal, and returns the byte offsets of its parts. `inside` is the text after the opening
-/// `"`.
-///
-/// # Errors
-///
-/// Returns the flaw if the text isn't a string literal.
 #[inline(always)]
 pub fn read_string(text: &str, inside: &str) -> Result<Body, Flaw> {
     match text_at(LineEnds::Text, Kind::Str, text, inside) {
@@ -242,11 +203,6 @@ pub fn read_string(text: &str, inside: &str) -> Result<Body, Flaw> {
     }
 }
 
-/// Parses all of `text` as a character literal. `inside` is the text after the opening `'`.
-///
-/// # Errors
-///
-/// Returns the flaw if the text isn't a character literal.
 #[inline(always)]
 pub fn read_character(text: &str, inside: &str) -> Result<Single, Flaw> {
     match unit_at(LineEnds::Text, Kind::Char, text, inside) {
@@ -255,11 +211,6 @@ pub fn read_character(text: &str, inside: &str) -> Result<Single, Flaw> {
     }
 }
 
-/// Parses all of `text`, which begins with a digit, as a number.
-///
-/// # Errors
-///
-/// Returns the flaw if the text isn't a number.
 #[inline(always)]
 pub fn read_unsigned_number(text: &str) -> Result<Reading, Flaw> {
     match number_at(text) {
@@ -268,11 +219,6 @@ pub fn read_unsigned_number(text: &str) -> Result<Reading, Flaw> {
     }
 }
 
-/// Parses all of `text`, which doesn't begin with a digit, as a literal token, or as a minus and a number.
-///
-/// # Errors
-///
-/// Returns the flaw if the text is neither a literal token nor a minus and a number.
 #[inline(never)]
 pub fn read_non_digit_start(text: &str) -> Result<Reading, Flaw> {
     match strip_byte(text, b'-') {
@@ -287,21 +233,6 @@ pub fn read_non_digit_start(text: &str) -> Result<Reading, Flaw> {
     }
 }
 
-/// Parses all of `text` as one literal token of Rust's grammar. Nothing is allocated.
-///
-/// If `signed` is true, a minus is allowed directly before a number: `-1.5`.
-///
-/// With `LineEnds::File`, the text is the text of a literal in a file, where rustc reads CR LF as LF. The result is that of the
-/// text without each CR before an LF. Byte offsets count the bytes of the text as written, and none is between a CR and its LF:
-/// an offset of an LF is that of its CR.
-///
-/// Integers of any size are tokens. The magnitude of an integer above 128 bits is `None`.
-///
-/// # Errors
-///
-/// Returns the flaw if the text isn't a literal token, nor a minus and a number where `signed` is true. The text before the
-/// flaw's `lo` is the longest prefix that can still become a valid text: some ending completes it, and with the text's next
-/// character no ending does.
 #[inline(always)]
 pub fn read(text: &str, ends: LineEnds, signed: bool) -> Result<Reading, Flaw> {
     match signed_at(text, ends, signed) {

@@ -13,18 +13,13 @@ use crate::rl_lenient::units::{Piece, split_plain};
 use crate::rl_syntax::Kind;
 use crate::rl_syntax::text::{before, split_char};
 
-/// The end of a quoted literal's valid content, and the literal's suffix or flaw.
 #[derive(Clone, Copy)]
 pub struct QuotedContent<'t> {
-    /// The text from the closing quote on, or from the first character or escape on that isn't allowed.
     pub closing: &'t str,
-    /// Whether the text before `closing` is known to contain no escapes. Outside files, a text without escapes is the literal's
-    /// value.
     pub plain: bool,
     pub end: Result<&'t str, FlawAt<'t>>,
 }
 
-/// Parses the text after the opening quote of a string with escapes.
 #[cfg_attr(debug_assertions, inline)]
 #[cfg_attr(not(debug_assertions), inline(always))]
 pub fn parse_cooked_content(ends: LineEnds, kind: Kind, text: &str) -> QuotedContent<'_> {
@@ -65,16 +60,12 @@ pub fn parse_cooked_content(ends: LineEnds, kind: Kind, text: &str) -> QuotedCon
     }
 }
 
-/// The end of a character or byte literal's content, and either the content and the suffix, or the flaw.
 #[derive(Clone, Copy)]
 pub struct UnitStretch<'t> {
-    /// The text from the closing quote on, or all of the text after the opening quote if the content isn't one character or
-    /// escape.
     pub closing: &'t str,
     pub end: Result<(Piece, &'t str), FlawAt<'t>>,
 }
 
-/// Parses the text after the opening quote of a character or byte literal.
 #[cfg_attr(debug_assertions, inline)]
 #[cfg_attr(not(debug_assertions), inline(always))]
 pub fn parse_single_unit(ends: LineEnds, kind: Kind, text: &str) -> UnitStretch<'_> {
@@ -106,7 +97,6 @@ pub fn parse_single_unit(ends: LineEnds, kind: Kind, text: &str) -> UnitStretch<
     }
 }
 
-/// Parses the text after the opening quote of a raw string. `hashes` are the hashes before the opening quote.
 #[cfg_attr(debug_assertions, inline)]
 #[cfg_attr(not(debug_assertions), inline(always))]
 pub fn parse_raw_content<'t>(
@@ -148,8 +138,6 @@ pub fn parse_raw_content<'t>(
     }
 }
 
-/// Returns a raw string's hashes and the text after its opening quote, or its flaw. `inside` is the text that begins with the
-/// hashes.
 #[cfg_attr(debug_assertions, inline)]
 #[cfg_attr(not(debug_assertions), inline(always))]
 pub fn split_raw_opening(kind: Kind, inside: &str) -> Result<(&str, &str), FlawAt<'_>> {

@@ -3,23 +3,15 @@
 
 use crate::rl_lexer::{Form, SourceForm, SourceToken};
 
-/// The position of the next token relative to macro calls. A macro's definition and an attribute count as calls.
 #[derive(Clone, Copy)]
 pub enum Calls<'t> {
-    /// The next token is outside of macro calls.
     Outside,
-    /// The next token follows the given identifier, which may be a macro's name.
     AfterWord(&'t str),
-    /// The next token follows a macro's name and `!`, and perhaps identifiers after them, as in `macro_rules! m`.
     AfterBang,
-    /// The next token follows `#`, or `#!`.
     AfterHash,
-    /// The next token is inside a macro call, nested in the given number of brackets.
     Inside(usize),
 }
 
-/// Whether the identifier is a keyword in all editions of Rust. No macro has this name, so `!` after it is an operator or the
-/// never type.
 #[inline(never)]
 fn is_keyword(word: &str) -> bool {
     matches!(
@@ -61,13 +53,11 @@ fn is_keyword(word: &str) -> bool {
     )
 }
 
-/// Returns `depth + 1`. If `depth` is the greatest `usize`, the result is `depth`.
 #[inline]
 fn deeper(depth: usize) -> usize {
     if depth < usize::MAX { depth + 1 } else { depth }
 }
 
-/// Returns the position relative to macro calls, after the identifier `word`.
 #[inline(always)]
 fn after_word<'t>(calls: Calls<'t>, word: &'t str) -> Calls<'t> {
     match calls {
@@ -76,7 +66,6 @@ fn after_word<'t>(calls: Calls<'t>, word: &'t str) -> Calls<'t> {
     }
 }
 
-/// Returns the position relative to macro calls, after the punctuation character `mark`.
 #[inline(always)]
 fn after_mark(calls: Calls<'_>, mark: char) -> Calls<'_> {
     match calls {
@@ -88,7 +77,6 @@ fn after_mark(calls: Calls<'_>, mark: char) -> Calls<'_> {
     }
 }
 
-/// Returns the position relative to macro calls, after the opening bracket `bracket`.
 #[inline]
 fn after_opener(calls: Calls<'_>, bracket: char) -> Calls<'_> {
     match calls {
@@ -99,7 +87,6 @@ fn after_opener(calls: Calls<'_>, bracket: char) -> Calls<'_> {
     }
 }
 
-/// Returns the position relative to macro calls, after a closing bracket.
 #[inline]
 fn after_closer(calls: Calls<'_>) -> Calls<'_> {
     match calls {
@@ -108,7 +95,6 @@ fn after_closer(calls: Calls<'_>) -> Calls<'_> {
     }
 }
 
-/// Returns the position relative to macro calls, after the opening or closing bracket `bracket`.
 #[inline(always)]
 fn after_bracket(calls: Calls<'_>, bracket: char) -> Calls<'_> {
     if matches!(bracket, '(' | '[' | '{') {
@@ -117,7 +103,6 @@ fn after_bracket(calls: Calls<'_>, bracket: char) -> Calls<'_> {
     after_closer(calls)
 }
 
-/// Returns the position relative to macro calls, after a token that isn't an identifier, a punctuation character or a bracket.
 #[inline(always)]
 fn after_any_other(calls: Calls<'_>) -> Calls<'_> {
     match calls {
@@ -126,7 +111,6 @@ fn after_any_other(calls: Calls<'_>) -> Calls<'_> {
     }
 }
 
-/// Returns the position relative to macro calls, after a token of the lexer with the given form and text.
 #[inline(always)]
 fn after_lexeme<'t>(calls: Calls<'t>, form: Form, text: &'t str) -> Calls<'t> {
     match form {
@@ -137,7 +121,6 @@ fn after_lexeme<'t>(calls: Calls<'t>, form: Form, text: &'t str) -> Calls<'t> {
     }
 }
 
-/// Returns the position relative to macro calls, after one more token of a source.
 #[inline(always)]
 pub fn advance_calls<'t>(calls: Calls<'t>, token: SourceToken<'t>) -> Calls<'t> {
     match token.form {
@@ -147,7 +130,6 @@ pub fn advance_calls<'t>(calls: Calls<'t>, token: SourceToken<'t>) -> Calls<'t> 
     }
 }
 
-/// Returns `true` if the next token is inside a macro call.
 #[inline(always)]
 pub fn is_in_call(calls: Calls<'_>) -> bool {
     matches!(calls, Calls::Inside(_))

@@ -5,7 +5,6 @@ use crate::rl_style::style::Case;
 use crate::rl_syntax::slice_writer::put_char;
 use crate::rl_syntax::text::split_char;
 
-/// Returns `c` in the given case if it is a hexadecimal digit, and `c` unchanged otherwise.
 #[inline]
 pub(crate) fn cased(case: Option<Case>, c: char) -> char {
     match case {
@@ -21,8 +20,6 @@ pub(crate) fn cased(case: Option<Case>, c: char) -> char {
     }
 }
 
-/// Writes `text` to `out` from the index `at` on, with its hexadecimal digits in the given case. Returns the index after the
-/// written bytes.
 #[inline]
 pub(crate) fn put_cased(out: &mut [u8], at: usize, case: Option<Case>, text: &str) -> usize {
     let mut end = at;

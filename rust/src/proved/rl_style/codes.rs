@@ -7,8 +7,6 @@ use crate::rl_style::style::{Case, Style};
 use crate::rl_syntax::slice_writer::{put_byte, put_char, put_text};
 use crate::rl_syntax::text::{after_prefix, split_char};
 
-/// Writes the text without underscores, with its hexadecimal digits in the given case. Returns the index after the written
-/// bytes.
 #[inline]
 fn put_bare(out: &mut [u8], at: usize, case: Option<Case>, text: &str) -> usize {
     let mut end = at;
@@ -22,14 +20,11 @@ fn put_bare(out: &mut [u8], at: usize, case: Option<Case>, text: &str) -> usize 
     end
 }
 
-/// Whether the text begins with `}`.
 #[inline]
 fn begins_close(text: &str) -> bool {
     matches!(split_char(text), Some(('}', _)))
 }
 
-/// Writes the digits of a `\u{..}` escape without leading zeros and underscores, and its closing brace. `inside` is the text
-/// after `\u{`.
 #[inline]
 fn put_code(out: &mut [u8], at: usize, case: Option<Case>, inside: &str) -> usize {
     let Some(('0' | '_', after)) = split_char(inside) else {
@@ -43,7 +38,6 @@ fn put_code(out: &mut [u8], at: usize, case: Option<Case>, inside: &str) -> usiz
     put_bare(out, at, case, rest)
 }
 
-/// Writes a numeric escape (`\x` or `\u{..}`) with its digits as the style requires.
 #[inline]
 pub(crate) fn put_digits(out: &mut [u8], at: usize, style: Style, unit: &str) -> usize {
     if !style.code_digits {

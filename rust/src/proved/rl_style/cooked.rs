@@ -9,31 +9,26 @@ use crate::rl_syntax::Kind;
 use crate::rl_syntax::slice_writer::{put_byte, put_char, put_text};
 use crate::rl_syntax::text::{before, split_char, strip_byte};
 
-/// Whether the character is a single or a double quote.
 #[inline]
 fn is_quote(c: char) -> bool {
     matches!(c, '\'' | '"')
 }
 
-/// Whether the character begins a numeric escape: `x` or `u`.
 #[inline]
 fn begins_number(c: char) -> bool {
     matches!(c, 'x' | 'u')
 }
 
-/// Whether the style drops the backslash before the quote `quote` in a literal of the kind `kind`.
 #[inline]
 fn loses_backslash(style: Style, kind: Kind, quote: char) -> bool {
     style.quote_escapes && quote != kind.quote()
 }
 
-/// Returns the number as a byte if it is below 128, and 128 otherwise.
 #[inline]
 fn ascii_or(code: u32) -> u8 {
     if code < 128 { code as u8 } else { 128 }
 }
 
-/// Returns the value of a character or escape if it is ASCII, and 128 otherwise.
 #[inline]
 fn ascii_of(kind: Kind, piece: Piece) -> u8 {
     match piece {
@@ -43,13 +38,11 @@ fn ascii_of(kind: Kind, piece: Piece) -> u8 {
     }
 }
 
-/// Returns `byte`, but 128 for a NUL if `zero` is false: this NUL may not be written as `\0`.
 #[inline]
 fn lettered(zero: bool, byte: u8) -> u8 {
     if zero || byte != 0 { byte } else { 128 }
 }
 
-/// Whether the character or escape at the beginning of the text represents a decimal digit.
 #[inline]
 fn represents_digit(kind: Kind, text: &str) -> bool {
     match parse_char_or_escape(kind, text) {
@@ -58,19 +51,16 @@ fn represents_digit(kind: Kind, text: &str) -> bool {
     }
 }
 
-/// Whether the style replaces a numeric escape of the character `byte` by the character itself.
 #[inline]
 fn is_visible(style: Style, byte: u8) -> bool {
     style.ascii_escapes && matches!(byte, b'!'..=b'~')
 }
 
-/// Whether the style replaces a numeric escape of the character `byte` by an escape with a letter: `\n`, `\r`, `\t` or `\0`.
 #[inline]
 fn has_letter(style: Style, byte: u8) -> bool {
     style.named_escapes && matches!(byte, b'\n' | b'\r' | b'\t' | 0)
 }
 
-/// Returns the letter of the escape for LF, CR, TAB or NUL: `n`, `r`, `t` or `0`.
 #[inline]
 fn letter_of(byte: u8) -> u8 {
     match byte {
@@ -81,15 +71,12 @@ fn letter_of(byte: u8) -> u8 {
     }
 }
 
-/// Writes a backslash and the character `byte`. Returns the index after the written bytes.
 #[inline]
 pub(crate) fn put_pair(out: &mut [u8], at: usize, byte: u8) -> usize {
     let end = put_byte(out, at, b'\\');
     put_byte(out, end, byte)
 }
 
-/// Writes a visible ASCII character into a literal of the kind `kind`. The literal's closing quote and a backslash get a
-/// backslash before them.
 #[inline]
 fn put_visible(out: &mut [u8], at: usize, kind: Kind, byte: u8) -> usize {
     if byte as char == kind.quote() || byte == b'\\' {
@@ -98,8 +85,6 @@ fn put_visible(out: &mut [u8], at: usize, kind: Kind, byte: u8) -> usize {
     put_byte(out, at, byte)
 }
 
-/// Writes the new form of a numeric escape. `byte` is the escape's value if it is ASCII, and 128 otherwise. `byte` is also
-/// 128 for a NUL that may not be written as `\0`.
 #[inline]
 fn put_number(out: &mut [u8], at: usize, kind: Kind, style: Style, unit: &str, byte: u8) -> usize {
     if is_visible(style, byte) {
@@ -111,8 +96,6 @@ fn put_number(out: &mut [u8], at: usize, kind: Kind, style: Style, unit: &str, b
     put_digits(out, at, style, unit)
 }
 
-/// Writes the new form of an escape. `unit` is the text of the escape, `escape` this text without the backslash, and `byte` the
-/// escape's value if it is ASCII, or 128.
 #[inline]
 fn put_escape(
     out: &mut [u8],
@@ -138,7 +121,6 @@ fn put_escape(
     put_text(out, at, unit)
 }
 
-/// Writes the new form of an unescaped character, or of a CR LF that is one character.
 #[inline]
 fn put_plain(out: &mut [u8], at: usize, kind: Kind, style: Style, unit: &str, byte: u8) -> usize {
     match split_char(unit) {
@@ -150,9 +132,6 @@ fn put_plain(out: &mut [u8], at: usize, kind: Kind, style: Style, unit: &str, by
     }
 }
 
-/// Writes the new form of one character or escape: at most four bytes for each byte of its text.
-///
-/// `byte` is the value if it is ASCII, and 128 otherwise. `byte` is also 128 for a NUL that may not be written as `\0`.
 #[inline]
 fn put_unit(out: &mut [u8], at: usize, kind: Kind, style: Style, unit: &str, byte: u8) -> usize {
     match strip_byte(unit, b'\\') {
@@ -161,7 +140,6 @@ fn put_unit(out: &mut [u8], at: usize, kind: Kind, style: Style, unit: &str, byt
     }
 }
 
-/// Writes the new form of each character and escape of a literal's body.
 #[inline]
 fn put_units(out: &mut [u8], at: usize, kind: Kind, style: Style, inside: &str) -> usize {
     let mut end = at;
@@ -174,7 +152,6 @@ fn put_units(out: &mut [u8], at: usize, kind: Kind, style: Style, inside: &str) 
     end
 }
 
-/// Writes the new form of a quoted literal with escapes, whose body is `inside`.
 #[inline]
 pub(crate) fn write_cooked(
     text: &str,

@@ -7,7 +7,6 @@ use crate::rl_syntax::slice_writer::put_byte;
 use crate::rl_syntax::text::split_char;
 use crate::rl_writing::{digit_group_size, is_digit_group_end};
 
-/// Returns the number of digits in a group, for numbers of the base `base`.
 #[inline]
 fn base_group(groups: DigitGroups, base: u32) -> usize {
     match base {
@@ -18,8 +17,6 @@ fn base_group(groups: DigitGroups, base: u32) -> usize {
     }
 }
 
-/// Returns the number of digits in a group, for a number of the base `base` with the suffix `suffix`. 0 means that the number's
-/// digit groups stay unchanged.
 #[inline]
 pub(crate) fn group_size(style: Style, base: u32, suffix: &str) -> usize {
     match style.digit_groups {
@@ -28,7 +25,6 @@ pub(crate) fn group_size(style: Style, base: u32, suffix: &str) -> usize {
     }
 }
 
-/// Returns the smallest number of digits that the style divides into groups.
 #[inline]
 fn least_digits(style: Style) -> usize {
     match style.digit_groups {
@@ -37,8 +33,6 @@ fn least_digits(style: Style) -> usize {
     }
 }
 
-/// Whether the style writes an underscore after a digit. The sequence has `count` digits, and `left` of them follow the
-/// digit. Groups are counted from the first digit if `from_first` is true, and from the last one otherwise.
 #[inline]
 fn ends(from_first: bool, size: usize, count: usize, left: usize) -> bool {
     if from_first {
@@ -48,7 +42,6 @@ fn ends(from_first: bool, size: usize, count: usize, left: usize) -> bool {
     }
 }
 
-/// Returns the number of digits in a sequence of digits and underscores.
 #[inline]
 fn count_digits(run: &str) -> usize {
     let mut count = 0;
@@ -62,7 +55,6 @@ fn count_digits(run: &str) -> usize {
     count
 }
 
-/// Writes the new form of a digit. If `ends` is true, the digit's group ends, and an underscore is written after the digit.
 #[inline]
 fn put_digit(out: &mut [u8], at: usize, manner: Manner, digit: char, ends: bool) -> usize {
     let end = put_character(out, at, manner, digit);
@@ -72,8 +64,6 @@ fn put_digit(out: &mut [u8], at: usize, manner: Manner, digit: char, ends: bool)
     end
 }
 
-/// Writes a sequence of digits and underscores with its digits in groups. Underscores at its end are kept, unless the style
-/// drops them.
 #[inline]
 fn put_grouped(out: &mut [u8], at: usize, manner: Manner, from_first: bool, run: &str) -> usize {
     let count = count_digits(run);
@@ -93,7 +83,6 @@ fn put_grouped(out: &mut [u8], at: usize, manner: Manner, from_first: bool, run:
     end
 }
 
-/// Writes the new form of a sequence of digits and underscores, with its digits in groups unless the group size is 0.
 #[inline]
 pub(crate) fn put_digit_run(
     out: &mut [u8],

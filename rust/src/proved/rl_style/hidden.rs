@@ -7,15 +7,11 @@ use crate::rl_syntax::slice_writer::{put_byte, put_char, put_text};
 use crate::rl_syntax::text::split_char;
 use crate::rl_writing::{is_control_invisible_or_bidi, put_unicode_escape};
 
-/// Whether the character must be written as a numeric escape: it is invisible, bidirectional or a control character other than
-/// LF, CR and TAB.
 #[inline]
 fn needs_number(c: char) -> bool {
     is_control_invisible_or_bidi(c) && !matches!(c, '\n' | '\r' | '\t')
 }
 
-/// Whether the text contains a character that must be written as a numeric escape: an invisible or bidirectional one, or a
-/// control character other than LF, CR and TAB.
 #[inline]
 pub(crate) fn holds_hidden(text: &str) -> bool {
     let mut rest = text;
@@ -28,7 +24,6 @@ pub(crate) fn holds_hidden(text: &str) -> bool {
     false
 }
 
-/// Returns the hexadecimal digit for a number below 16, in lower case.
 #[inline]
 fn lower_digit(digit: u32) -> u8 {
     let digit = digit as u8;
@@ -39,7 +34,6 @@ fn lower_digit(digit: u32) -> u8 {
     }
 }
 
-/// Writes an ASCII character as `\x` and two lower-case digits.
 #[inline]
 fn put_two(out: &mut [u8], at: usize, c: char) -> usize {
     let number = c as u32;
@@ -49,8 +43,6 @@ fn put_two(out: &mut [u8], at: usize, c: char) -> usize {
     put_byte(out, end, lower_digit(number % 16))
 }
 
-/// Writes the numeric escape of a character: `\x` for ASCII, and otherwise `\u{..}` with the fewest digits. The digits are in
-/// lower case.
 #[inline]
 fn put_code(out: &mut [u8], at: usize, c: char) -> usize {
     if c < '\u{80}' {
@@ -59,7 +51,6 @@ fn put_code(out: &mut [u8], at: usize, c: char) -> usize {
     put_unicode_escape(out, at, c)
 }
 
-/// Writes the numeric escape of a character, with its digits as the style requires.
 #[inline]
 fn put_styled_code(out: &mut [u8], at: usize, style: Style, c: char) -> usize {
     let mut room = [0; 10];
@@ -70,7 +61,6 @@ fn put_styled_code(out: &mut [u8], at: usize, style: Style, c: char) -> usize {
     }
 }
 
-/// Writes the escape of an invisible or bidirectional character. NUL may be written as `\0` if `zero` is true.
 #[inline]
 fn put_hidden(out: &mut [u8], at: usize, style: Style, zero: bool, c: char) -> usize {
     if style.named_escapes && zero && c == '\0' {
@@ -79,8 +69,6 @@ fn put_hidden(out: &mut [u8], at: usize, style: Style, zero: bool, c: char) -> u
     put_styled_code(out, at, style, c)
 }
 
-/// Writes the new form of an unescaped character: at most four bytes for each byte of the character. NUL may be written as
-/// `\0` if `zero` is true.
 #[inline]
 pub(crate) fn put_itself(out: &mut [u8], at: usize, style: Style, zero: bool, c: char) -> usize {
     if style.hidden && needs_number(c) {

@@ -3,7 +3,6 @@
 
 use crate::rl_syntax::text::split_char;
 
-/// Whether the text contains one of two characters.
 #[inline]
 pub(crate) fn contains_either(text: &str, first: char, second: char) -> bool {
     let mut rest = text;
@@ -16,7 +15,6 @@ pub(crate) fn contains_either(text: &str, first: char, second: char) -> bool {
     false
 }
 
-/// Whether the text is the width of a number type: `8`, `16`, `32` or `64`.
 #[inline]
 fn is_width(text: &str) -> bool {
     match split_char(text) {
@@ -30,7 +28,6 @@ fn is_width(text: &str) -> bool {
     }
 }
 
-/// Whether the text ends with an underscore and the width of a number type.
 #[inline]
 fn ends_with_width(text: &str) -> bool {
     let mut rest = text;
@@ -43,15 +40,11 @@ fn ends_with_width(text: &str) -> bool {
     false
 }
 
-/// Whether the suffix of an integer may be mistyped: `2_32` may be meant as `2_i32`. `text` is the integer's whole text, and
-/// `suffix` its suffix.
 #[inline]
 pub(crate) fn is_mistyped(suffix: &str, text: &str) -> bool {
     split_char(suffix).is_none() && ends_with_width(text)
 }
 
-/// Whether the suffix of a float may be mistyped: `1e5_32` may be meant as `1e5_f32`. `text` is the float's whole text, and
-/// `suffix` its suffix.
 #[inline]
 pub(crate) fn is_mistyped_float(suffix: &str, text: &str) -> bool {
     is_mistyped(suffix, text) && contains_either(text, 'e', 'E')

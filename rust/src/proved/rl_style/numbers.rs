@@ -11,13 +11,11 @@ use crate::rl_syntax::classes::{CharClass, skip_class};
 use crate::rl_syntax::slice_writer::{put_byte, put_text};
 use crate::rl_syntax::text::{after_prefix, before, split_char};
 
-/// Whether the style drops the underscores of a number with the given suffix.
 #[inline]
 fn drops_underscores(style: Style, suffix: &str) -> bool {
     style.underscores && !begins_base_letter(suffix)
 }
 
-/// Returns the text after the zeros and underscores at its beginning.
 #[inline]
 pub(crate) fn skip_padding(text: &str) -> &str {
     let mut rest = text;
@@ -27,7 +25,6 @@ pub(crate) fn skip_padding(text: &str) -> &str {
     rest
 }
 
-/// Returns the digits without leading zeros, or `0` if they are all zeros.
 #[inline]
 fn significant(digits: &str) -> &str {
     let rest = skip_padding(digits);
@@ -37,14 +34,11 @@ fn significant(digits: &str) -> &str {
     }
 }
 
-/// Whether the style drops the leading zeros of an integer with the given base and suffix.
 #[inline]
 fn drops_zeros(style: Style, base: u32, suffix: &str) -> bool {
     style.leading_zeros && base == 10 && !begins_base_letter(suffix)
 }
 
-/// Returns the digits `run` of an integer, without leading zeros if the style drops them. Digits that are all octal keep the
-/// zeros: `0123` may be meant as an octal number.
 #[inline]
 fn kept_digits<'t>(style: Style, base: u32, suffix: &str, run: &'t str) -> &'t str {
     if drops_zeros(style, base, suffix) && contains_either(run, '8', '9') {
@@ -54,7 +48,6 @@ fn kept_digits<'t>(style: Style, base: u32, suffix: &str, run: &'t str) -> &'t s
     }
 }
 
-/// Returns the text without the underscores at its end.
 #[inline]
 fn trimmed(text: &str) -> &str {
     let mut rest = text;
@@ -68,7 +61,6 @@ fn trimmed(text: &str) -> &str {
     before(text, tail)
 }
 
-/// Whether the style drops the underscores directly before a number's suffix.
 #[inline]
 fn trims(style: Style, suffix: &str) -> bool {
     match style.suffix_separator {
@@ -78,7 +70,6 @@ fn trims(style: Style, suffix: &str) -> bool {
     }
 }
 
-/// Returns a number's text before its suffix, without the underscores at its end if the style drops them.
 #[inline]
 fn kept_run<'t>(style: Style, suffix: &str, numeral: &'t str) -> &'t str {
     if trims(style, suffix) {
@@ -88,7 +79,6 @@ fn kept_run<'t>(style: Style, suffix: &str, numeral: &'t str) -> &'t str {
     }
 }
 
-/// Whether the style writes an underscore before the number's suffix.
 #[inline]
 fn is_separated(style: Style, suffix: &str) -> bool {
     match style.suffix_separator {
@@ -97,7 +87,6 @@ fn is_separated(style: Style, suffix: &str) -> bool {
     }
 }
 
-/// Writes a number's suffix, with an underscore before it if the style requires one.
 #[inline]
 fn put_suffix(out: &mut [u8], at: usize, style: Style, suffix: &str) -> usize {
     if is_separated(style, suffix) {
@@ -107,7 +96,6 @@ fn put_suffix(out: &mut [u8], at: usize, style: Style, suffix: &str) -> usize {
     put_text(out, at, suffix)
 }
 
-/// Returns the options for rewriting a number with the given base and suffix.
 #[inline]
 fn number_style(style: Style, base: u32, suffix: &str) -> Manner {
     Manner {
@@ -118,8 +106,6 @@ fn number_style(style: Style, base: u32, suffix: &str) -> Manner {
     }
 }
 
-/// Writes the new form of an integer. `text` is its whole text, and `suffix` its suffix. If the suffix may be mistyped, the
-/// new form is `text`.
 #[inline]
 fn write_integer(text: &str, suffix: &str, style: Style, out: &mut [u8]) -> usize {
     if is_mistyped(suffix, text) {
@@ -133,7 +119,6 @@ fn write_integer(text: &str, suffix: &str, style: Style, out: &mut [u8]) -> usiz
     put_suffix(out, at, style, suffix)
 }
 
-/// Writes the zero after a float that ends with its dot, if the style requires one.
 #[inline]
 fn put_zero(out: &mut [u8], at: usize, style: Style) -> usize {
     if style.float_zero {
@@ -142,7 +127,6 @@ fn put_zero(out: &mut [u8], at: usize, style: Style) -> usize {
     at
 }
 
-/// Writes the new form of the text after a float's dot.
 #[inline]
 fn put_after_dot(out: &mut [u8], at: usize, manner: Manner, fraction: &str) -> usize {
     match split_char(fraction) {
@@ -155,7 +139,6 @@ fn put_after_dot(out: &mut [u8], at: usize, manner: Manner, fraction: &str) -> u
     }
 }
 
-/// Writes the new form of the text after a float's whole part.
 #[inline]
 fn put_fraction(out: &mut [u8], at: usize, manner: Manner, rest: &str) -> usize {
     match after_prefix(".", rest) {
@@ -167,8 +150,6 @@ fn put_fraction(out: &mut [u8], at: usize, manner: Manner, rest: &str) -> usize 
     }
 }
 
-/// Writes the new form of a float. `text` is its whole text, and `suffix` its suffix. If the suffix may be mistyped, the new
-/// form is `text`.
 #[inline]
 fn write_float(text: &str, suffix: &str, style: Style, out: &mut [u8]) -> usize {
     if is_mistyped_float(suffix, text) {
@@ -182,7 +163,6 @@ fn write_float(text: &str, suffix: &str, style: Style, out: &mut [u8]) -> usize 
     put_suffix(out, at, style, suffix)
 }
 
-/// Writes the new form of a number. `text` is its text, and `number` its parse result.
 #[inline]
 pub(crate) fn write_number(text: &str, number: Number<'_>, style: Style, out: &mut [u8]) -> usize {
     match number {

@@ -10,13 +10,11 @@ use crate::rl_syntax::slice_writer::{put_byte, put_text};
 use crate::rl_syntax::text::split_char;
 use crate::rl_writing::{min_raw_hashes, write_raw_into};
 
-/// Whether the byte is a hash or a dot.
 #[inline]
 fn is_hash_or_dot(byte: u8) -> bool {
     matches!(byte, b'#' | b'.')
 }
 
-/// Whether the text doesn't end with a hash or a dot, so that a string without a prefix may follow it.
 #[inline]
 fn may_precede_quote(front: &str) -> bool {
     match front.as_bytes() {
@@ -25,8 +23,6 @@ fn may_precede_quote(front: &str) -> bool {
     }
 }
 
-/// Whether a raw string of the kind may lose its `r`, where `front` is the text before it. After a hash or a dot, a raw string
-/// without `b` or `c` keeps its `r`.
 #[inline]
 fn may_lose_r(kind: Kind, front: &str) -> bool {
     match kind {
@@ -35,13 +31,11 @@ fn may_lose_r(kind: Kind, front: &str) -> bool {
     }
 }
 
-/// Whether the character must be escaped in a string with escapes: a double quote or a backslash.
 #[inline]
 fn needs_backslash(c: char) -> bool {
     matches!(c, '"' | '\\')
 }
 
-/// Whether the text contains neither a double quote nor a backslash.
 #[inline]
 fn is_bare(text: &str) -> bool {
     let mut rest = text;
@@ -54,15 +48,12 @@ fn is_bare(text: &str) -> bool {
     true
 }
 
-/// Whether the style replaces a raw string by a string with escapes. `front` is the text before the raw string, and `inside`
-/// its content.
 #[inline]
 fn loses_raw(style: Style, kind: Kind, front: &str, inside: &str) -> bool {
     may_lose_r(kind, front)
         && (style.raw && is_bare(inside) || style.hidden && holds_hidden(inside))
 }
 
-/// Writes a character of a raw string into a string with escapes. NUL may be written as `\0` if `zero` is true.
 #[inline]
 fn put_raw_character(out: &mut [u8], at: usize, style: Style, zero: bool, c: char) -> usize {
     if needs_backslash(c) {
@@ -71,7 +62,6 @@ fn put_raw_character(out: &mut [u8], at: usize, style: Style, zero: bool, c: cha
     put_itself(out, at, style, zero, c)
 }
 
-/// Writes the content of a raw string as the body of a string with escapes.
 #[inline]
 fn put_raw_inside(out: &mut [u8], at: usize, style: Style, inside: &str) -> usize {
     let mut end = at;
@@ -83,7 +73,6 @@ fn put_raw_inside(out: &mut [u8], at: usize, style: Style, inside: &str) -> usiz
     end
 }
 
-/// Writes a raw string as a string with escapes. `inside` is its content.
 #[inline]
 fn write_unraw(
     text: &str,
@@ -99,7 +88,6 @@ fn write_unraw(
     put_text(out, at, suffix)
 }
 
-/// Writes the new form of a raw string. `front` is the text before it, and `inside` its content.
 #[inline]
 pub(crate) fn write_raw(
     front: &str,

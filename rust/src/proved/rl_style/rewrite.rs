@@ -13,7 +13,6 @@ use crate::rl_strict::{Flaw, LineEnds, Reading, explain, read};
 use crate::rl_syntax::Kind;
 use crate::rl_syntax::slice_writer::put_text;
 
-/// Returns the byte offsets of the parts of a quoted literal, whose parse result is `reading`.
 #[inline]
 fn body_of(text: &str, form: QuotedForm, kind: Kind, reading: Reading) -> Body {
     match reading {
@@ -23,7 +22,6 @@ fn body_of(text: &str, form: QuotedForm, kind: Kind, reading: Reading) -> Body {
     }
 }
 
-/// Writes the new form of a quoted literal. `front` is the text before it, and `reading` its parse result.
 #[inline]
 fn write_quoted(
     front: &str,
@@ -43,7 +41,6 @@ fn write_quoted(
     }
 }
 
-/// Writes the new form of a number. Returns the number of written bytes, or the flaw if the text isn't a number.
 #[inline]
 fn rewrite_number(text: &str, style: Style, out: &mut [u8]) -> Result<usize, Flaw> {
     match parse_number_token(text) {
@@ -55,18 +52,6 @@ fn rewrite_number(text: &str, style: Style, out: &mut [u8]) -> Result<usize, Fla
     }
 }
 
-/// Writes the literal token `text`, rewritten by `style`, to the start of `out`, and returns the number of written bytes.
-/// This number is at most four times the length of `text`, plus one.
-///
-/// The literal's kind, value and suffix don't change, except that [`Style::float_zero`] adds a zero to `1.`. Each part for
-/// which the style has no rule is unchanged.
-///
-/// `front` is the text before the literal, and may be empty. Only its last character matters: after a hash or a dot, a raw
-/// string keeps its `r`.
-///
-/// # Errors
-///
-/// Returns the flaw of [`explain`](crate::rl_strict::explain) if `text` isn't a literal token.
 #[inline]
 pub fn rewrite_into(front: &str, text: &str, style: Style, out: &mut [u8]) -> Result<usize, Flaw> {
     if begins_digit(text) {

@@ -5,7 +5,6 @@ use crate::rl_style::rewrite::rewrite_into;
 use crate::rl_style::style::Style;
 use crate::rl_strict::Flaw;
 
-/// A rule of a style. Each variant is named after a field of [`Style`].
 #[derive(Clone, Copy, PartialEq, Eq, Debug)]
 pub enum Rule {
     HexDigits,
@@ -26,7 +25,6 @@ pub enum Rule {
     Hidden,
 }
 
-/// Returns all rules, in the order of the fields of [`Style`].
 #[inline]
 pub fn all_rules() -> &'static [Rule] {
     &[
@@ -50,7 +48,6 @@ pub fn all_rules() -> &'static [Rule] {
 }
 
 impl Rule {
-    /// Returns the rule's name in configurations and in the package's setters, for example `drop_underscores`.
     #[inline]
     pub fn name(self) -> &'static str {
         match self {
@@ -75,7 +72,6 @@ impl Rule {
 }
 
 impl Style {
-    /// Returns a style that has the rule `rule` as this style has it, and no other rule.
     #[inline]
     pub fn only(self, rule: Rule) -> Style {
         let keep = Style::KEEP;
@@ -148,12 +144,6 @@ impl Style {
     }
 }
 
-/// Returns `true` if the style changes the literal token `text`. `front` is the text before the literal. [`rewrite_into`]
-/// writes the new text to the start of `out`.
-///
-/// # Errors
-///
-/// Returns the flaw of [`explain`](crate::rl_strict::explain) if `text` isn't a literal token.
 #[inline]
 pub fn is_changed_by_style(
     front: &str,

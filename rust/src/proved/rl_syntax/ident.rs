@@ -4,8 +4,6 @@
 use crate::rl_syntax::characters::{is_xid_continue, is_xid_start};
 use crate::rl_syntax::text::split_char;
 
-/// Returns `true` if the text is an identifier: its first character is `_` or has Unicode's property XID_Start, and
-/// every later character has XID_Continue. The empty text isn't an identifier. The text `_` is an identifier.
 #[inline(always)]
 pub fn xid_ok(text: &str) -> bool {
     match split_char(text) {
@@ -14,7 +12,6 @@ pub fn xid_ok(text: &str) -> bool {
     }
 }
 
-/// Whether every character of the text may continue an identifier.
 fn all_continue(text: &str) -> bool {
     text.chars().all(|c| is_xid_continue(c))
 }

@@ -5,12 +5,8 @@
 use crate::rl_syntax::scan::{Marks, stop_by_eight};
 use crate::simd::wide::*;
 
-/// The number of bytes that a search tests at once.
 const LANES: usize = 16;
 
-/// Returns a bit for each of the sixteen bytes from the offset `at` on. If `WORD` is `true`, the bit of each byte that
-/// isn't an ASCII identifier character is set. If `WORD` is `false`, the bit of each byte that isn't ASCII white space
-/// is set.
 #[cfg_attr(debug_assertions, inline)]
 #[cfg_attr(not(debug_assertions), inline(always))]
 fn ends_among<const WORD: bool>(bytes: &[u8], at: usize) -> u64 {
@@ -30,14 +26,11 @@ fn ends_among<const WORD: bool>(bytes: &[u8], at: usize) -> u64 {
     }
 }
 
-/// Returns `true` if the byte is an ASCII character that continues an identifier.
 #[inline(always)]
 pub fn is_ascii_id_continue(byte: u8) -> bool {
     byte.is_ascii_alphanumeric() || byte == b'_'
 }
 
-/// If `WORD` is `true`, returns whether `byte` is an ASCII identifier character. If `WORD` is `false`, returns whether
-/// `byte` is ASCII white space.
 #[inline(always)]
 fn is_run_byte<const WORD: bool>(byte: u8) -> bool {
     if WORD {
@@ -47,9 +40,6 @@ fn is_run_byte<const WORD: bool>(byte: u8) -> bool {
     }
 }
 
-/// Returns the byte offset where the sequence of bytes that begins at `from` ends, tested byte by byte. If `WORD` is
-/// `true`, the sequence consists of ASCII identifier characters. If `WORD` is `false`, the sequence consists of ASCII
-/// white space.
 #[inline(never)]
 fn run_end_by_byte<const WORD: bool>(bytes: &[u8], from: usize) -> usize {
     let mut at = from;
@@ -59,9 +49,6 @@ fn run_end_by_byte<const WORD: bool>(bytes: &[u8], from: usize) -> usize {
     at
 }
 
-/// Returns the byte offset where the sequence of bytes that begins at `from` ends. If `WORD` is `true`, the sequence
-/// consists of ASCII identifier characters. If `WORD` is `false`, the sequence consists of ASCII white space. Sixteen
-/// bytes are tested at once while sixteen are left.
 #[inline(never)]
 fn run_end<const WORD: bool>(bytes: &[u8], from: usize) -> usize {
     let mut at = from;
@@ -75,10 +62,6 @@ fn run_end<const WORD: bool>(bytes: &[u8], from: usize) -> usize {
     run_end_by_byte::<WORD>(bytes, at)
 }
 
-/// Returns the number of leading bytes of one class: ASCII identifier characters if `WORD` is `true`, ASCII white
-/// space if `WORD` is `false`.
-///
-/// The first sixteen bytes are tested at once, and most sequences end there.
 #[inline]
 pub(crate) fn run_len<const WORD: bool>(bytes: &[u8]) -> usize {
     if bytes.len() >= LANES {
@@ -90,8 +73,6 @@ pub(crate) fn run_len<const WORD: bool>(bytes: &[u8]) -> usize {
     run_end::<WORD>(bytes, 0)
 }
 
-/// Whether `byte` may begin a literal or a comment, if no identifier character precedes it: a quote, a slash, a digit,
-/// a non-ASCII byte, or the first letter of a literal's prefix, of `true` or of `false`.
 #[inline(always)]
 fn is_likely(byte: u8) -> bool {
     if byte < 64 {
@@ -103,17 +84,11 @@ fn is_likely(byte: u8) -> bool {
     }
 }
 
-/// Returns `true` if bit number `place` of `bits` is set. Bit 0 is the lowest.
 #[inline(always)]
 pub fn has_bit(bits: u64, place: u8) -> bool {
     (bits >> place) & 1 == 1
 }
 
-/// Returns a bit for each of the sixteen bytes from the offset `at` on, set where a literal or a comment may begin.
-///
-/// A letter's or a digit's bit is set only if no ASCII identifier character precedes it. A letter's bit is set only if
-/// the next byte continues a literal's prefix, `true` or `false`. The slice has at least one byte before the sixteen,
-/// and at least one after them.
 #[cfg_attr(debug_assertions, inline)]
 #[cfg_attr(not(debug_assertions), inline(always))]
 fn likely_among(bytes: &[u8], at: usize) -> u64 {
@@ -140,8 +115,6 @@ fn likely_among(bytes: &[u8], at: usize) -> u64 {
     (marks | no_words & (digits | bytes | c_strings | raw | words)).to_bitmask()
 }
 
-/// Returns a number of leading bytes that can be skipped in a search for literals: neither a literal nor a comment
-/// begins at one of them. Sixteen bytes are tested at once. The search stops where sixteen bytes or fewer are left.
 #[inline(never)]
 pub fn literal_free_prefix_len(bytes: &[u8]) -> usize {
     if bytes.is_empty() || is_likely(bytes[0]) {
@@ -158,7 +131,6 @@ pub fn literal_free_prefix_len(bytes: &[u8]) -> usize {
     at
 }
 
-/// Returns a bit for each of the sixteen bytes from the offset `at` on, set where the byte is a line feed.
 #[inline(always)]
 fn line_ends_among(bytes: &[u8], at: usize) -> u64 {
     u8x16::from_slice(&bytes[at..])
@@ -166,8 +138,6 @@ fn line_ends_among(bytes: &[u8], at: usize) -> u64 {
         .to_bitmask()
 }
 
-/// Returns the number of bytes before the first line feed, or the number of all bytes if no byte is a line feed.
-/// Sixteen bytes are tested at once.
 #[inline(never)]
 pub fn line_len(bytes: &[u8]) -> usize {
     let mut at = 0;
@@ -181,13 +151,11 @@ pub fn line_len(bytes: &[u8]) -> usize {
     stop_by_eight::<false>(Marks::from_two_bytes(b'\n', b'\n'), bytes, at)
 }
 
-/// Returns the byte at the offset `at`, or 0 if `at` isn't below the length.
 #[inline(always)]
 pub fn byte_at(bytes: &[u8], at: usize) -> u8 {
     if at < bytes.len() { bytes[at] } else { 0 }
 }
 
-/// Returns the byte before the offset `at`, or 0 if `at` is 0.
 #[inline(always)]
 pub fn byte_before(bytes: &[u8], at: usize) -> u8 {
     if at == 0 { 0 } else { bytes[at - 1] }

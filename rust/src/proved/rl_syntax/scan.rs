@@ -5,22 +5,15 @@
 use crate::rl_syntax::text::split_ascii;
 use crate::simd::*;
 
-/// The delimiters that a search looks for, at most four bytes. A search for fewer delimiters repeats one of them. In a
-/// search of a text, the delimiters must be ASCII.
 #[derive(Clone, Copy)]
 pub struct Marks {
-    /// The first of the four bytes that a search looks for.
     pub first: u8,
-    /// The second of the four bytes that a search looks for.
     pub second: u8,
-    /// The third of the four bytes that a search looks for.
     pub third: u8,
-    /// The fourth of the four bytes that a search looks for.
     pub fourth: u8,
 }
 
 impl Marks {
-    /// Creates the delimiters for a search that looks for `first` and `second`.
     #[inline(always)]
     pub fn from_two_bytes(first: u8, second: u8) -> Marks {
         Marks {
@@ -32,8 +25,6 @@ impl Marks {
     }
 }
 
-/// Returns a bit for each of the `N` bytes from the offset `at` on. A bit is set where the byte is one of the
-/// delimiters `marks`, and if `HIGH` is `true`, also where it is non-ASCII.
 #[cfg_attr(debug_assertions, inline)]
 #[cfg_attr(not(debug_assertions), inline(always))]
 fn stops_among<const HIGH: bool, const N: usize>(marks: Marks, bytes: &[u8], at: usize) -> u64 {
@@ -50,8 +41,6 @@ fn stops_among<const HIGH: bool, const N: usize>(marks: Marks, bytes: &[u8], at:
     }
 }
 
-/// Whether a search stops at `byte`, because it is one of the delimiters `marks`. If `HIGH` is `true`, a search stops
-/// at each non-ASCII byte too.
 #[inline(always)]
 fn is_stop<const HIGH: bool>(marks: Marks, byte: u8) -> bool {
     let is_mark = byte == marks.first
@@ -61,8 +50,6 @@ fn is_stop<const HIGH: bool>(marks: Marks, byte: u8) -> bool {
     HIGH && byte >= 128 || is_mark
 }
 
-/// Returns the byte offset of the first delimiter at `from` or later, or the length of `bytes`. If `HIGH` is `true`, a
-/// non-ASCII byte counts as a delimiter. Bytes are tested one by one.
 fn stop_by_byte<const HIGH: bool>(marks: Marks, bytes: &[u8], from: usize) -> usize {
     let mut at = from;
     while at < bytes.len() && !is_stop::<HIGH>(marks, bytes[at]) {
@@ -71,13 +58,6 @@ fn stop_by_byte<const HIGH: bool>(marks: Marks, bytes: &[u8], from: usize) -> us
     at
 }
 
-/// Returns the byte offset of the first delimiter at `from` or later, tested `N` bytes at a time. If `HIGH` is `true`,
-/// a non-ASCII byte counts as a delimiter.
-///
-/// # Errors
-///
-/// Returns an error if no delimiter was found while `N` bytes were left. The error is the offset from which fewer than
-/// `N` bytes are left.
 #[inline]
 fn stop_by<const HIGH: bool, const N: usize>(
     marks: Marks,
@@ -95,8 +75,6 @@ fn stop_by<const HIGH: bool, const N: usize>(
     Err(at)
 }
 
-/// Returns the byte offset of the first delimiter at `from` or later, or the length of `bytes`. If `HIGH` is `true`, a
-/// non-ASCII byte counts as a delimiter. Eight bytes are tested at once, and the last seven or fewer one by one.
 #[inline(always)]
 pub(crate) fn stop_by_eight<const HIGH: bool>(marks: Marks, bytes: &[u8], from: usize) -> usize {
     match stop_by::<HIGH, 8>(marks, bytes, from) {
@@ -105,8 +83,6 @@ pub(crate) fn stop_by_eight<const HIGH: bool>(marks: Marks, bytes: &[u8], from: 
     }
 }
 
-/// Returns the byte offset of the first delimiter at `from` or later, or the length of `bytes`. If `HIGH` is `true`, a
-/// non-ASCII byte counts as a delimiter. Sixteen bytes are tested at once while sixteen are left.
 #[inline(always)]
 fn stop_by_sixteen<const HIGH: bool>(marks: Marks, bytes: &[u8], from: usize) -> usize {
     match stop_by::<HIGH, 16>(marks, bytes, from) {
@@ -115,9 +91,6 @@ fn stop_by_sixteen<const HIGH: bool>(marks: Marks, bytes: &[u8], from: usize) ->
     }
 }
 
-/// Returns the number of bytes before the first delimiter, or the number of all bytes if there is no delimiter. If
-/// `HIGH` is `true`, a non-ASCII byte counts as a delimiter. The function is inlined, so `marks` is a constant in each
-/// caller.
 #[inline(always)]
 fn stop<const HIGH: bool>(marks: Marks, bytes: &[u8]) -> usize {
     if bytes.len() < 16 {
@@ -129,35 +102,26 @@ fn stop<const HIGH: bool>(marks: Marks, bytes: &[u8]) -> usize {
     }
 }
 
-/// Returns the number of bytes before the first delimiter, or the number of all bytes if there is no delimiter. The
-/// function is inlined, so `marks` is a constant in each caller.
 #[inline(always)]
 pub fn len_before_mark(marks: Marks, bytes: &[u8]) -> usize {
     stop::<false>(marks, bytes)
 }
 
-/// Returns the number of bytes before the first delimiter, or the number of all bytes if there is no delimiter. It is
-/// for a delimiter that is probably near the start, as in the tokens of a source: sixteen bytes are tested at once,
-/// where [`len_before_mark`] tests sixty-four.
 #[inline(always)]
 pub fn len_before_near_mark(marks: Marks, bytes: &[u8]) -> usize {
     stop_by_sixteen::<false>(marks, bytes, 0)
 }
 
-/// Returns the number of bytes before the first delimiter or non-ASCII byte, or the number of all bytes if there is
-/// neither. The function is inlined, so `marks` is a constant in each caller.
 #[inline(always)]
 pub fn ascii_len_before_mark(marks: Marks, bytes: &[u8]) -> usize {
     stop::<true>(marks, bytes)
 }
 
-/// Splits the text before its first delimiter. If it has no delimiter, the first part is the whole text.
 #[inline(always)]
 pub fn split_before_mark(marks: Marks, text: &str) -> (&str, &str) {
     text.split_at(len_before_near_mark(marks, text.as_bytes()))
 }
 
-/// Returns the first delimiter in the text and the text after it, or `None` if the text has no delimiter.
 #[inline(always)]
 pub fn split_after_mark(marks: Marks, text: &str) -> Option<(u8, &str)> {
     let (_, from) = split_before_mark(marks, text);

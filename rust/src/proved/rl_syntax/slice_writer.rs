@@ -4,7 +4,6 @@
 //! Each function's parameter `at` is the number of bytes that the slice `out` already holds. The result is the number
 //! of bytes that it holds afterwards. Nothing is allocated.
 
-/// Writes `bytes` after the first `at` bytes of the slice `out`, and returns the offset after the written bytes.
 #[inline(always)]
 pub fn put(out: &mut [u8], at: usize, bytes: &[u8]) -> usize {
     let end = at + bytes.len();
@@ -12,22 +11,17 @@ pub fn put(out: &mut [u8], at: usize, bytes: &[u8]) -> usize {
     end
 }
 
-/// Writes one byte after the first `at` bytes of the slice `out`, and returns the offset after the written byte.
 #[inline(always)]
 pub fn put_byte(out: &mut [u8], at: usize, byte: u8) -> usize {
     out[at] = byte;
     at + 1
 }
 
-/// Writes a text after the first `at` bytes of the slice `out`, and returns the offset after the written bytes. All
-/// bytes before that offset are UTF-8 if the first `at` bytes were.
 #[inline(always)]
 pub fn put_text(out: &mut [u8], at: usize, text: &str) -> usize {
     put(out, at, text.as_bytes())
 }
 
-/// Writes a character's UTF-8 bytes after the first `at` bytes of the slice `out`, and returns the offset after the
-/// written bytes. All bytes before that offset are UTF-8 if the first `at` bytes were.
 #[inline(always)]
 pub fn put_char(out: &mut [u8], at: usize, c: char) -> usize {
     put_text(out, at, c.encode_utf8(&mut [0; 4]))

@@ -7,8 +7,6 @@ use crate::rl_syntax::slice_writer::{put_char, put_text};
 use crate::rl_syntax::text::split_char;
 use crate::rl_syntax::written_unit::escape;
 
-/// Writes the character or byte `c` as in a literal of the kind, after the first `at` bytes of the slice `out`. Returns
-/// the offset after the written bytes.
 #[inline]
 fn put_written(out: &mut [u8], at: usize, kind: Kind, c: char) -> usize {
     match escape(kind, c, &mut [0; 4]) {
@@ -17,10 +15,6 @@ fn put_written(out: &mut [u8], at: usize, kind: Kind, c: char) -> usize {
     }
 }
 
-/// Writes the string literal whose value is `value` to the start of `out`, and returns its number of bytes.
-///
-/// The escapes are those of the table of docs/GRAMMAR.md. The literal is at most four bytes long for each byte of
-/// `value`, plus three. `out` must have room for this length.
 #[inline]
 pub fn write_str_into(value: &str, out: &mut [u8]) -> usize {
     let mut at = put_text(out, 0, Kind::Str.opener());
@@ -32,12 +26,6 @@ pub fn write_str_into(value: &str, out: &mut [u8]) -> usize {
     put_char(out, at, Kind::Str.quote())
 }
 
-/// Writes the literal of the kind whose value is the bytes `value` to the start of `out`, and returns its number of
-/// bytes.
-///
-/// The kind is `ByteStr`; `CStr`, if no byte is 0; or `Byte`, if `value` is one byte. The escapes are those of the
-/// table of docs/GRAMMAR.md. The literal is at most four bytes long for each byte of `value`, plus three. `out` must
-/// have room for this length.
 #[inline]
 pub fn write_bytes_into(kind: Kind, value: &[u8], out: &mut [u8]) -> usize {
     let mut at = put_text(out, 0, kind.opener());
@@ -47,8 +35,6 @@ pub fn write_bytes_into(kind: Kind, value: &[u8], out: &mut [u8]) -> usize {
     put_char(out, at, kind.quote())
 }
 
-/// Writes the character literal whose value is `value` to the start of `out`, and returns its number of bytes, at most
-/// seven. `out` must have room for seven. The escapes are those of the table of docs/GRAMMAR.md.
 #[inline]
 pub fn write_char_into(value: char, out: &mut [u8]) -> usize {
     let at = put_text(out, 0, Kind::Char.opener());

@@ -3,7 +3,6 @@
 
 use crate::rl_syntax::kind::Kind;
 
-/// Returns the escape of the quote that ends a literal of the kind: `\'` or `\"`.
 #[inline]
 fn escaped_closer(kind: Kind) -> &'static str {
     match kind {
@@ -12,8 +11,6 @@ fn escaped_closer(kind: Kind) -> &'static str {
     }
 }
 
-/// Returns the escape of the character or byte `c` in a literal of the kind, if it is a backslash and one character, as
-/// `\n`. Returns `None` for every other `c`.
 #[cfg_attr(debug_assertions, inline)]
 #[cfg_attr(not(debug_assertions), inline(always))]
 fn named_escape(kind: Kind, c: char) -> Option<&'static str> {
@@ -28,14 +25,11 @@ fn named_escape(kind: Kind, c: char) -> Option<&'static str> {
     }
 }
 
-/// Whether the character or byte `c` is written by its number, as `\x7F`, unless it has a shorter escape: a character
-/// below U+0020, U+007F, and in literals of bytes every byte above 127.
 #[inline]
 fn is_written_as_number(kind: Kind, c: char) -> bool {
     c < ' ' || c == '\u{7f}' || ('\u{7f}' < c && !kind.decodes_to_chars())
 }
 
-/// Returns the hexadecimal digit of the value `digit`, in upper case.
 #[inline]
 fn upper_digit(digit: u32) -> u8 {
     let digit = digit as u8;
@@ -46,7 +40,6 @@ fn upper_digit(digit: u32) -> u8 {
     }
 }
 
-/// Writes the escape of the number `c`, as `\x7F`, to `room`, and returns it as a text.
 #[inline]
 fn number(c: u32, room: &mut [u8; 4]) -> &str {
     *room = [b'\\', b'x', upper_digit(c / 16), upper_digit(c % 16)];
@@ -56,8 +49,6 @@ fn number(c: u32, room: &mut [u8; 4]) -> &str {
     }
 }
 
-/// Returns the escape of the character or byte `c` in a literal of the kind, or `None` if `c` is written as itself. An
-/// escape by number, as `\x7F`, is written to `room`.
 #[inline(always)]
 pub fn escape(kind: Kind, c: char, room: &mut [u8; 4]) -> Option<&str> {
     match named_escape(kind, c) {

@@ -12,8 +12,6 @@ use crate::rl_syntax::text::split_char;
 #[cfg(feature = "writers")]
 use crate::rl_syntax::written_unit::escape;
 
-/// Writes the escape `\u{..}` of the character `c` after the first `at` bytes of the slice `out`, and returns the offset
-/// after the escape. The character's code point is in base 16, in lower case.
 #[inline]
 pub fn put_unicode_escape(out: &mut [u8], at: usize, c: char) -> usize {
     let mut room = [0; 21];
@@ -23,8 +21,6 @@ pub fn put_unicode_escape(out: &mut [u8], at: usize, c: char) -> usize {
     put_byte(out, at, b'}')
 }
 
-/// Writes the character `c` in ASCII, as in a literal of the kind, after the first `at` bytes of the slice `out`.
-/// Returns the offset after the written bytes.
 #[cfg(feature = "writers")]
 #[inline]
 fn put_ascii(out: &mut [u8], at: usize, kind: Kind, c: char) -> usize {
@@ -37,10 +33,6 @@ fn put_ascii(out: &mut [u8], at: usize, kind: Kind, c: char) -> usize {
     }
 }
 
-/// Writes an ASCII string literal whose value is `value` to the start of `out`, and returns its length in bytes.
-///
-/// The literal is the one that `write_str_into` of `rl_syntax` writes, except that each non-ASCII character is written as
-/// `\u{..}`. The literal is at most four bytes long for each byte of `value`, plus two. `out` must have room for this length.
 #[cfg(feature = "writers")]
 #[inline]
 pub fn write_str_ascii_into(value: &str, out: &mut [u8]) -> usize {
@@ -53,8 +45,6 @@ pub fn write_str_ascii_into(value: &str, out: &mut [u8]) -> usize {
     put_byte(out, at, b'"')
 }
 
-/// Writes an ASCII character literal whose value is `value` to the start of `out`, and returns its length in bytes, at
-/// most twelve. `out` must have room for twelve.
 #[cfg(feature = "writers")]
 #[inline]
 pub fn write_char_ascii_into(value: char, out: &mut [u8]) -> usize {

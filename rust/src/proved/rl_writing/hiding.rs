@@ -1,8 +1,6 @@
 // Rendered from crates/rl_writing/src/hiding.rt by tools/render, which erases contracts: change that file, and render again.
 //! Tests for characters that aren't visible as they are: invisible, bidirectional and control characters.
 
-/// Returns `true` if the character has no width or changes the direction of text. A text with this character isn't
-/// displayed as it is written.
 #[inline]
 pub fn is_invisible_or_bidi(c: char) -> bool {
     matches!(
@@ -26,8 +24,6 @@ pub fn is_invisible_or_bidi(c: char) -> bool {
     )
 }
 
-/// Returns `true` if the character is displayed as an escape: a control character, or an invisible or bidirectional
-/// one.
 #[inline]
 pub fn is_control_invisible_or_bidi(c: char) -> bool {
     c.is_control() || is_invisible_or_bidi(c)

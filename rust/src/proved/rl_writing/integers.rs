@@ -6,22 +6,14 @@ use crate::rl_writing::numerals::{digit_group_size, put_digits_reversed, put_gro
 use crate::rl_syntax::IntegerType;
 use crate::rl_syntax::slice_writer::put_text;
 
-/// The style of a written integer literal: its base, the case of its letters, and its underscores.
 #[derive(Clone, Copy)]
 pub struct IntegerStyle {
-    /// The base of the digits, which also determines the literal's prefix, as `0x`.
     pub base: Base,
-    /// `true` for upper-case letters as digits, as in `0xFF`, and `false` for lower-case ones, as in `0xff`.
     pub upper: bool,
-    /// The number of digits between two underscores, counted from the last digit. With 3, one thousand is `1_000`. With
-    /// 0, no underscores are written.
     pub group: usize,
-    /// The fewest digits that get underscores. With 5 here and groups of 3, `1000` has no underscore, and `10_000` has
-    /// one.
     pub least: usize,
 }
 
-/// Returns the name of the integer type as a suffix, or an empty string for `None`.
 #[inline]
 fn suffix_of(suffix: Option<IntegerType>) -> &'static str {
     match suffix {
@@ -30,10 +22,6 @@ fn suffix_of(suffix: Option<IntegerType>) -> &'static str {
     }
 }
 
-/// Writes the integer literal of `value` to the start of `out`, in the style and with the suffix, and returns its
-/// length in bytes, at most 262. `out` must have room for 262.
-///
-/// The literal has no sign. Its grammar is that of the Rust Reference, section Integer literals.
 #[inline]
 pub fn write_integer_into(
     value: u128,

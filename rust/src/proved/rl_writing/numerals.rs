@@ -3,7 +3,6 @@
 
 use crate::rl_syntax::slice_writer::put_byte;
 
-/// Returns the digit of the value `value` as an ASCII byte. A letter is in upper case if `upper` is `true`.
 #[inline]
 fn digit(value: u8, upper: bool) -> u8 {
     if value < 10 {
@@ -15,8 +14,6 @@ fn digit(value: u8, upper: bool) -> u8 {
     }
 }
 
-/// Returns the quotient and the remainder of `number / by`. A number of 64 bits is divided as a `u64`, which takes a
-/// fraction of the time.
 #[inline]
 fn divided(number: u128, by: u8) -> (u128, u8) {
     match u64::try_from(number) {
@@ -31,8 +28,6 @@ fn divided(number: u128, by: u8) -> (u128, u8) {
     }
 }
 
-/// Writes the digits of `value` in the base `radix` to the start of `room`, the last digit first, and returns the number of
-/// digits. The value must fit as many bits as `room` has bytes.
 #[inline]
 pub fn put_digits_reversed(value: u128, radix: u8, upper: bool, room: &mut [u8]) -> usize {
     let mut left = value;
@@ -47,24 +42,16 @@ pub fn put_digits_reversed(value: u128, radix: u8, upper: bool, room: &mut [u8])
     }
 }
 
-/// Returns the size of the groups in which `count` digits are written: 0, which means no groups, if `count` is below
-/// `least`, and otherwise `group`.
 #[inline]
 pub fn digit_group_size(group: usize, least: usize, count: usize) -> usize {
     if count < least { 0 } else { group }
 }
 
-/// Returns `true` if an underscore separates `digits` digits from the next digit of a number that is written in groups of
-/// `group` digits. The digits are counted from the end of the number at which the groups begin, for an integer from the last
-/// digit. If `digits` or `group` is 0, the result is `false`.
 #[inline]
 pub fn is_digit_group_end(group: usize, digits: usize) -> bool {
     group > 0 && digits > 0 && digits % group == 0
 }
 
-/// Writes digits after the first `at` bytes of the slice `out`, with an underscore between groups of `group` digits,
-/// and returns the offset after the written bytes. `digits` contains the last digit first. With `group` 0, no
-/// underscores are written.
 #[inline]
 pub fn put_grouped(out: &mut [u8], at: usize, digits: &[u8], group: usize) -> usize {
     let mut end = at;

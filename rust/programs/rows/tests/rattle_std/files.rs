@@ -153,6 +153,19 @@ fn listed(path: &str) -> vec::Vec<vec::Vec<u8>> {
     names
 }
 
+/// An error after the first name is an error of the second read, and not the end.
+#[test]
+fn an_error_in_the_middle_of_a_directory() {
+    let here = directory("middle");
+    fs::write(here.join("a"), "").expect("the file can be written");
+    let entries = fs::read_dir(&*here).expect("the directory can be listed");
+    let mut entries = Dir::of(entries.chain([Err(io::Error::other("odd"))]));
+    let mut buf = [1; 256];
+    assert!(matches!(entries.read(&mut buf), Ok(2)));
+    assert!(entries.read(&mut buf).is_err());
+    assert!(matches!(entries.read(&mut buf), Ok(0)));
+}
+
 #[test]
 fn names_in_a_directory() {
     let here = directory("odd");

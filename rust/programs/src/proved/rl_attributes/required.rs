@@ -9,12 +9,6 @@ use crate::rattle_std::fmt::Display;
 use crate::rattle_std::str::FromStr;
 
 impl<A: Allocator> Attrs<A> {
-    /// Returns the decoded string that the setting `setting` is set to. The setting is required.
-    ///
-    /// # Errors
-    ///
-    /// Returns the errors of [`Attrs::string`]. Returns `Missing` at the end of the settings if no attribute has the
-    /// setting's name.
     pub fn required_string(&self, alloc: A, setting: Setting) -> Result<String<A>, SettingError<A>> {
         match self.string(alloc, setting) {
             Ok(Some(text)) => Ok(text),
@@ -23,12 +17,6 @@ impl<A: Allocator> Attrs<A> {
         }
     }
 
-    /// Returns the number that the setting `setting` is set to. The setting is required.
-    ///
-    /// # Errors
-    ///
-    /// Returns the errors of [`Attrs::number`]. Returns `Missing` at the end of the settings if no attribute has the
-    /// setting's name.
     pub fn required_number<N: FromStr>(
         &self,
         alloc: A,
@@ -43,12 +31,6 @@ impl<A: Allocator> Attrs<A> {
         }
     }
 
-    /// Returns the `bool` that the setting `setting` is set to. The setting is required.
-    ///
-    /// # Errors
-    ///
-    /// Returns the errors of [`Attrs::bool`]. Returns `Missing` at the end of the settings if no attribute has the
-    /// setting's name.
     pub fn required_bool(&self, setting: Setting) -> Result<bool, SettingError<A>> {
         match self.bool(setting) {
             Ok(Some(truth)) => Ok(truth),
@@ -57,11 +39,6 @@ impl<A: Allocator> Attrs<A> {
         }
     }
 
-    /// Returns the `bool` that the setting `setting` is set to, or `default` if no attribute has the setting's name.
-    ///
-    /// # Errors
-    ///
-    /// Returns the errors of [`Attrs::bool`].
     pub fn bool_or(&self, setting: Setting, default: bool) -> Result<bool, SettingError<A>> {
         let found = self.bool(setting);
         match found {

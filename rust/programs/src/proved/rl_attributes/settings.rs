@@ -7,16 +7,12 @@ use crate::rust_literals::Lit;
 use crate::rattle_std::alloc::{AllocError, Allocator, Global};
 use crate::rattle_std::fmt;
 
-/// A setting that a program accepts, as the program describes it in error messages: its name, and its expected value.
 #[derive(Clone, Copy, PartialEq, Eq, Debug)]
 pub struct Setting {
-    /// The setting's name.
     pub name: &'static str,
-    /// The setting's expected value, as text for messages. An example is `an integer from 0 to 65535`.
     pub expected: &'static str,
 }
 
-/// Writes the setting's name and its expected value, as in `port: expected an integer`.
 impl fmt::Display for Setting {
     fn fmt(&self, f: &mut fmt::Formatter<'_>) -> fmt::Result {
         let name = self.name;
@@ -25,30 +21,17 @@ impl fmt::Display for Setting {
     }
 }
 
-/// An error of settings. `Display` prints the message. [`SettingError::span`] returns the position.
 pub enum SettingError<A: Allocator = Global> {
-    /// The text isn't a list of attributes, or an allocation failed.
     Text(Error<A>),
-    /// The name of an attribute is unknown. The field is the name's span.
     Unknown(Span),
-    /// The value of an attribute has a suffix. The field is the value's span.
     Suffix(Span),
-    /// The value of a setting is a literal of another kind than the expected one. The fields are the setting and the
-    /// value's span.
     Kind(Setting, Span),
-    /// The value of a setting isn't a valid literal, or is an integer above 128 bits. The fields are the setting and
-    /// the value's span. `explain_missing_value` of `rl_grammar` returns the reason for the literal's text.
     Malformed(Setting, Span),
-    /// The number type of a setting rejected the value. The fields are the setting and the error, which `base10_parse`
-    /// returned.
     Value(Setting, Error<A>),
-    /// A setting is required, and no attribute has its name. The fields are the setting and a span, the end of the
-    /// settings.
     Missing(Setting, Span),
 }
 
 impl<A: Allocator> SettingError<A> {
-    /// Returns the error's span, a byte range of the text.
     pub fn span(&self) -> Span {
         match self {
             SettingError::Text(error) => error.span,
@@ -79,37 +62,30 @@ impl<A: Allocator> fmt::Display for SettingError<A> {
     }
 }
 
-/// Converts an error of [`crate::rl_attributes::read`] to `Text`.
 impl<A: Allocator> From<Error<A>> for SettingError<A> {
     fn from(error: Error<A>) -> SettingError<A> {
         SettingError::Text(error)
     }
 }
 
-/// Converts std's error for an allocation failure, which has no position, to `Text` with `Memory` at
-/// [`Span::call_site`].
 impl<A: Allocator> From<AllocError> for SettingError<A> {
     fn from(_failed: AllocError) -> SettingError<A> {
         SettingError::Text(Error::out_of_memory(Span::call_site()))
     }
 }
 
-/// Whether one of `settings` has the name `name`.
 fn is_known(settings: &[Setting], name: &str) -> bool {
     settings.iter().any(|setting| setting.name == name)
 }
 
-/// Whether `text` isn't empty.
 fn is_some(text: &str) -> bool {
     !text.is_empty()
 }
 
-/// Whether `literal` has a suffix.
 fn has_suffix<A: Allocator>(literal: &Lit<A>) -> bool {
     is_some(literal.suffix())
 }
 
-/// Checks that one of `settings` has the name of the attribute `entry`, and that the attribute's value has no suffix.
 fn check_entry<A: Allocator>(entry: &Entry<A>, settings: &[Setting]) -> Result<(), SettingError<A>> {
     if !is_known(settings, entry.name.as_str()) {
         Err(SettingError::Unknown(entry.span))
@@ -121,13 +97,6 @@ fn check_entry<A: Allocator>(entry: &Entry<A>, settings: &[Setting]) -> Result<(
 }
 
 impl<A: Allocator> Attrs<A> {
-    /// Checks that each attribute has the name of one of `settings`, and that no value has a suffix. Nothing is changed
-    /// or allocated.
-    ///
-    /// # Errors
-    ///
-    /// Returns the error of the first attribute with an unknown name or a suffix. The error is `Unknown` at the
-    /// attribute's name if the name is unknown. Otherwise it is `Suffix` at the attribute's value.
     pub fn check(&self, settings: &[Setting]) -> Result<(), SettingError<A>> {
         for entry in self.entries() {
             check_entry(entry, settings)?;

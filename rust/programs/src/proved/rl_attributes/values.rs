@@ -9,8 +9,6 @@ use crate::rattle_std::alloc::Allocator;
 use crate::rattle_std::fmt::Display;
 use crate::rattle_std::str::FromStr;
 
-/// Returns the error for a setting whose value is of another kind than expected: `Kind` at the value, or `Malformed` if
-/// the value isn't a valid literal or is an integer above 128 bits.
 fn other_kind<A: Allocator>(setting: Setting, value: &Lit<A>) -> SettingError<A> {
     match value {
         Lit::Verbatim(literal) => SettingError::Malformed(setting, literal.span()),
@@ -18,8 +16,6 @@ fn other_kind<A: Allocator>(setting: Setting, value: &Lit<A>) -> SettingError<A>
     }
 }
 
-/// Returns the decoded value of `value`, the literal that the setting `setting` is set to, which must be a string
-/// literal.
 fn string_of<A: Allocator>(
     alloc: A,
     setting: Setting,
@@ -31,8 +27,6 @@ fn string_of<A: Allocator>(
     }
 }
 
-/// Returns the `bool` that the literal `value` represents. `value` is the value of the setting `setting`, and must be a
-/// `bool` literal.
 fn bool_of<A: Allocator>(setting: Setting, value: &Lit<A>) -> Result<bool, SettingError<A>> {
     match value {
         Lit::Bool(literal) => Ok(literal.value()),
@@ -40,8 +34,6 @@ fn bool_of<A: Allocator>(setting: Setting, value: &Lit<A>) -> Result<bool, Setti
     }
 }
 
-/// Returns the number that the literal `value` represents, as the number type `N` parses it. `value` is the value of
-/// the setting `setting`, and must be an integer or float literal.
 fn number_of<N: FromStr, A: Allocator>(
     alloc: A,
     setting: Setting,
@@ -61,8 +53,6 @@ where
 }
 
 impl<A: Allocator> Attrs<A> {
-    /// Returns the decoded string that the setting `setting` is set to, or `None` if no attribute has the setting's
-    /// name.
     fn found_string(&self, alloc: A, setting: Setting) -> Result<Option<String<A>>, SettingError<A>> {
         let Some(value) = self.get(setting.name) else {
             return Ok(None);
@@ -73,7 +63,6 @@ impl<A: Allocator> Attrs<A> {
         }
     }
 
-    /// Returns the number that the setting `setting` is set to, or `None` if no attribute has the setting's name.
     fn found_number<N: FromStr>(
         &self,
         alloc: A,
@@ -90,7 +79,6 @@ impl<A: Allocator> Attrs<A> {
         }
     }
 
-    /// Returns the `bool` that the setting `setting` is set to, or `None` if no attribute has the setting's name.
     fn found_truth(&self, setting: Setting) -> Result<Option<bool>, SettingError<A>> {
         let Some(value) = self.get(setting.name) else {
             return Ok(None);
@@ -103,25 +91,10 @@ impl<A: Allocator> Attrs<A> {
 }
 
 impl<A: Allocator> Attrs<A> {
-    /// Returns the decoded string that the setting `setting` is set to, or `None` if no attribute has the setting's
-    /// name.
-    ///
-    /// # Errors
-    ///
-    /// Returns `Malformed` at a value that isn't a valid literal or is an integer above 128 bits. Returns `Kind` at any
-    /// other literal that isn't a string. Returns `Text` with `Memory` at the value if an allocation fails.
     pub fn string(&self, alloc: A, setting: Setting) -> Result<Option<String<A>>, SettingError<A>> {
         self.found_string(alloc, setting)
     }
 
-    /// Returns the number that the setting `setting` is set to, or `None` if no attribute has the setting's name. The
-    /// number type `N` parses the digits of the value in base ten: `0x50` as a `u16` is 80.
-    ///
-    /// # Errors
-    ///
-    /// Returns `Malformed` at a value that isn't a valid literal or is an integer above 128 bits. Returns `Kind` at any
-    /// other literal that is neither an integer nor a float. Returns `Value` with the error of `base10_parse` if the
-    /// number type rejects the value.
     pub fn number<N: FromStr>(
         &self,
         alloc: A,
@@ -132,19 +105,10 @@ impl<A: Allocator> Attrs<A> {
         self.found_number(alloc, setting)
     }
 
-    /// Returns the `bool` that the setting `setting` is set to, or `None` if no attribute has the setting's name.
-    /// Nothing is allocated.
-    ///
-    /// # Errors
-    ///
-    /// Returns `Malformed` at a value that isn't a valid literal or is an integer above 128 bits. Returns `Kind` at any
-    /// other literal that is neither `true` nor `false`.
     pub fn bool(&self, setting: Setting) -> Result<Option<bool>, SettingError<A>> {
         self.found_truth(setting)
     }
 
-    /// Returns the error `Missing` for the required setting `setting`, at the end of the settings. A caller that
-    /// requires a setting returns this error if the setting's value is `None`.
     pub fn missing_error(&self, setting: Setting) -> SettingError<A> {
         SettingError::Missing(setting, self.end_span())
     }

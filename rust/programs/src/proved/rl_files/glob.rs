@@ -2,20 +2,16 @@
 //! Matches paths against patterns in the syntax of gitignore files, without allocations. The time grows with the product of the
 //! lengths of pattern and path.
 
-/// The result of matching a pattern up to its first star. `Decided` has the final result. `Star` has the pattern after the star,
-/// and the unmatched part of the name or path.
 #[derive(Clone, Copy)]
 enum Stop<P, T> {
     Decided(bool),
     Star(P, T),
 }
 
-/// Whether matching a pattern failed before its first star was reached.
 fn is_failed<P: Copy, T: Copy>(stop: Stop<P, T>) -> bool {
     matches!(stop, Stop::Decided(false))
 }
 
-/// Returns the first byte and the bytes after it, or `None` for an empty list.
 fn first_byte(bytes: &[u8]) -> Option<(u8, &[u8])> {
     match bytes {
         [byte, rest @ ..] => Some((*byte, rest)),
@@ -23,12 +19,10 @@ fn first_byte(bytes: &[u8]) -> Option<(u8, &[u8])> {
     }
 }
 
-/// Whether `p`, a byte of a pattern other than `*`, matches `byte`. A `?` matches any byte.
 fn is_byte_match(p: u8, byte: u8) -> bool {
     p == b'?' || p == byte
 }
 
-/// Matches a name against a pattern, up to the pattern's first `*`.
 fn name_stop<'p, 'n>(pattern: &'p [u8], name: &'n [u8]) -> Stop<&'p [u8], &'n [u8]> {
     let mut left = pattern;
     let mut bytes = name;
@@ -48,8 +42,6 @@ fn name_stop<'p, 'n>(pattern: &'p [u8], name: &'n [u8]) -> Stop<&'p [u8], &'n [u
     Stop::Decided(bytes.is_empty())
 }
 
-/// Matches a pattern that follows a `*` against each end of `name`, up to the pattern's next `*`. Returns the first result that
-/// didn't fail.
 fn name_stop_after<'p, 'n>(pattern: &'p [u8], name: &'n [u8]) -> Stop<&'p [u8], &'n [u8]> {
     let mut left = name;
     loop {
@@ -64,7 +56,6 @@ fn name_stop_after<'p, 'n>(pattern: &'p [u8], name: &'n [u8]) -> Stop<&'p [u8], 
     }
 }
 
-/// Whether the pattern of a name matches the whole name. Its `*` matches any number of bytes.
 fn is_name_match(pattern: &[u8], name: &[u8]) -> bool {
     let mut stop = name_stop(pattern, name);
     while let Stop::Star(pattern, name) = stop {
@@ -73,7 +64,6 @@ fn is_name_match(pattern: &[u8], name: &[u8]) -> bool {
     matches!(stop, Stop::Decided(true))
 }
 
-/// Returns the first name in a path, and the path after its slash, or `None` if it has no slash.
 fn first_part(path: &[u8]) -> (&[u8], Option<&[u8]>) {
     for at in 0..path.len() {
         if path[at] == b'/' {
@@ -83,13 +73,10 @@ fn first_part(path: &[u8]) -> (&[u8], Option<&[u8]>) {
     (path, None)
 }
 
-/// Whether a part of a pattern is `**`, which matches any number of names.
 fn is_double_star(part: &[u8]) -> bool {
     part == b"**".as_slice()
 }
 
-/// Returns the first part of a pattern, and the pattern after its slash. After `**` at the pattern's end a part `*` follows, so
-/// that at least one name must match.
 fn first_of_pattern(pattern: &[u8]) -> (&[u8], Option<&[u8]>) {
     match first_part(pattern) {
         (part, Some(after)) => (part, Some(after)),
@@ -98,7 +85,6 @@ fn first_of_pattern(pattern: &[u8]) -> (&[u8], Option<&[u8]>) {
     }
 }
 
-/// Matches a path against a pattern, name by name, up to the pattern's first `**`. `None` is an empty pattern or path.
 fn path_stop<'p, 'n>(
     pattern: Option<&'p [u8]>,
     path: Option<&'n [u8]>,
@@ -123,8 +109,6 @@ fn path_stop<'p, 'n>(
     Stop::Decided(names.is_none())
 }
 
-/// Matches a pattern that follows `**` against each end of a path, up to the pattern's next `**`. Returns the first result that
-/// didn't fail. `None` is an empty pattern or path.
 fn path_stop_after<'p, 'n>(
     pattern: Option<&'p [u8]>,
     path: Option<&'n [u8]>,
@@ -142,7 +126,6 @@ fn path_stop_after<'p, 'n>(
     }
 }
 
-/// Whether a pattern matches a path, where `first` is the result up to the pattern's first `**`.
 fn is_path_match(first: Stop<Option<&[u8]>, Option<&[u8]>>) -> bool {
     let mut stop = first;
     while let Stop::Star(pattern, path) = stop {
@@ -151,12 +134,10 @@ fn is_path_match(first: Stop<Option<&[u8]>, Option<&[u8]>>) -> bool {
     matches!(stop, Stop::Decided(true))
 }
 
-/// Whether a path ends with a slash.
 fn ends_in_slash(path: &[u8]) -> bool {
     path.ends_with(b"/".as_slice())
 }
 
-/// Returns a path without the slash at its end.
 fn without_slash(path: &[u8]) -> &[u8] {
     if ends_in_slash(path) {
         &path[..path.len() - 1]
@@ -165,12 +146,10 @@ fn without_slash(path: &[u8]) -> &[u8] {
     }
 }
 
-/// Whether a path contains a slash.
 fn has_slash(path: &[u8]) -> bool {
     path.contains(&b'/')
 }
 
-/// Returns a path without the slash at its start.
 fn after_slash(path: &[u8]) -> &[u8] {
     match path {
         [b'/', rest @ ..] => rest,
@@ -178,9 +157,6 @@ fn after_slash(path: &[u8]) -> &[u8] {
     }
 }
 
-/// Whether a pattern matches a path. Neither ends with a slash.
-///
-/// A pattern with a slash matches the whole path. A pattern without one matches the last name of the path.
 fn is_glob_match(pattern: &[u8], path: &[u8]) -> bool {
     if has_slash(pattern) {
         is_path_match(path_stop(Some(after_slash(pattern)), Some(path)))
@@ -189,14 +165,11 @@ fn is_glob_match(pattern: &[u8], path: &[u8]) -> bool {
     }
 }
 
-/// Whether a pattern matches a path. The path of a directory ends with a slash, and a pattern that ends with a slash matches only
-/// directories.
 fn excludes(pattern: &[u8], path: &[u8]) -> bool {
     (!ends_in_slash(pattern) || ends_in_slash(path))
         && is_glob_match(without_slash(pattern), without_slash(path))
 }
 
-/// Returns `true` if at least one pattern matches a path. The path of a directory ends with a slash.
 pub fn is_excluded(patterns: &[&str], path: &[u8]) -> bool {
     let mut rest = patterns;
     while let [pattern, after @ ..] = rest {

@@ -6,34 +6,24 @@ use crate::rl_files::replace::Replace;
 use crate::rl_files::tree::{PathError, Tree};
 use crate::rattle_std::alloc::{AllocError, Allocator, Global};
 
-/// A file in memory: its bytes, or the reason why it can't be read.
 #[derive(Clone, Copy)]
 pub struct MemoryFile<'a> {
-    /// The path of the file.
     pub path: &'a str,
-    /// The bytes of the file, or the reason why they can't be read.
     pub bytes: Result<&'a [u8], PathError>,
 }
 
-/// A directory in memory: the names in it, as `Tree::names` returns them, or the reason why it can't be read.
 #[derive(Clone, Copy)]
 pub struct MemoryDirectory<'a> {
-    /// The path of the directory.
     pub path: &'a str,
-    /// The names in the directory, or the reason why they can't be read.
     pub names: Result<&'a [&'a [u8]], PathError>,
 }
 
-/// Files and directories in memory.
 #[derive(Clone, Copy)]
 pub struct MemoryTree<'a> {
-    /// The files of the file tree in memory.
     pub files: &'a [MemoryFile<'a>],
-    /// The directories of the file tree in memory.
     pub directories: &'a [MemoryDirectory<'a>],
 }
 
-/// Returns the bytes of the first file in the list `files` that has the path `path`.
 fn find_file<'a>(files: &[MemoryFile<'a>], path: &str) -> Result<&'a [u8], PathError> {
     let mut rest = files;
     while let [file, after @ ..] = rest {
@@ -45,7 +35,6 @@ fn find_file<'a>(files: &[MemoryFile<'a>], path: &str) -> Result<&'a [u8], PathE
     Err(PathError::NotFound)
 }
 
-/// Returns the names in the first directory in the list that has the path `path`.
 fn find_directory<'a>(
     directories: &[MemoryDirectory<'a>],
     path: &str,
@@ -60,14 +49,12 @@ fn find_directory<'a>(
     Err(PathError::NotADirectory)
 }
 
-/// Returns a copy of the bytes `bytes`, in memory from `alloc`.
 fn copy_bytes<A: Allocator>(alloc: A, bytes: &[u8]) -> Result<Vec<u8, A>, AllocError> {
     let mut copy = Vec::new(alloc);
     copy.extend_from_slice(bytes)?;
     Ok(copy)
 }
 
-/// Returns a copy of the names `names`, in memory from `alloc`.
 fn copy_names<A: Allocator + Copy>(
     alloc: A,
     names: &[&[u8]],
@@ -107,37 +94,24 @@ impl Tree for MemoryTree<'_> {
     }
 }
 
-/// A file in memory that can't be replaced, and the reason.
 #[derive(Clone, Copy)]
 pub struct Unwritable<'a> {
-    /// The path of the file.
     pub path: &'a str,
-    /// The reason why the file can't be replaced.
     pub why: PathError,
 }
 
-/// A replacement of a file in memory: its bytes before and after.
 pub struct MemoryReplacement<A: Allocator = Global> {
-    /// The file's path.
     pub path: String<A>,
-    /// The bytes of the file before the replacement.
     pub old: Vec<u8, A>,
-    /// The bytes of the file after the replacement.
     pub new: Vec<u8, A>,
 }
 
-/// The replacements of files in memory, and the files that can't be replaced.
 pub struct MemoryReplacements<'a, A: Allocator = Global> {
-    /// The allocator of the list of replacements.
     pub alloc: A,
-    /// The files that can't be replaced.
     pub unwritable: &'a [Unwritable<'a>],
-    /// The replacements that were made, in order.
     pub handed: Vec<MemoryReplacement<A>, A>,
 }
 
-/// Returns the reason why the file at `path` can't be replaced, from the first entry with this path. Returns `None` if it can be
-/// replaced.
 fn find_unwritable(unwritable: &[Unwritable<'_>], path: &str) -> Option<PathError> {
     let mut rest = unwritable;
     while let [first, after @ ..] = rest {
@@ -149,7 +123,6 @@ fn find_unwritable(unwritable: &[Unwritable<'_>], path: &str) -> Option<PathErro
     None
 }
 
-/// Returns a replacement with copies of the path, the old bytes and the new bytes.
 fn copy_replacement<A: Allocator + Copy>(
     alloc: A,
     path: &str,

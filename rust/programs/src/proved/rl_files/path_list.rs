@@ -6,16 +6,12 @@ use crate::rl_files::path_texts::path_text;
 use crate::rl_files::tree::{PathError, Tree};
 use crate::rattle_std::alloc::{AllocError, Allocator};
 
-/// A list of paths that can't be read, and the reason.
 #[derive(Clone, Copy)]
 pub struct Unread<'a> {
-    /// The path of the file that lists paths.
     pub file: &'a str,
-    /// The reason why the file can't be read.
     pub why: PathError,
 }
 
-/// Returns a list without a byte order mark at its start.
 fn after_mark(list: &[u8]) -> &[u8] {
     if list.starts_with(b"\xef\xbb\xbf".as_slice()) {
         return &list[3..];
@@ -23,12 +19,10 @@ fn after_mark(list: &[u8]) -> &[u8] {
     list
 }
 
-/// Whether a list of paths contains a NUL.
 fn has_nul(list: &[u8]) -> bool {
     list.contains(&0)
 }
 
-/// Returns the byte that ends each path in a list: NUL if the list contains one, else LF.
 fn separator(list: &[u8]) -> u8 {
     if has_nul(list) {
         return 0;
@@ -36,7 +30,6 @@ fn separator(list: &[u8]) -> u8 {
     b'\n'
 }
 
-/// Appends the text of the path `name` to `paths`, if it isn't empty.
 fn push_name<A: Allocator + Copy>(
     alloc: A,
     paths: &mut Vec<String<A>, A>,
@@ -49,12 +42,10 @@ fn push_name<A: Allocator + Copy>(
     Ok(())
 }
 
-/// Whether a byte ends a path.
 fn ends_path(byte: u8, between: u8) -> bool {
     byte == between
 }
 
-/// Returns the first path in a list that isn't empty, and the list after it. `between` is the byte that ends each path.
 fn split_name(list: &[u8], between: u8) -> (&[u8], &[u8]) {
     for (at, byte) in list.iter().enumerate() {
         if ends_path(*byte, between) {
@@ -64,7 +55,6 @@ fn split_name(list: &[u8], between: u8) -> (&[u8], &[u8]) {
     (list, &[])
 }
 
-/// Appends the paths in a list to `paths`. `between` is the byte that ends each path.
 fn push_parts<A: Allocator + Copy>(
     alloc: A,
     paths: &mut Vec<String<A>, A>,
@@ -80,12 +70,6 @@ fn push_parts<A: Allocator + Copy>(
     Ok(())
 }
 
-/// Appends the paths that a file lists to `paths`. A byte order mark at the start of the file is skipped. A path that isn't UTF-8
-/// is represented as `path_text` represents it.
-///
-/// # Errors
-///
-/// Returns the reason why the file can't be read. If an allocation fails, some paths may have been appended.
 fn push_listed<A: Allocator + Copy, T: Tree>(
     alloc: A,
     tree: &T,
@@ -103,11 +87,6 @@ fn push_listed<A: Allocator + Copy, T: Tree>(
     }
 }
 
-/// Appends the paths that files list to `paths`, one file after another.
-///
-/// # Errors
-///
-/// Returns the first file that can't be read, and the reason. The paths in earlier files have been appended then.
 pub fn push_listed_paths<'f, A: Allocator + Copy, T: Tree>(
     alloc: A,
     tree: &T,

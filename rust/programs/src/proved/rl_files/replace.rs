@@ -4,13 +4,7 @@
 use crate::rl_files::tree::PathError;
 use crate::rattle_std::alloc::Allocator;
 
-/// A type that replaces files. A file has either its old or its new bytes, and no mixture of both.
 pub trait Replace {
-    /// Replaces the file at `path` with the bytes `new`. `old` are the bytes of the file when it was read.
-    ///
-    /// # Errors
-    ///
-    /// Returns the reason why the file can't be replaced, or `OutOfMemory` if an allocation fails. The file is unchanged then.
     fn replace<A: Allocator + Copy>(
         &mut self,
         alloc: A,

@@ -5,50 +5,28 @@ use crate::rattle_std::prelude::{Vec};
 use crate::rattle_std::alloc::Allocator;
 use crate::rattle_std::fmt;
 
-/// The reason why a path can't be read, or why its file can't be replaced.
 #[derive(Clone, Copy)]
 pub enum PathError {
-    /// The path doesn't exist.
     NotFound,
-    /// The program has no permission to read the path.
     PermissionDenied,
-    /// The path is a directory, but a file was expected.
     IsADirectory,
-    /// The path isn't a directory, but a directory was expected.
     NotADirectory,
-    /// The path is longer than the system allows.
     PathTooLong,
-    /// The path of a file in a directory isn't UTF-8.
     PathNotUtf8,
-    /// A path that the user passed or that a file lists, or the target of a link at such a path, isn't UTF-8.
     GivenNotUtf8,
-    /// The file isn't UTF-8. The field is the offset of the first invalid byte.
     NotUtf8(usize),
-    /// The file has more than `LONGEST` bytes, which is 1 GiB.
     TooLong,
-    /// An allocation failed.
     OutOfMemory,
-    /// The path is neither a file nor a directory, but a device, a pipe or standard input.
     NotAFile,
-    /// The file has other bytes than when it was read.
     Changed,
-    /// The device has no space for the file's new bytes.
     NoRoom,
-    /// The file's device can't be written.
     ReadOnly,
-    /// The program has no permission to write in the file's directory.
     DirectoryDenied,
-    /// A replacement would give the file another owner or group.
     OwnerChanges,
-    /// The file has other hard links, which a replacement wouldn't change.
     HardLinks,
-    /// A replacement could give the file other permissions.
     RightsChange,
-    /// All names that a new file in the file's directory may have are in use.
     NamesTaken,
-    /// Reading failed for a reason that no other variant describes.
     ReadFailed,
-    /// Writing failed for a reason that no other variant describes.
     WriteFailed,
 }
 
@@ -87,33 +65,13 @@ impl fmt::Display for PathError {
     }
 }
 
-/// A tree of files: it returns the bytes of files, and the names in directories.
 pub trait Tree {
-    /// Returns the bytes of the text file at a path. A tree may return `NotUtf8` before it has read a whole file that isn't UTF-8.
-    ///
-    /// # Errors
-    ///
-    /// Returns the reason why the file can't be read, or `OutOfMemory` if an allocation fails.
     fn bytes<A: Allocator>(&self, alloc: A, path: &str) -> Result<Vec<u8, A>, PathError>;
 
-    /// Returns the bytes of the file at a path, which needn't be UTF-8, as a list of paths needn't.
-    ///
-    /// # Errors
-    ///
-    /// Returns the reason why the file can't be read, or `OutOfMemory` if an allocation fails.
     fn any_bytes<A: Allocator>(&self, alloc: A, path: &str) -> Result<Vec<u8, A>, PathError> {
         self.bytes(alloc, path)
     }
 
-    /// Returns the names in the directory at a path, in any order. Each name is a list of bytes.
-    ///
-    /// If the name of a directory is UTF-8, a slash follows it. If a name isn't UTF-8, the slash may be missing. Links and devices
-    /// are left out, except those with a name that isn't UTF-8.
-    ///
-    /// # Errors
-    ///
-    /// Returns the reason why the directory can't be read. It is `NotADirectory` if the path is another file, and `OutOfMemory` if
-    /// an allocation fails.
     fn names<A: Allocator + Copy>(
         &self,
         alloc: A,

@@ -8,46 +8,29 @@ use crate::rl_files::tree::{PathError, Tree};
 use crate::rattle_std::alloc::{AllocError, Allocator, Global};
 use crate::rattle_std::fmt;
 
-/// The maximum number of directories that a walk enters between two files.
 const TURNS: u32 = u32::MAX;
 
-/// The selection of the files that a walk reads in directories.
 #[derive(Clone, Copy)]
 pub struct Selection<'a> {
-    /// Whether hidden files, hidden directories and the directory `target` of a Cargo package are visited too.
     pub all: bool,
-    /// The extensions of the files to read, without the dot.
     pub extensions: &'a [&'a str],
-    /// The patterns of the paths to leave out. They are relative to the directory that the user passed.
     pub excludes: &'a [&'a str],
 }
 
-/// An entry that a walk still has to visit.
 pub enum WalkEntry<A: Allocator = Global> {
-    /// A path that may be a directory. The number is the length, with a slash, of the start of the path that is the
-    /// directory passed by the user. Without the number, the user passed the path itself, which may also be a file.
     Directory(Option<usize>, String<A>),
-    /// A file in a directory.
     File(String<A>),
-    /// A path that isn't UTF-8, with its bytes escaped, and the error to report: `GivenNotUtf8` if the user passed the path or a
-    /// file lists it, `PathNotUtf8` if it is in a directory.
     BadPath(String<A>, PathError),
 }
 
-/// The next result of a walk.
 pub enum Visit<A: Allocator = Global> {
-    /// A file to read.
     File(String<A>),
-    /// A path that the walk can't read, and the reason.
     Failed(String<A>, PathError),
 }
 
-/// The reason why a walk ends before all files are visited.
 #[derive(Clone, Copy)]
 pub enum WalkError {
-    /// An allocation failed.
     OutOfMemory,
-    /// The walk entered 4,294,967,295 directories without a file between them.
     TooManyDirectories,
 }
 
@@ -60,24 +43,19 @@ impl fmt::Display for WalkError {
     }
 }
 
-/// A walk through directories, which returns their files one by one.
 pub struct Walk<A: Allocator = Global> {
-    // The entries that the walk still has to visit, in reverse order.
     pending: Vec<WalkEntry<A>, A>,
 }
 
-/// Whether a name or a path is that of a directory: it ends with a slash.
 fn is_directory(name: &[u8]) -> bool {
     name.ends_with(b"/".as_slice())
 }
 
-/// Whether a name ends with a dot and `extension`.
 fn has_extension(extension: &str, name: &[u8]) -> bool {
     let ending = extension.as_bytes();
     name.ends_with(ending) && name[..name.len() - ending.len()].ends_with(b".".as_slice())
 }
 
-/// Whether a name ends with a dot and one of the `extensions`.
 fn has_one_of(extensions: &[&str], name: &[u8]) -> bool {
     let mut rest = extensions;
     while let [extension, after @ ..] = rest {
@@ -89,7 +67,6 @@ fn has_one_of(extensions: &[&str], name: &[u8]) -> bool {
     false
 }
 
-/// Whether the names in a directory include `Cargo.toml`, so that it is a Cargo package.
 fn are_of_package<A: Allocator>(names: &[Vec<u8, A>]) -> bool {
     let mut rest = names;
     while let [name, after @ ..] = rest {
@@ -101,17 +78,14 @@ fn are_of_package<A: Allocator>(names: &[Vec<u8, A>]) -> bool {
     false
 }
 
-/// Whether a name is left out: a hidden one, and in a Cargo package the directory `target`, into which Cargo builds.
 fn is_left_out(in_package: bool, name: &[u8]) -> bool {
     name.starts_with(b".".as_slice()) || in_package && name == b"target/".as_slice()
 }
 
-/// Whether all bytes are ASCII letters.
 fn are_letters(bytes: &[u8]) -> bool {
     bytes.iter().all(|b| b.is_ascii_alphabetic())
 }
 
-/// Whether a name has an extension of ASCII letters: a dot that isn't the first byte, and only letters after the dot.
 fn has_letter_extension(name: &[u8]) -> bool {
     let mut rest = bytes_from(name, 1);
     while let [byte, after @ ..] = rest {
@@ -123,24 +97,19 @@ fn has_letter_extension(name: &[u8]) -> bool {
     false
 }
 
-/// Whether bytes are UTF-8.
 fn is_utf8(bytes: &[u8]) -> bool {
     crate::rattle_std::str::from_utf8(bytes).is_ok()
 }
 
-/// Whether a name that isn't UTF-8 may be the name of a directory: it has no extension of ASCII letters.
 fn may_be_directory(name: &[u8]) -> bool {
     !is_utf8(name) && !has_letter_extension(name)
 }
 
-/// Whether a walk visits a name. Directories and files with a selected extension are visited, unless the name is left out. A name
-/// that isn't UTF-8 is visited to be reported, if it may be the name of a directory, or of a file with a selected extension.
 fn is_wanted(selection: Selection<'_>, in_package: bool, name: &[u8]) -> bool {
     (selection.all || !is_left_out(in_package, name))
         && (is_directory(name) || has_one_of(selection.extensions, name) || may_be_directory(name))
 }
 
-/// Returns the path of a name in a directory.
 pub(crate) fn path_in<A: Allocator>(
     alloc: A,
     directory: &str,
@@ -155,13 +124,10 @@ pub(crate) fn path_in<A: Allocator>(
     Ok(path)
 }
 
-/// Whether a path is one that the user passed, so that `from` is `None`, and not the path of a directory below it.
 fn is_given(from: Option<usize>) -> bool {
     from.is_none()
 }
 
-/// Returns the length, with a slash, of the directory that the user passed. If `from` is `None`, that directory is `path`, else
-/// `path` is below it, and `from` is the length.
 fn argument_len(from: Option<usize>, path: &str) -> usize {
     match from {
         Some(from) => from,
@@ -170,7 +136,6 @@ fn argument_len(from: Option<usize>, path: &str) -> usize {
     }
 }
 
-/// Returns the bytes from an offset, or no bytes if the offset is too large.
 fn bytes_from(bytes: &[u8], from: usize) -> &[u8] {
     if from > bytes.len() {
         return &bytes[bytes.len()..];
@@ -178,12 +143,10 @@ fn bytes_from(bytes: &[u8], from: usize) -> &[u8] {
     &bytes[from..]
 }
 
-/// Whether a pattern of `selection` excludes a path. The first `from` bytes of the path aren't compared.
 fn is_pruned(selection: Selection<'_>, from: usize, path: &[u8]) -> bool {
     is_excluded(selection.excludes, bytes_from(path, from))
 }
 
-/// Returns the entry to visit for a path below the directory that the user passed. `from` is the length of this directory.
 fn pending_of<A: Allocator>(alloc: A, from: usize, path: &[u8]) -> Result<WalkEntry<A>, AllocError> {
     let text = match crate::rattle_std::str::from_utf8(path) {
         Ok(text) => String::from_str(alloc, text)?,
@@ -197,7 +160,6 @@ fn pending_of<A: Allocator>(alloc: A, from: usize, path: &[u8]) -> Result<WalkEn
     Ok(WalkEntry::File(text))
 }
 
-/// Returns the entry to visit for a path that the user passed.
 fn entry_given<A: Allocator>(alloc: A, path: String<A>) -> Result<WalkEntry<A>, AllocError> {
     if let Some(shown) = escaped_non_utf8_path(path.as_str()) {
         let path = String::from_str(alloc, shown)?;
@@ -207,31 +169,22 @@ fn entry_given<A: Allocator>(alloc: A, path: String<A>) -> Result<WalkEntry<A>, 
 }
 
 impl<A: Allocator> Walk<A> {
-    /// Returns a walk without any entries.
     fn new(alloc: A) -> Walk<A> {
         Walk {
             pending: Vec::new(alloc),
         }
     }
 
-    /// Adds an entry that is visited next, before the other entries.
     fn push(&mut self, pending: WalkEntry<A>) -> Result<(), AllocError> {
         self.pending.push(pending)?;
         Ok(())
     }
 
-    /// Adds a path that the user passed. It is visited next, before the other entries.
     fn push_given(&mut self, alloc: A, path: String<A>) -> Result<(), AllocError> {
         let entry = entry_given(alloc, path)?;
         self.push(entry)
     }
 
-    /// Returns a walk that visits the paths in their order. A path that isn't UTF-8, as `path_text` represents it, is visited to be
-    /// reported.
-    ///
-    /// # Errors
-    ///
-    /// Returns an error if an allocation fails.
     pub fn of_paths(alloc: A, paths: &mut Vec<String<A>, A>) -> Result<Walk<A>, AllocError>
     where
         A: Copy, {
@@ -242,14 +195,10 @@ impl<A: Allocator> Walk<A> {
         Ok(walk)
     }
 
-    /// Removes and returns the next entry to visit.
     fn take(&mut self) -> Option<WalkEntry<A>> {
         self.pending.pop()
     }
 
-    /// Adds a name in a directory, if it is selected and not excluded. It is visited next, before the other entries.
-    ///
-    /// `in_package` tells whether the directory is a Cargo package, and `from` is the length of the directory that the user passed.
     fn push_name(
         &mut self,
         alloc: A,
@@ -272,8 +221,6 @@ impl<A: Allocator> Walk<A> {
         self.push(pending)
     }
 
-    /// Adds the names in a directory that are selected and not excluded. They are visited next, in their order, before the other
-    /// entries.
     fn push_names(
         &mut self,
         alloc: A,
@@ -298,8 +245,6 @@ impl<A: Allocator> Walk<A> {
         Ok(())
     }
 
-    /// Adds the names in a directory that are selected and not excluded. They are visited next, in the order of their bytes, before
-    /// the other entries.
     fn enter(
         &mut self,
         alloc: A,
@@ -315,11 +260,6 @@ impl<A: Allocator> Walk<A> {
         Ok(())
     }
 
-    /// Returns the next file to read, or the next path that can't be read. At the end the result is `None`.
-    ///
-    /// # Errors
-    ///
-    /// Returns an error if an allocation fails, or if the walk enters 4,294,967,295 directories without a result.
     pub fn next<T: Tree>(
         &mut self,
         alloc: A,

@@ -5,25 +5,18 @@ use crate::rl_lenient::{Found, bool_of, parse_literal, parse_with_added_minus};
 use crate::rl_tokens::{Error, Ident, Kind, Literal, ParseBuffer, Punct, Span};
 use crate::rattle_std::alloc::Allocator;
 
-/// A minus token and the number token after it, which together are one literal, and the literal's parse result.
 pub struct Negative<'a, A: Allocator> {
     minus: &'a Punct,
     number: &'a Literal<A>,
     found: Found,
 }
 
-/// The literal at the start of a sequence of token trees, as the one or two tokens that it consists of.
 pub enum Front<'a, A: Allocator> {
-    /// A literal token. Its text isn't checked.
     Literal(&'a Literal<A>),
-    /// The identifier `true` or `false`.
     Word(&'a Ident<A>),
-    /// A minus and a number token, which together are one literal.
     Negative(Negative<'a, A>),
 }
 
-/// Consumes the next token tree of `input` if it is the identifier `true` or `false`, and returns the identifier.
-/// Otherwise the result is `None` and the buffer is unchanged.
 fn take_word<'a, A: Allocator>(input: &mut ParseBuffer<'a, A>) -> Option<&'a Ident<A>> {
     let mut ahead = input.fork();
     let word = ahead.ident()?;
@@ -32,8 +25,6 @@ fn take_word<'a, A: Allocator>(input: &mut ParseBuffer<'a, A>) -> Option<&'a Ide
     Some(word)
 }
 
-/// Consumes the next two token trees of `input` if they are a minus and a number token, which together are one literal.
-/// Otherwise the result is `None` and the buffer is unchanged.
 fn take_negative<'a, A: Allocator>(input: &mut ParseBuffer<'a, A>) -> Option<Negative<'a, A>> {
     let mut ahead = input.fork();
     let minus = ahead.punct()?;
@@ -50,8 +41,6 @@ fn take_negative<'a, A: Allocator>(input: &mut ParseBuffer<'a, A>) -> Option<Neg
     })
 }
 
-/// Returns the span of a negative number, from the span of its minus to the span of the number token. If the two spans
-/// aren't in one file, the result is the span of the minus.
 fn joined_span(minus: Span, number: Span) -> Span {
     match minus.join(number) {
         Some(span) => span,
@@ -60,9 +49,6 @@ fn joined_span(minus: Span, number: Span) -> Span {
 }
 
 impl<'a, A: Allocator> Front<'a, A> {
-    /// Consumes the literal at the start of `input`: a literal token with any text, the identifier `true` or `false`,
-    /// or a minus and a number token that together are one literal. If `input` doesn't begin with a literal, the result
-    /// is `None` and the buffer is unchanged.
     #[inline(always)]
     pub fn take(input: &mut ParseBuffer<'a, A>) -> Option<Front<'a, A>> {
         if let Some(token) = input.literal() {
@@ -75,9 +61,6 @@ impl<'a, A: Allocator> Front<'a, A> {
         Some(Front::Negative(negative))
     }
 
-    /// Returns the literal's parse result, or `None` if the text of the literal token isn't a valid literal or is an
-    /// integer above 128 bits. The byte offsets in the result count from the start of the literal's text, which
-    /// includes a minus.
     pub fn parse_result(&self) -> Option<Found> {
         match self {
             Front::Literal(token) => parse_literal(token.text()),
@@ -86,14 +69,11 @@ impl<'a, A: Allocator> Front<'a, A> {
         }
     }
 
-    /// Returns the literal's kind, or `None` if the text of the literal token isn't a valid literal or is an integer
-    /// above 128 bits.
     pub fn kind(&self) -> Option<Kind> {
         let found = self.parse_result()?;
         Some(found.kind)
     }
 
-    /// Returns the literal's parse result if the literal is valid and of the kind `kind`, and otherwise `None`.
     fn find_of_kind(&self, kind: Kind) -> Option<Found> {
         let found = self.parse_result()?;
         if found.kind == kind {
@@ -103,12 +83,10 @@ impl<'a, A: Allocator> Front<'a, A> {
         }
     }
 
-    /// Whether the literal is valid and of the kind `kind`. Nothing is allocated.
     fn is_of_kind(&self, kind: Kind) -> bool {
         self.find_of_kind(kind).is_some()
     }
 
-    /// Returns the value of a literal `true` or `false`, or `None` for any other literal.
     pub fn bool_value(&self) -> Option<bool> {
         match self {
             Front::Literal(token) => bool_of(token.text()),
@@ -117,8 +95,6 @@ impl<'a, A: Allocator> Front<'a, A> {
         }
     }
 
-    /// Returns the literal's span. The span of a negative number is from its minus to its number token if both are in
-    /// one file, and otherwise the span of the minus.
     pub fn span(&self) -> Span {
         match self {
             Front::Literal(token) => token.span(),
@@ -127,12 +103,6 @@ impl<'a, A: Allocator> Front<'a, A> {
         }
     }
 
-    /// Returns the literal as one new token. The text of a negative number's token is `-` followed by the number's
-    /// text.
-    ///
-    /// # Errors
-    ///
-    /// Returns `Memory` at the literal's span if an allocation fails.
     pub fn token<B: Allocator>(&self, alloc: B) -> Result<Literal<B>, Error<B>> {
         match self {
             Front::Literal(token) => Literal::clone(token, alloc),
@@ -142,7 +112,6 @@ impl<'a, A: Allocator> Front<'a, A> {
     }
 }
 
-/// Returns `true` if `input` begins with a valid literal of the kind `kind`. Nothing is consumed or allocated.
 pub fn begins_with_kind<A: Allocator>(input: &ParseBuffer<'_, A>, kind: Kind) -> bool {
     let mut ahead = input.fork();
     match Front::take(&mut ahead) {
@@ -151,16 +120,6 @@ pub fn begins_with_kind<A: Allocator>(input: &ParseBuffer<'_, A>, kind: Kind) ->
     }
 }
 
-/// Consumes the literal at the start of `input`, which must be valid and of the kind `kind`. Returns the literal as one
-/// new token, and its parse result.
-///
-/// # Errors
-///
-/// Returns `Expected(word)` if `input` doesn't begin with a literal of the kind `kind`, or `EndOfInput(word)` if all
-/// token trees have been consumed. In this case a literal of another kind is consumed, and otherwise the buffer is
-/// unchanged.
-///
-/// Returns `Memory` at the literal if an allocation fails. The buffer is unchanged then.
 pub fn take_literal_of_kind<A: Allocator>(
     alloc: A,
     input: &mut ParseBuffer<'_, A>,

@@ -6,8 +6,6 @@ use crate::rl_cursors::{Segment, Segments};
 use crate::rl_tokens::Span;
 use crate::rattle_std::alloc::{AllocError, Allocator};
 
-/// Appends a span to `spans` for each byte that `segment`, a part of a quoted literal, decodes to: the range in the
-/// file of the text from which the byte comes. The literal's text begins at the first byte of `base`.
 fn push_spans<A: Allocator>(
     spans: &mut Vec<Span, A>,
     base: Span,
@@ -23,17 +21,6 @@ fn push_spans<A: Allocator>(
     Ok(())
 }
 
-/// Returns a table with a span for each byte of a quoted literal's decoded value, from the next segment of `segments`
-/// on. A byte's span is the range in the file of the character or escape from which the byte comes. The table has one
-/// more span at the end, which is empty and at the closing quote.
-///
-/// `base` is the literal's span: the literal's text begins at its first byte and ends at its last one. The function walks over
-/// the segments once. [`text_offset`](Segments::text_offset) and [`text_offset_after`](Segments::text_offset_after) return the
-/// same offsets for one byte at a time.
-///
-/// # Errors
-///
-/// Returns an error if an allocation fails.
 pub fn value_byte_spans<A: Allocator>(
     alloc: A,
     mut segments: Segments<'_>,

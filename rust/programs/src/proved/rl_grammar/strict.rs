@@ -5,12 +5,6 @@
 use crate::rl_strict::LineEnds;
 pub use crate::rl_strict::{Number, Reading, read};
 
-/// Returns `true` if `text` is a literal token of the strict grammar, which is that of the Rust Reference. The token
-/// may be of any kind and have any suffix: `0xFF_u8` is a literal token, and `-1`, `1e` and `r"a"b"` aren't. Nothing is
-/// allocated.
-///
-/// Every literal token of the strict grammar is also a literal of the lenient grammar, which is that of `syn`, except
-/// for integers above 128 bits: the strict grammar has no limit for integers. The lenient grammar accepts more texts.
 pub fn is_token(text: &str) -> bool {
     read(text, LineEnds::Text, false).is_ok()
 }

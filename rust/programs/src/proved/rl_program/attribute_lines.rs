@@ -7,7 +7,6 @@ use crate::rl_program::lit_line::push_literal_line;
 use crate::rl_program::program_error::ProgramError;
 use crate::rattle_std::alloc::{AllocError, Allocator};
 
-/// Appends the output line of an attribute: its name, a space, and the output line of its literal.
 fn push_entry<A: Allocator + Copy>(
     alloc: A,
     out: &mut String<A>,
@@ -18,11 +17,6 @@ fn push_entry<A: Allocator + Copy>(
     push_literal_line(alloc, out, &entry.value)
 }
 
-/// Returns the output lines of attributes, in order. Each has the attribute's name, a space, and the output line of its literal.
-///
-/// # Errors
-///
-/// Returns an error if an allocation fails.
 pub fn entry_lines<A: Allocator + Copy>(
     alloc: A,
     entries: &[Entry<A>],
@@ -34,7 +28,6 @@ pub fn entry_lines<A: Allocator + Copy>(
     Ok(lines)
 }
 
-/// Parses a text as attributes, and returns their output lines.
 pub fn attribute_lines<A: Allocator + Copy>(
     alloc: A,
     text: &str,

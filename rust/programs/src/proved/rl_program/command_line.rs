@@ -10,10 +10,8 @@ use crate::rl_program::streams::write_whole;
 use crate::rattle_std::alloc::Allocator;
 use crate::rattle_std::io::{Read, Write};
 
-/// The line that explains the usage of `rl_tool`.
 const USAGE: &str = "usage: rl_tool text|read|attr";
 
-/// The output of `rl_tool --help`.
 const HELP: &str = "usage: rl_tool text|read|attr
 Prints the literals that standard input holds.
 
@@ -37,20 +35,16 @@ Examples:
   printf '0x1F_u8 \"a\\\\n\"' | rl_tool read
 ";
 
-/// The output of `rl_tool --version`.
 const VERSION: &str = "rl_tool 0.2.0\n";
 
-/// Whether an argument is `--help` or `-h`.
 fn requests_help(word: &str) -> bool {
     word == "--help" || word == "-h"
 }
 
-/// Whether an argument is `--version` or `-V`.
 fn requests_version(word: &str) -> bool {
     word == "--version" || word == "-V"
 }
 
-/// Returns the text that an argument requests, the help or the version, or `None` for another argument.
 fn text_of_word(word: &str) -> Option<&'static str> {
     if requests_help(word) {
         return Some(HELP);
@@ -61,7 +55,6 @@ fn text_of_word(word: &str) -> Option<&'static str> {
     None
 }
 
-/// Returns the text that the program's arguments request, the help or the version, or `None` for other arguments.
 fn requested_text<A: Allocator>(args: &[String<A>]) -> Option<&'static str> {
     match args {
         [_, word] => text_of_word(word.as_str()),
@@ -69,7 +62,6 @@ fn requested_text<A: Allocator>(args: &[String<A>]) -> Option<&'static str> {
     }
 }
 
-/// Writes a text to the output, and returns the result of the call.
 fn show_text<A: Allocator, W: Write>(out: &mut W, text: &str) -> Ending<ProgramError<A>> {
     match write_whole(out, text.as_bytes()) {
         Ok(()) => Ending::Done,
@@ -77,10 +69,6 @@ fn show_text<A: Allocator, W: Write>(out: &mut W, text: &str) -> Ending<ProgramE
     }
 }
 
-/// Runs `rl_tool` with the arguments `args`, and returns the result of the call. The first argument is the program's name.
-///
-/// The second argument is a command for [`run`], or `--help` or `--version`, which write a text. Other arguments have the usage as
-/// their result.
 pub fn run_with_arguments<A: Allocator + Copy, R: Read, W: Write>(
     alloc: A,
     args: &[String<A>],

@@ -4,30 +4,22 @@
 use crate::rattle_std::prelude::{Vec};
 use crate::rattle_std::alloc::{AllocError, Allocator};
 
-/// Returns the value of a hexadecimal digit, or `None` for another byte.
 fn digit(byte: u8) -> Option<u32> {
     char::from(byte).to_digit(16)
 }
 
-/// Returns the byte that two hexadecimal digits encode, or `None` if one isn't a digit.
 fn byte_of(high: u8, low: u8) -> Option<u8> {
     let high = digit(high)?;
     let low = digit(low)?;
     u8::try_from(16 * high + low).ok()
 }
 
-/// Returns the first two bytes and the bytes after them, or `None` if there are fewer than two.
 fn split_pair(bytes: &[u8]) -> Option<(u8, u8, &[u8])> {
     let (first, rest) = bytes.split_first()?;
     let (second, rest) = rest.split_first()?;
     Some((*first, *second, rest))
 }
 
-/// Decodes pairs of hexadecimal digits, or returns `None` if the text contains anything else.
-///
-/// # Errors
-///
-/// Returns an error if an allocation fails. The error is the standard library's and has no position.
 pub fn decode_hex<A: Allocator>(alloc: A, digits: &[u8]) -> Result<Option<Vec<u8, A>>, AllocError> {
     let mut bytes = Vec::new(alloc);
     let mut rest = digits;

@@ -8,8 +8,6 @@ use crate::rl_lenient::Found;
 use crate::rl_tokens::{CString, Error, Kind, Literal};
 use crate::rattle_std::alloc::{AllocError, Allocator};
 
-/// Appends the output line of `text`, a literal of the kind `kind`. `shown` is its value as the line has it, and `suffix` its
-/// suffix.
 fn push_shown<A: Allocator>(
     out: &mut String<A>,
     kind: Kind,
@@ -20,8 +18,6 @@ fn push_shown<A: Allocator>(
     push_line_of_kind(out, kind, shown, suffix)
 }
 
-/// Appends the output line of `text`, a literal of the kind `kind`. `written` is its value as a literal, or the failed allocation
-/// that is returned. `suffix` is its suffix.
 fn push_written<A: Allocator>(
     out: &mut String<A>,
     kind: Kind,
@@ -35,9 +31,6 @@ fn push_written<A: Allocator>(
     }
 }
 
-/// Appends the output line of the string literal `text`, from its parse result `found`.
-///
-/// The value is copied only if it differs from the text between the quotes.
 fn push_string<A: Allocator>(
     alloc: A,
     out: &mut String<A>,
@@ -55,9 +48,6 @@ fn push_string<A: Allocator>(
     }
 }
 
-/// Returns the value of the byte string literal `text` as a newly written literal. `found` is the parse result of `text`.
-///
-/// The value is copied only if it differs from the text between the quotes.
 fn written_byte_string<A: Allocator + Copy>(
     alloc: A,
     text: &str,
@@ -71,7 +61,6 @@ fn written_byte_string<A: Allocator + Copy>(
     Literal::byte_string(alloc, value.as_slice())
 }
 
-/// Returns the value of the C string literal `text` as a newly written literal. `found` is the parse result of `text`.
 fn written_c_string<A: Allocator + Copy>(
     alloc: A,
     text: &str,
@@ -81,9 +70,6 @@ fn written_c_string<A: Allocator + Copy>(
     Literal::c_string(alloc, &CString::new(value).unwrap())
 }
 
-/// Appends the output line of the number `text`, from its parse result `found`.
-///
-/// The digits are copied only if they differ from the text before the suffix.
 fn push_number<A: Allocator>(
     alloc: A,
     out: &mut String<A>,
@@ -100,12 +86,10 @@ fn push_number<A: Allocator>(
     }
 }
 
-/// Returns `true` or `false` as text.
 pub fn bool_word(value: bool) -> &'static str {
     if value { "true" } else { "false" }
 }
 
-/// Appends the output line of the literal `text`, from its parse result `found`. `suffix` is the literal's suffix.
 fn push_read<A: Allocator + Copy>(
     alloc: A,
     out: &mut String<A>,
@@ -136,13 +120,6 @@ fn push_read<A: Allocator + Copy>(
     }
 }
 
-/// Appends the output line of `text`, which is a literal or an invalid literal.
-///
-/// `found` is the parse result that `parse_literal` of `rl_grammar` returns for `text`, or `None` for an invalid literal.
-///
-/// # Errors
-///
-/// Returns an error if an allocation fails. The error is the standard library's. A part of the line may have been appended then.
 pub fn push_found_line<A: Allocator + Copy>(
     alloc: A,
     out: &mut String<A>,

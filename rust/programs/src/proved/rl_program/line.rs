@@ -7,24 +7,20 @@ use crate::rl_tokens::ident::xid_ok;
 use crate::rl_tokens::{Kind, push_str_literal};
 use crate::rattle_std::alloc::{AllocError, Allocator};
 
-/// Appends a text to the output.
 #[inline(always)]
 pub(crate) fn push<A: Allocator>(out: &mut String<A>, piece: &str) -> Result<(), AllocError> {
     out.push_str(piece)?;
     Ok(())
 }
 
-/// Whether a byte represents itself in a string literal: it is printable ASCII, but not a quote or a backslash.
 fn is_bare(byte: u8) -> bool {
     byte >= b' ' && byte < 127 && byte != b'"' && byte != b'\\'
 }
 
-/// Returns `true` if all bytes represent themselves in a string literal: they are printable ASCII, without quotes and backslashes.
 pub fn need_no_escapes(bytes: &[u8]) -> bool {
     bytes.iter().all(|byte| is_bare(*byte))
 }
 
-/// Appends a literal's suffix that isn't empty: an identifier as written, any other suffix as a string literal.
 fn push_suffix<A: Allocator>(out: &mut String<A>, suffix: &str) -> Result<(), AllocError> {
     if xid_ok(suffix) {
         push(out, suffix)
@@ -33,7 +29,6 @@ fn push_suffix<A: Allocator>(out: &mut String<A>, suffix: &str) -> Result<(), Al
     }
 }
 
-/// Appends the end of an output line: a space, the literal's suffix or `-`, and a line end.
 fn push_end<A: Allocator>(out: &mut String<A>, suffix: &str) -> Result<(), AllocError> {
     if suffix.is_empty() {
         return push(out, " -\n");
@@ -43,7 +38,6 @@ fn push_end<A: Allocator>(out: &mut String<A>, suffix: &str) -> Result<(), Alloc
     push(out, "\n")
 }
 
-/// Appends an output line: the label `word`, the value `shown`, and the suffix.
 fn push_line<A: Allocator>(
     out: &mut String<A>,
     word: &str,
@@ -56,7 +50,6 @@ fn push_line<A: Allocator>(
     push_end(out, suffix)
 }
 
-/// Appends an output line: the label `word`, `text` as a string literal, and the suffix.
 fn push_quoted<A: Allocator>(
     out: &mut String<A>,
     word: &str,
@@ -69,7 +62,6 @@ fn push_quoted<A: Allocator>(
     push_end(out, suffix)
 }
 
-/// Returns the name of a kind of literals, as `ByteStr`.
 fn word(kind: Kind) -> &'static str {
     match kind {
         Kind::Str => "Str",
@@ -83,7 +75,6 @@ fn word(kind: Kind) -> &'static str {
     }
 }
 
-/// Returns the label that an output line begins with: the literal's kind, or `Verbatim` for a text without a kind.
 pub fn label_of(kind: Option<Kind>) -> &'static str {
     match kind {
         Some(kind) => word(kind),
@@ -91,11 +82,6 @@ pub fn label_of(kind: Option<Kind>) -> &'static str {
     }
 }
 
-/// Appends the output line of a literal of the kind `kind`. `shown` is its value as the line has it, and `suffix` its suffix.
-///
-/// # Errors
-///
-/// Returns an error if an allocation fails. The error is the standard library's. A part of the line may have been appended then.
 pub fn push_line_of_kind<A: Allocator>(
     out: &mut String<A>,
     kind: Kind,
@@ -105,9 +91,6 @@ pub fn push_line_of_kind<A: Allocator>(
     push_line(out, word(kind), shown, suffix)
 }
 
-/// Returns the value of the string literal `text` if the value can be copied from the text. The text must be two quotes
-/// with only printable ASCII between them, without quotes and backslashes, and must have no suffix. Returns `None` for
-/// any other text.
 #[inline(always)]
 pub fn unescaped_value(text: &str) -> Option<&str> {
     let value = strip_byte(text, b'"')?.strip_suffix("\"")?;
@@ -118,16 +101,10 @@ pub fn unescaped_value(text: &str) -> Option<&str> {
     }
 }
 
-/// The start of the output line of a string literal. `END` is the end of that line if the literal has no suffix.
 const FRONT: &str = "Str \"";
 
 const END: &str = "\" -\n";
 
-/// Appends the output line of a string literal without a suffix, for a value that [`unescaped_value`] returned.
-///
-/// # Errors
-///
-/// Returns an error if an allocation fails. The error is the standard library's. A part of the line may have been appended then.
 #[inline(never)]
 pub fn push_unescaped_line<A: Allocator>(out: &mut String<A>, value: &str) -> Result<(), AllocError> {
     push(out, FRONT)?;
@@ -135,8 +112,6 @@ pub fn push_unescaped_line<A: Allocator>(out: &mut String<A>, value: &str) -> Re
     push(out, END)
 }
 
-/// Appends the output line of a string literal with the value `value`. A value of printable ASCII without quotes and backslashes is
-/// copied at once.
 pub(crate) fn push_text<A: Allocator>(
     out: &mut String<A>,
     value: &str,
@@ -148,11 +123,6 @@ pub(crate) fn push_text<A: Allocator>(
     push_quoted(out, word(Kind::Str), value, suffix)
 }
 
-/// Appends the output line of a text that isn't a literal.
-///
-/// # Errors
-///
-/// Returns an error if an allocation fails. The error is the standard library's. A part of the line may have been appended then.
 pub fn push_verbatim_line<A: Allocator>(out: &mut String<A>, text: &str) -> Result<(), AllocError> {
     push_quoted(out, "Verbatim", text, "")
 }

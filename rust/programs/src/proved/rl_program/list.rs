@@ -7,8 +7,6 @@ use crate::rl_program::program_error::ProgramError;
 use crate::rust_literals::{Lit, Literals};
 use crate::rattle_std::alloc::Allocator;
 
-/// Returns `lines` with the output line of the literal appended. Returns `None` if the allocation for it fails, or if `lines` is
-/// `None`.
 fn with_line<A: Allocator + Copy>(
     alloc: A,
     lines: Option<String<A>>,
@@ -16,8 +14,6 @@ fn with_line<A: Allocator + Copy>(
 ) -> Option<String<A>> {
     let mut longer = lines?;
     let pushed = push_literal_line(alloc, &mut longer, &literal);
-    // The literal is dropped by a function call, because dropping it in place would double the number of steps to
-    // prove.
     drop(literal);
     match pushed {
         Ok(()) => Some(longer),
@@ -25,7 +21,6 @@ fn with_line<A: Allocator + Copy>(
     }
 }
 
-/// Parses a text as a list of literals, and returns their output lines.
 pub fn literal_lines<A: Allocator + Copy>(
     alloc: A,
     text: &str,

@@ -9,7 +9,6 @@ use crate::rl_tokens::Kind;
 use crate::rust_literals::Lit;
 use crate::rattle_std::alloc::{AllocError, Allocator};
 
-/// Appends the output line of a quoted literal, from the parse result that it stores.
 fn push_quoted_literal<K: QuotedKind, A: Allocator + Copy>(
     alloc: A,
     out: &mut String<A>,
@@ -18,11 +17,6 @@ fn push_quoted_literal<K: QuotedKind, A: Allocator + Copy>(
     push_found_line(alloc, out, literal.text(), Some(literal.found()))
 }
 
-/// Appends the output line of a literal.
-///
-/// # Errors
-///
-/// Returns an error if an allocation fails. The error is the standard library's. A part of the line may have been appended then.
 pub fn push_literal_line<A: Allocator + Copy>(
     alloc: A,
     out: &mut String<A>,
@@ -51,11 +45,6 @@ pub fn push_literal_line<A: Allocator + Copy>(
     }
 }
 
-/// Returns the output line of a literal: its kind, its value as a newly written literal, and its suffix, with an LF at the end.
-///
-/// # Errors
-///
-/// Returns an error if an allocation fails. The error is the standard library's and has no position.
 pub fn output_line<A: Allocator + Copy>(alloc: A, literal: &Lit<A>) -> Result<String<A>, AllocError> {
     let mut line = String::new(alloc);
     push_literal_line(alloc, &mut line, literal)?;

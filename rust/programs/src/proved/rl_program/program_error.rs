@@ -7,22 +7,15 @@ use crate::rl_tokens::Error;
 use crate::rattle_std::alloc::{AllocError, Allocator, Global};
 use crate::rattle_std::fmt;
 
-/// The reason why a program's run failed.
 #[derive(Debug)]
 pub enum ProgramError<A: Allocator = Global> {
-    /// A call of the reader failed, or the input has no end.
     Read,
-    /// A call of the writer failed, or wrote no byte.
     Write,
-    /// The input isn't UTF-8.
     NotText,
-    /// An allocation failed, but not for a literal.
     Memory,
-    /// The text of a literal was rejected. The field is the error, with its position.
     Literal(Error<A>),
 }
 
-/// Defines the program's exit status: 2 if reading or writing failed, else 1.
 impl<A: Allocator> RunError for ProgramError<A> {
     fn status(&self) -> u8 {
         match self {
@@ -32,14 +25,12 @@ impl<A: Allocator> RunError for ProgramError<A> {
     }
 }
 
-/// Converts a failed allocation to `Memory`.
 impl<A: Allocator> From<AllocError> for ProgramError<A> {
     fn from(_: AllocError) -> Self {
         Self::Memory
     }
 }
 
-/// Writes the line by which a program reports the error. Positions are in bytes.
 impl<A: Allocator> fmt::Display for ProgramError<A> {
     fn fmt(&self, f: &mut fmt::Formatter<'_>) -> fmt::Result {
         match self {

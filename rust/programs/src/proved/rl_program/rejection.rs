@@ -5,7 +5,6 @@ use crate::rl_tokens::Error;
 use crate::rattle_std::alloc::{Allocator, Global};
 use crate::rattle_std::fmt;
 
-/// A borrowed error that is displayed as the programs report it, with its position in bytes and its message.
 pub struct Rejection<'a, A: Allocator = Global>(pub &'a Error<A>);
 
 impl<A: Allocator> fmt::Display for Rejection<'_, A> {

@@ -13,7 +13,6 @@ use crate::rust_literals::Lit;
 use crate::rattle_std::alloc::Allocator;
 use crate::rattle_std::io::{Read, Write};
 
-/// Returns the whole input as one token. The bytes of the input are dropped.
 fn token_of<A: Allocator + Copy>(alloc: A, bytes: Vec<u8, A>) -> Result<Literal<A>, ProgramError<A>> {
     let text = text_of(bytes.as_slice())?;
     let span = Span::new(0, 0, text.len());
@@ -23,7 +22,6 @@ fn token_of<A: Allocator + Copy>(alloc: A, bytes: Vec<u8, A>) -> Result<Literal<
     }
 }
 
-/// Parses a token as a literal. A failed allocation is an error of the literal.
 fn literal_of<A: Allocator + Copy>(alloc: A, token: Literal<A>) -> Result<Lit<A>, ProgramError<A>> {
     match Lit::new(alloc, token) {
         Ok(literal) => Ok(literal),
@@ -31,7 +29,6 @@ fn literal_of<A: Allocator + Copy>(alloc: A, token: Literal<A>) -> Result<Lit<A>
     }
 }
 
-/// Parses the whole input as one literal, and returns its output line.
 fn literal_line<A: Allocator + Copy>(
     alloc: A,
     bytes: Vec<u8, A>,
@@ -42,7 +39,6 @@ fn literal_line<A: Allocator + Copy>(
     Ok(line)
 }
 
-/// Parses the whole input as the command requests, and returns its output lines.
 fn lines_of_input<A: Allocator + Copy>(
     alloc: A,
     command: Command,
@@ -55,16 +51,6 @@ fn lines_of_input<A: Allocator + Copy>(
     }
 }
 
-/// Reads the whole input, and writes the output lines of its literals or attributes.
-///
-/// All lines are formatted before the first one is written, so that nothing is written if the input has an error. After a failed
-/// write, a beginning of the lines has been written.
-///
-/// # Errors
-///
-/// Returns `NotText` if the whole input was read and isn't UTF-8. Returns `Literal` with the error of `Lit::new`, `read_all` or
-/// `attr::read`. Returns `Memory` if another allocation fails. Returns `Read` or `Write` if a call of the reader or the writer
-/// fails. `Read` is also the error if the input hasn't ended after 4,294,967,295 reads.
 pub fn run<A: Allocator + Copy, R: Read, W: Write>(
     alloc: A,
     command: Command,

@@ -6,22 +6,12 @@ use crate::rl_program::program_error::ProgramError;
 use crate::rattle_std::alloc::Allocator;
 use crate::rattle_std::io::{ErrorKind, Read, Write};
 
-/// The number of bytes that one call of the reader requests.
 const TURN: usize = 8192;
 
-/// The maximum number of calls of the reader.
 const TURNS: u32 = u32::MAX;
 
 const _: () = prove!(TURNS == 4_294_967_295);
 
-/// Returns all bytes of the input.
-///
-/// The reader is called at most 4,294,967,295 times.
-///
-/// # Errors
-///
-/// Returns `Read` if a call of the reader fails with any error, or if the last allowed call still returns bytes. Returns `Memory`
-/// if an allocation fails.
 pub fn read_whole<A: Allocator, R: Read>(
     alloc: A,
     input: &mut R,
@@ -42,11 +32,6 @@ pub fn read_whole<A: Allocator, R: Read>(
     Err(ProgramError::Read)
 }
 
-/// Returns the bytes as text.
-///
-/// # Errors
-///
-/// Returns `NotText` if the bytes aren't UTF-8.
 pub fn text_of<A: Allocator>(bytes: &[u8]) -> Result<&str, ProgramError<A>> {
     match crate::rattle_std::str::from_utf8(bytes) {
         Ok(text) => Ok(text),
@@ -54,16 +39,12 @@ pub fn text_of<A: Allocator>(bytes: &[u8]) -> Result<&str, ProgramError<A>> {
     }
 }
 
-/// The reason why bytes couldn't be written.
 #[derive(Clone, Copy, PartialEq, Eq, Debug)]
 pub enum WriteError {
-    /// The reader at the other end of the pipe is closed.
     Closed,
-    /// A call of the writer failed, or wrote no byte.
     Failed,
 }
 
-/// Returns the error for a failed call of the writer.
 fn write_error(kind: ErrorKind) -> WriteError {
     match kind {
         ErrorKind::BrokenPipe => WriteError::Closed,
@@ -71,11 +52,6 @@ fn write_error(kind: ErrorKind) -> WriteError {
     }
 }
 
-/// Writes all bytes to `out`.
-///
-/// # Errors
-///
-/// Returns an error if a call of the writer fails or writes no byte. A beginning of the bytes may have been written then.
 pub fn write_bytes<W: Write>(out: &mut W, bytes: &[u8]) -> Result<(), WriteError> {
     let mut rest = bytes;
     while !rest.is_empty() {
@@ -88,12 +64,6 @@ pub fn write_bytes<W: Write>(out: &mut W, bytes: &[u8]) -> Result<(), WriteError
     Ok(())
 }
 
-/// Writes all bytes to `out`. On a failure the error is the variant `Write` of `ProgramError`.
-///
-/// # Errors
-///
-/// Returns `Write` if a call of the writer fails or writes no byte. A beginning of the bytes may have been written
-/// then.
 pub fn write_whole<A: Allocator, W: Write>(out: &mut W, bytes: &[u8]) -> Result<(), ProgramError<A>> {
     match write_bytes(out, bytes) {
         Ok(()) => Ok(()),

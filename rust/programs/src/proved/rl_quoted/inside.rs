@@ -9,18 +9,13 @@ use crate::rl_tokens::{
 };
 use crate::rattle_std::alloc::Allocator;
 
-/// The choice of the spans for the tokens of a string literal's decoded value.
 #[derive(Clone, Copy)]
 enum Placing {
-    /// Each token gets the span of the whole literal.
     AtLiteral,
-    /// Each token gets the span in the file from which it comes.
     InFile,
 }
 
 impl<A: Allocator> LitStr<A> {
-    /// Returns the span in the file for `span`, a range of the literal's decoded value, according to `placing`: the
-    /// literal's span, or the span from which the range comes.
     fn reported_at(&self, placing: Placing, span: Span) -> Span {
         match placing {
             Placing::AtLiteral => self.span(),
@@ -28,8 +23,6 @@ impl<A: Allocator> LitStr<A> {
         }
     }
 
-    /// Returns the span of the error `Unexpected` for the token trees of `left`, which a parser left over, according to
-    /// `placing`: the literal's span, or the span of the first of the token trees.
     fn leftover_span<B: Allocator>(&self, placing: Placing, left: &ParseBuffer<'_, B>) -> Span {
         match placing {
             Placing::AtLiteral => self.span(),
@@ -37,9 +30,6 @@ impl<A: Allocator> LitStr<A> {
         }
     }
 
-    /// Sets the span of each token tree of `stream`, which was lexed from the literal's decoded value, to the span in
-    /// the file from which the token tree comes. If the literal's span isn't as long as its text, each token tree gets
-    /// the literal's span.
     fn move_trees<B: Allocator>(
         &self,
         alloc: B,
@@ -59,8 +49,6 @@ impl<A: Allocator> LitStr<A> {
         }
     }
 
-    /// Sets the span of each token tree of `stream`, which was lexed from the literal's decoded value, according to
-    /// `placing`: to the literal's span, or to the span in the file from which the token tree comes.
     fn place_trees<B: Allocator>(
         &self,
         placing: Placing,
@@ -76,8 +64,6 @@ impl<A: Allocator> LitStr<A> {
         }
     }
 
-    /// Lexes the literal's decoded value into token trees, and returns these with their spans set according to
-    /// `placing`.
     fn trees_inside<B: Allocator + Copy>(
         &self,
         placing: Placing,
@@ -96,7 +82,6 @@ impl<A: Allocator> LitStr<A> {
         }
     }
 
-    /// Returns the error `Suffix` at the literal's span if the literal has a suffix.
     fn reject_suffix<B: Allocator>(&self, alloc: B) -> Result<(), Error<B>> {
         let suffix = self.suffix();
         if suffix.is_empty() {
@@ -112,8 +97,6 @@ impl<A: Allocator> LitStr<A> {
         }
     }
 
-    /// Runs `parser` on the token trees of the literal's decoded value, and returns its result. A token tree that the
-    /// parser leaves over is an error. The literal's suffix isn't checked.
     fn parse_whole<P: Parser<B>, B: Allocator + Copy>(
         &self,
         placing: Placing,
@@ -135,8 +118,6 @@ impl<A: Allocator> LitStr<A> {
         Ok(parsed)
     }
 
-    /// Runs `parser` on the token trees of the literal's decoded value, and returns its result. A token tree that the
-    /// parser leaves over is an error, and so is a suffix of the literal.
     fn parse_placed<P: Parser<B>, B: Allocator + Copy>(
         &self,
         placing: Placing,
@@ -151,16 +132,6 @@ impl<A: Allocator> LitStr<A> {
         Ok(parsed)
     }
 
-    /// Parses the literal's decoded value with `parser`.
-    ///
-    /// The decoded value is lexed into tokens. Each token gets the literal's span, also inside groups, and the parser
-    /// runs on the tokens with that span as scope.
-    ///
-    /// # Errors
-    ///
-    /// Returns the lexer's error as `Lex`. Otherwise returns the parser's own error. Otherwise returns `Unexpected` if
-    /// the parser leaves token trees over. Otherwise returns `Suffix` if the literal has a suffix. The parser
-    /// determines the span of its own error. All others, and an allocation failure, are at the literal's span.
     pub fn parse_with<P: Parser<B>, B: Allocator + Copy>(
         &self,
         alloc: B,
@@ -172,21 +143,6 @@ impl<A: Allocator> LitStr<A> {
         self.parse_placed(Placing::AtLiteral, alloc, parser)
     }
 
-    /// Parses the literal's decoded value with `parser`, and gives each token its span in the file. The spans take
-    /// account of escapes, line ends of two characters and escaped line ends before a token.
-    ///
-    /// The decoded value is lexed into tokens. Each token, also inside groups, gets the span of the bytes of the file
-    /// from which it comes ([`span_of`](LitStr::span_of)). The parser runs on the tokens with the literal's span as
-    /// scope. If the literal's span isn't as long as its text, the text isn't at that place in the file, and each token
-    /// gets the literal's span, as by [`parse_with`](LitStr::parse_with).
-    ///
-    /// # Errors
-    ///
-    /// Returns the lexer's error as `Lex`, at the position in the file from which the rejected text comes. Otherwise
-    /// returns the parser's own error. Otherwise returns `Unexpected` at the first token tree that the parser leaves
-    /// over. Otherwise returns `Suffix` at the literal's span if the literal has a suffix. An allocation failure is at
-    /// the literal's span. If memory is needed for a token while the decoded value is lexed, the failure is at the
-    /// position in the file from which the token comes.
     pub fn parse_in_file<P: Parser<B>, B: Allocator + Copy>(
         &self,
         alloc: B,
@@ -198,11 +154,6 @@ impl<A: Allocator> LitStr<A> {
         self.parse_placed(Placing::InFile, alloc, parser)
     }
 
-    /// Parses the literal's decoded value as a value of the type `T`, which implements [`Parse`].
-    ///
-    /// # Errors
-    ///
-    /// Returns the errors of [`parse_with`](LitStr::parse_with).
     pub fn parse<T: Parse<B> + Drop, B: Allocator + Copy>(&self, alloc: B) -> Result<T, Error<B>> {
         self.parse_with(alloc, ByParse::<T>::new())
     }

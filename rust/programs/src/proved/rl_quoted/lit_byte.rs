@@ -7,22 +7,15 @@ use crate::rl_syntax::Kind;
 use crate::rl_tokens::{Error, Literal, Span};
 use crate::rattle_std::alloc::{Allocator, Global};
 
-/// The type that represents the kind of bytes. It makes `LitByte` a type of its own among the quoted literals.
 pub struct ByteKind;
 
 impl QuotedKind for ByteKind {
     const KIND: Kind = Kind::Byte;
 }
 
-/// A byte literal: `b'a'`.
 pub type LitByte<A = Global> = Quoted<ByteKind, A>;
 
 impl<A: Allocator> LitByte<A> {
-    /// Creates the byte literal that represents the byte `value`, without a suffix, at the span `span`.
-    ///
-    /// # Errors
-    ///
-    /// Returns `Memory` at `span` if an allocation fails.
     pub fn new(alloc: A, value: u8, span: Span) -> Result<LitByte<A>, Error<A>> {
         match Literal::byte_character(alloc, value) {
             Ok(token) => Ok(Quoted::written(token, &[value], span)),
@@ -30,7 +23,6 @@ impl<A: Allocator> LitByte<A> {
         }
     }
 
-    /// Returns the byte that the byte literal represents. Nothing is allocated.
     pub fn value(&self) -> u8 {
         byte_of_body(self.single_body())
     }

@@ -7,22 +7,15 @@ use crate::rl_syntax::Kind;
 use crate::rl_tokens::{Error, Literal, Span};
 use crate::rattle_std::alloc::{Allocator, Global};
 
-/// The type that represents the kind of characters. It makes `LitChar` a type of its own among the quoted literals.
 pub struct CharKind;
 
 impl QuotedKind for CharKind {
     const KIND: Kind = Kind::Char;
 }
 
-/// A character literal: `'a'`.
 pub type LitChar<A = Global> = Quoted<CharKind, A>;
 
 impl<A: Allocator> LitChar<A> {
-    /// Creates the character literal that represents the character `value`, without a suffix, at the span `span`.
-    ///
-    /// # Errors
-    ///
-    /// Returns `Memory` at `span` if an allocation fails.
     pub fn new(alloc: A, value: char, span: Span) -> Result<LitChar<A>, Error<A>> {
         match Literal::character(alloc, value) {
             Ok(token) => Ok(Quoted::written(
@@ -34,7 +27,6 @@ impl<A: Allocator> LitChar<A> {
         }
     }
 
-    /// Returns the character that the character literal represents. Nothing is allocated.
     pub fn value(&self) -> char {
         char_of_body(self.single_body())
     }

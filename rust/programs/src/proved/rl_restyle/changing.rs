@@ -7,7 +7,6 @@ use crate::rl_restyle::texts::new_text;
 use crate::rl_style::{DigitGroups, Rule as StyleRule, Style};
 use crate::rattle_std::alloc::{AllocError, Allocator};
 
-/// Returns the rule of a style that a rule of a configuration sets, or sets a part of.
 fn style_rule(rule: Rule) -> StyleRule {
     match rule {
         Rule::HexDigits => StyleRule::HexDigits,
@@ -33,7 +32,6 @@ fn style_rule(rule: Rule) -> StyleRule {
     }
 }
 
-/// Returns the part of the digit groups that a rule sets: the group size of one base, with `min_digits`.
 fn own_groups(rule: Rule, groups: DigitGroups) -> DigitGroups {
     let none = DigitGroups {
         binary: 0,
@@ -63,7 +61,6 @@ fn own_groups(rule: Rule, groups: DigitGroups) -> DigitGroups {
     }
 }
 
-/// Returns the part of the digit groups that a rule sets, if the style has digit groups.
 fn groups_alone(rule: Rule, groups: Option<DigitGroups>) -> Option<DigitGroups> {
     match groups {
         Some(groups) => Some(own_groups(rule, groups)),
@@ -71,8 +68,6 @@ fn groups_alone(rule: Rule, groups: Option<DigitGroups>) -> Option<DigitGroups> 
     }
 }
 
-/// Returns the style that has the rule `rule` with its value in `style`, and no other rule. A rule for digit groups is combined
-/// with `min_digits`.
 fn rule_alone(style: Style, rule: Rule) -> Style {
     let only = style.only(style_rule(rule));
     Style {
@@ -81,7 +76,6 @@ fn rule_alone(style: Style, rule: Rule) -> Style {
     }
 }
 
-/// Whether the style sets a rule. For a rule for digit groups, this is the case if the style has any digit groups.
 fn is_set(style: Style, rule: Rule) -> bool {
     match rule {
         Rule::HexDigits => style.hex_digits.is_some(),
@@ -107,7 +101,6 @@ fn is_set(style: Style, rule: Rule) -> bool {
     }
 }
 
-/// Appends the rule if it alone changes the literal `text`, with its value in the style. `front` is the text before the literal.
 fn push_if_changing<A: Allocator + Copy>(
     alloc: A,
     rules: &mut Vec<Rule, A>,
@@ -127,14 +120,6 @@ fn push_if_changing<A: Allocator + Copy>(
     Ok(())
 }
 
-/// Returns the rules each of which alone changes the literal `text`, with its value in the style. The rules are in the order of
-/// [`settable_rules`]. `front` is the text before the literal.
-///
-/// A rule for digit groups is combined with `min_digits`, which changes nothing alone.
-///
-/// # Errors
-///
-/// Returns an error if an allocation fails.
 pub fn changing_rules<A: Allocator + Copy>(
     alloc: A,
     style: Style,

@@ -5,12 +5,10 @@ use crate::rl_restyle::slices::between;
 use crate::rl_strict::explain;
 use crate::rl_style::Restylable;
 
-/// Whether the byte is an ASCII letter, an ASCII digit, `_` or `#`.
 fn may_be_prefix(byte: u8) -> bool {
     byte.is_ascii_alphanumeric() || matches!(byte, b'_' | b'#')
 }
 
-/// Whether the last byte of the text may be part of a prefix that an edition of Rust reserves, as `f` in `f"x"`.
 fn ends_with_prefix(front: &str) -> bool {
     match front.as_bytes() {
         [.., last] => may_be_prefix(*last),
@@ -18,7 +16,6 @@ fn ends_with_prefix(front: &str) -> bool {
     }
 }
 
-/// Whether neither the literal nor a literal before it has an error. `before` is `true` if all literals before it are without errors.
 pub(crate) fn clean_after(before: bool, source: &str, literal: Restylable<'_>) -> bool {
     if !before {
         return false;

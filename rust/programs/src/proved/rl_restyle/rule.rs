@@ -3,55 +3,32 @@
 
 use crate::rl_restyle::style_error::Expected;
 
-/// The number of rules that a configuration can set.
 pub const RULES: usize = 20;
 
-/// A rule that a configuration can set: a rule of a style, or one part of its rule for digit groups.
 #[derive(Clone, Copy)]
 pub enum Rule {
-    /// The case of the digits of hexadecimal integers.
     HexDigits,
-    /// Drops the underscores in numbers.
     DropUnderscores,
-    /// Drops the leading zeros of decimal integers.
     DropLeadingZeros,
-    /// The separator between a number and its suffix.
     SuffixSeparator,
-    /// The group size of binary integers.
     BinaryGroups,
-    /// The group size of octal integers.
     OctalGroups,
-    /// The group size of decimal integers and floats.
     DecimalGroups,
-    /// The group size of hexadecimal integers.
     HexadecimalGroups,
-    /// The smallest number of digits that is divided into groups.
     MinDigits,
-    /// Writes a zero after a dot at the end of a float.
     FloatZero,
-    /// The case of the letter before the exponent of a float.
     ExponentLetter,
-    /// Drops the plus of the exponent of a float.
     DropExponentPlus,
-    /// The case of the hexadecimal digits of escapes.
     EscapeDigits,
-    /// Drops the leading zeros and the underscores in `\u{..}` escapes.
     FewestEscapeDigits,
-    /// Writes visible ASCII characters in place of their numeric escapes.
     DropAsciiEscapes,
-    /// Writes `\n`, `\r`, `\t` and `\0` in place of numeric escapes.
     NamedEscapes,
-    /// Drops the backslash before a quote that doesn't close the literal.
     DropQuoteEscapes,
-    /// Writes raw strings with the fewest hashes.
     FewestHashes,
-    /// Drops the `r` and the hashes of raw strings that contain no backslash and no quote.
     DropRaw,
-    /// Writes escapes in place of invisible and bidirectional characters.
     EscapeInvisible,
 }
 
-/// Returns all rules that a configuration can set, in the order of the variants of [`Rule`].
 pub fn settable_rules() -> &'static [Rule] {
     &[
         Rule::HexDigits,
@@ -78,7 +55,6 @@ pub fn settable_rules() -> &'static [Rule] {
 }
 
 impl Rule {
-    /// Returns the rule's name in configurations, for example `decimal_groups`.
     pub fn name(self) -> &'static str {
         match self {
             Rule::HexDigits => "hex_digits",
@@ -105,7 +81,6 @@ impl Rule {
     }
 }
 
-/// Returns the rule with the name `name`, or `None` if no rule has it.
 pub(crate) fn rule_of(name: &str) -> Option<Rule> {
     match name {
         "hex_digits" => Some(Rule::HexDigits),
@@ -132,7 +107,6 @@ pub(crate) fn rule_of(name: &str) -> Option<Rule> {
     }
 }
 
-/// Returns the index of a rule in the list of [`settable_rules`].
 pub fn number_of(rule: Rule) -> usize {
     match rule {
         Rule::HexDigits => 0,
@@ -158,7 +132,6 @@ pub fn number_of(rule: Rule) -> usize {
     }
 }
 
-/// Returns the values that a rule may have in a configuration.
 pub(crate) fn expected_of(rule: Rule) -> Expected {
     match rule {
         Rule::HexDigits | Rule::ExponentLetter | Rule::EscapeDigits => Expected::Case,

@@ -11,7 +11,6 @@ use crate::rl_cursors::{
 use crate::rl_lexer::Tokens;
 use crate::rl_style::{Case, Style};
 
-/// Creates an error of the kind `kind` whose range is the entry's name.
 fn at_name(kind: StyleErrorKind, name: DottedName<'_>) -> StyleError<'_> {
     StyleError {
         kind,
@@ -21,7 +20,6 @@ fn at_name(kind: StyleErrorKind, name: DottedName<'_>) -> StyleError<'_> {
     }
 }
 
-/// Returns the byte offset where a literal begins, including its minus.
 fn literal_start(literal: &NextLiteral<'_>) -> usize {
     match literal.minus_at {
         Some(at) => at,
@@ -29,8 +27,6 @@ fn literal_start(literal: &NextLiteral<'_>) -> usize {
     }
 }
 
-/// Sets the rule of a configuration entry. Returns the error if the name is unknown or repeated, or if the rule can't have the
-/// value.
 fn set_entry<'t>(values: &mut Values, entry: &NextEntry<'t>) -> Result<(), StyleError<'t>> {
     let Some(rule) = rule_of(entry.name.text) else {
         return Err(at_name(StyleErrorKind::Unknown, entry.name));
@@ -51,7 +47,6 @@ fn set_entry<'t>(values: &mut Values, entry: &NextEntry<'t>) -> Result<(), Style
     Ok(())
 }
 
-/// Whether an earlier entry has set the rule with the name `name`.
 fn is_set(values: &Values, name: &str) -> bool {
     match rule_of(name) {
         Some(rule) => values.get(rule).is_some(),
@@ -59,7 +54,6 @@ fn is_set(values: &Values, name: &str) -> bool {
     }
 }
 
-/// Returns the text of an entry's name, or `None` without a name.
 fn text_of(name: Option<DottedName<'_>>) -> Option<&str> {
     match name {
         Some(name) => Some(name.text),
@@ -67,8 +61,6 @@ fn text_of(name: Option<DottedName<'_>>) -> Option<&str> {
     }
 }
 
-/// Converts the error at the position of an entry. If the entry has a name that an earlier entry has, the repeated name is the
-/// error.
 fn rejection_error<'t>(values: &Values, rejection: EntryRejection<'t>) -> StyleError<'t> {
     if let Some(name) = rejection.name {
         if is_set(values, name.text) {
@@ -83,27 +75,6 @@ fn rejection_error<'t>(values: &Values, rejection: EntryRejection<'t>) -> StyleE
     }
 }
 
-/// Parses the configuration of a style.
-///
-/// A configuration is a list of entries `name = literal`, each on its own line or with a comma after it, as
-/// [`crate::rl_cursors::next_config_entry`] parses them. Each name is that of a rule, and occurs at most once. A rule without an entry
-/// changes nothing.
-///
-/// These are the names and values. A string's body must be exactly the given text, without escapes.
-///
-/// - `hex_digits`, `exponent_letter` and `escape_digits` are `"lower"` or `"upper"`.
-/// - `suffix_separator` is `""` or `"_"`.
-/// - `binary_groups`, `octal_groups`, `decimal_groups`, `hexadecimal_groups` and `min_digits` are integers.
-/// - `drop_underscores`, `drop_leading_zeros`, `float_zero`, `drop_exponent_plus`, `fewest_escape_digits`,
-///   `drop_ascii_escapes`, `named_escapes`, `drop_quote_escapes`, `fewest_hashes`, `drop_raw` and `escape_invisible` are `true`
-///   or `false`.
-///
-/// A caller removes a byte order mark at the text's start with [`crate::rl_lexer::without_byte_order_mark`].
-///
-/// # Errors
-///
-/// Returns the first error, from left to right: text that isn't an entry, a name that isn't a rule's, a repeated name, or a
-/// value that the rule can't have.
 pub fn parse_style(text: &str) -> Result<Style, StyleError<'_>> {
     let mut tokens = Tokens::new(text);
     let mut values = Values::new();
@@ -119,8 +90,6 @@ pub fn parse_style(text: &str) -> Result<Style, StyleError<'_>> {
     }
 }
 
-/// Returns the style that applies without a configuration. It drops needless backslashes before quotes and needless hashes of
-/// raw strings, and writes exponents with `e`.
 pub fn default_style() -> Style {
     Style {
         exponent_letter: Some(Case::Lower),

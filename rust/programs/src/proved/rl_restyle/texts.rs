@@ -9,7 +9,6 @@ use crate::rl_style::{Restylable, Style, rewrite_into};
 use crate::rl_syntax::Kind;
 use crate::rattle_std::alloc::{AllocError, Allocator};
 
-/// Returns the size in bytes of the buffer that [`rewrite_into`] needs for a literal with the text `text`.
 fn buffer_len(text: &str) -> Result<usize, AllocError> {
     let Some(most) = text.len().checked_mul(4) else {
         return Err(AllocError);
@@ -20,7 +19,6 @@ fn buffer_len(text: &str) -> Result<usize, AllocError> {
     }
 }
 
-/// Returns a copy of `new` if it differs from `old`, and `None` otherwise.
 fn other_text<A: Allocator>(alloc: A, old: &str, new: &str) -> Result<Option<String<A>>, AllocError> {
     if new == old {
         return Ok(None);
@@ -30,8 +28,6 @@ fn other_text<A: Allocator>(alloc: A, old: &str, new: &str) -> Result<Option<Str
     Ok(Some(made))
 }
 
-/// Returns the rewritten text of the literal `text` if it differs, and `None` otherwise. `front` is the text before the
-/// literal.
 pub(crate) fn new_text<A: Allocator + Copy>(
     alloc: A,
     style: Style,
@@ -49,8 +45,6 @@ pub(crate) fn new_text<A: Allocator + Copy>(
     }
 }
 
-/// Whether the position of `literal` allows rewriting: `literal` can't be a field, and isn't in a macro call that `macros`
-/// excludes.
 fn is_rewritable(macros: Macros, literal: Restylable<'_>) -> bool {
     match macros {
         Macros::Skip => !literal.is_field && !literal.in_macro,
@@ -58,7 +52,6 @@ fn is_rewritable(macros: Macros, literal: Restylable<'_>) -> bool {
     }
 }
 
-/// Returns the kind of the literal `text` by `syn`'s grammar, or `None` if this grammar doesn't accept `text`.
 fn kind_of(text: &str) -> Option<Kind> {
     match parse_literal(text) {
         Some(found) => Some(found.kind),
@@ -66,7 +59,6 @@ fn kind_of(text: &str) -> Option<Kind> {
     }
 }
 
-/// Whether the literal `text` is of one of the kinds. If `kinds` is `None`, the result is `true`.
 fn is_of_kinds(kinds: Option<&[Option<Kind>]>, text: &str) -> bool {
     match kinds {
         Some(kinds) => kinds.contains(&kind_of(text)),
@@ -74,12 +66,10 @@ fn is_of_kinds(kinds: Option<&[Option<Kind>]>, text: &str) -> bool {
     }
 }
 
-/// Whether `choice` selects the literal, by its position and its kind.
 fn is_chosen(choice: Choice<'_>, literal: Restylable<'_>) -> bool {
     is_rewritable(choice.macros, literal) && is_of_kinds(choice.kinds, literal.token.text)
 }
 
-/// Returns the new text of a literal of the source, or `None` if the literal is unchanged.
 pub(crate) fn text_of<A: Allocator + Copy>(
     alloc: A,
     style: Style,

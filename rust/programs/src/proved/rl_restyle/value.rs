@@ -6,7 +6,6 @@ use crate::rl_cursors::NextLiteral;
 use crate::rl_style::{Case, Separator};
 use crate::rl_syntax::Kind;
 
-/// The value of a rule in a configuration.
 #[derive(Clone, Copy)]
 pub(crate) enum Value {
     Truth(bool),
@@ -15,7 +14,6 @@ pub(crate) enum Value {
     SeparatorOf(Separator),
 }
 
-/// Returns the body of a string literal that has no suffix, or `None` for any other literal.
 fn word_of<'t>(literal: &NextLiteral<'t>) -> Option<&'t str> {
     if literal.minus_at.is_some() {
         return None;
@@ -29,7 +27,6 @@ fn word_of<'t>(literal: &NextLiteral<'t>) -> Option<&'t str> {
     }
 }
 
-/// Converts an integer literal that fits `usize`. Its suffix must be `usize` or empty.
 fn usize_of(literal: &NextLiteral<'_>) -> Option<Value> {
     if literal.minus_at.is_some() {
         return None;
@@ -45,7 +42,6 @@ fn usize_of(literal: &NextLiteral<'_>) -> Option<Value> {
     }
 }
 
-/// Converts the text `true` or `false` to a rule's value.
 fn bool_of(text: &str) -> Option<Value> {
     match text {
         "true" => Some(Value::Truth(true)),
@@ -54,7 +50,6 @@ fn bool_of(text: &str) -> Option<Value> {
     }
 }
 
-/// Returns the case that the text names: `lower` or `upper`.
 fn case_of(word: &str) -> Option<Value> {
     match word {
         "lower" => Some(Value::CaseOf(Case::Lower)),
@@ -63,7 +58,6 @@ fn case_of(word: &str) -> Option<Value> {
     }
 }
 
-/// Returns the separator that the text names: an empty text or `_`.
 fn separator_of(word: &str) -> Option<Value> {
     match word {
         "" => Some(Value::SeparatorOf(Separator::Nothing)),
@@ -72,7 +66,6 @@ fn separator_of(word: &str) -> Option<Value> {
     }
 }
 
-/// Converts a literal to the value of a rule, or returns `None` if it isn't one of the values `expected`.
 pub(crate) fn value_of(expected: Expected, literal: &NextLiteral<'_>) -> Option<Value> {
     match expected {
         Expected::Truth => bool_of(literal.token.text),

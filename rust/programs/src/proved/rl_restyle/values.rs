@@ -5,12 +5,10 @@ use crate::rl_restyle::rule::{RULES, Rule, number_of};
 use crate::rl_restyle::value::Value;
 use crate::rl_style::{Case, DigitGroups, Separator, Style};
 
-/// The rules' values: `None` for each rule that isn't set.
 pub(crate) struct Values {
     values: [Option<Value>; RULES],
 }
 
-/// Returns `groups`, the sizes of digit groups, or `None` if all of its numbers are 0.
 fn groups_if_any(groups: DigitGroups) -> Option<DigitGroups> {
     if groups.binary == 0
         && groups.octal == 0
@@ -25,24 +23,20 @@ fn groups_if_any(groups: DigitGroups) -> Option<DigitGroups> {
 }
 
 impl Values {
-    /// Creates the values of a style's rules, of which none is set.
     pub(crate) fn new() -> Values {
         Values {
             values: [None; RULES],
         }
     }
 
-    /// Returns the value of a rule, or `None` if the rule isn't set.
     pub(crate) fn get(&self, rule: Rule) -> Option<Value> {
         self.values[number_of(rule)]
     }
 
-    /// Sets the value of a rule.
     pub(crate) fn set(&mut self, rule: Rule, value: Value) {
         self.values[number_of(rule)] = Some(value);
     }
 
-    /// Returns whether the rule is set to `true`.
     fn truth(&self, rule: Rule) -> bool {
         match self.get(rule) {
             Some(Value::Truth(truth)) => truth,
@@ -50,7 +44,6 @@ impl Values {
         }
     }
 
-    /// Returns the number that the rule is set to, or 0.
     fn size(&self, rule: Rule) -> usize {
         match self.get(rule) {
             Some(Value::Size(size)) => size,
@@ -58,7 +51,6 @@ impl Values {
         }
     }
 
-    /// Returns the case that the rule is set to, or `None`.
     fn case(&self, rule: Rule) -> Option<Case> {
         match self.get(rule) {
             Some(Value::CaseOf(case)) => Some(case),
@@ -66,7 +58,6 @@ impl Values {
         }
     }
 
-    /// Returns the separator that the rule is set to, or `None`.
     fn separator(&self, rule: Rule) -> Option<Separator> {
         match self.get(rule) {
             Some(Value::SeparatorOf(separator)) => Some(separator),
@@ -74,7 +65,6 @@ impl Values {
         }
     }
 
-    /// Returns the sizes of digit groups, or `None` if no size and no `min_digits` above 0 is set.
     fn groups(&self) -> Option<DigitGroups> {
         groups_if_any(DigitGroups {
             binary: self.size(Rule::BinaryGroups),
@@ -85,7 +75,6 @@ impl Values {
         })
     }
 
-    /// Returns the style with the rules' values.
     pub(crate) fn style(&self) -> Style {
         Style {
             hex_digits: self.case(Rule::HexDigits),

@@ -11,20 +11,16 @@ use crate::rl_scan::options::{OPTIONS, OptionRow, Value, row_named};
 use crate::rl_files::visible_text;
 use crate::rattle_std::alloc::Allocator;
 
-/// The kinds of literals that `--find` searches.
 const TEXT_KINDS: [&str; 5] = ["Str", "ByteStr", "CStr", "Byte", "Char"];
 
-/// Whether a list of words, separated by commas, contains a word in any case.
 pub(crate) fn list_contains(list: &str, word: &str) -> bool {
     list.split(',').any(|part| part.eq_ignore_ascii_case(word))
 }
 
-/// Whether the path is that of standard input.
 pub(crate) fn is_input(path: &str) -> bool {
     path == "-" || path == "/dev/stdin"
 }
 
-/// Whether a text such as `skip or all` lists the word.
 fn lists(text: &str, word: &str, in_any_case: bool) -> bool {
     for part in text.split(' ') {
         let listed = part.strip_suffix(',').unwrap_or(part);
@@ -36,7 +32,6 @@ fn lists(text: &str, word: &str, in_any_case: bool) -> bool {
     false
 }
 
-/// Returns the number of lines in a value.
 pub(crate) fn number_in(value: &str) -> Option<usize> {
     if !value.as_bytes().iter().all(|b| b.is_ascii_digit()) {
         return None;
@@ -47,12 +42,10 @@ pub(crate) fn number_in(value: &str) -> Option<usize> {
     }
 }
 
-/// Returns the extension in a value of `--extension`, without its dot.
 pub(crate) fn extension_in(value: &str) -> &str {
     value.strip_prefix('.').unwrap_or(value)
 }
 
-/// Returns the part of a value that the option doesn't accept.
 fn wrong_part<'a>(row: &OptionRow, value: &'a str) -> Option<&'a str> {
     let is_right = match row.value {
         Value::Word(words) => lists(words, value, false),
@@ -67,7 +60,6 @@ fn wrong_part<'a>(row: &OptionRow, value: &'a str) -> Option<&'a str> {
     if is_right { None } else { Some(value) }
 }
 
-/// Checks a pattern of `--exclude`.
 fn check_pattern<A: Allocator + Copy>(alloc: A, pattern: &str) -> Result<(), Failure<A>> {
     let shown = visible_text(alloc, pattern)?;
     if pattern.starts_with('!') || pattern.contains('[') || pattern.contains('\\') {
@@ -87,7 +79,6 @@ fn check_pattern<A: Allocator + Copy>(alloc: A, pattern: &str) -> Result<(), Fai
     Ok(())
 }
 
-/// Checks that a value of `--rule` is a single rule.
 fn check_rule<A: Allocator + Copy>(alloc: A, rule: &str) -> Result<(), Failure<A>> {
     if rule.contains('\n') || rule.contains(',') {
         let shown = visible_text(alloc, rule)?;
@@ -125,7 +116,6 @@ pub(crate) fn check_value<A: Allocator + Copy>(
     }
 }
 
-/// Returns the first option without an effect in the mode.
 fn vain_option<A: Allocator + Copy>(args: &Args<'_, A>, mode: Mode) -> Option<OptionRow> {
     for row in &OPTIONS {
         let is_vain = mode != Mode::Page && !mode.is_among(row.modes) && args.has(row.name);
@@ -136,7 +126,6 @@ fn vain_option<A: Allocator + Copy>(args: &Args<'_, A>, mode: Mode) -> Option<Op
     None
 }
 
-/// Returns the contradiction between options of the whole command line.
 fn contradiction<A: Allocator + Copy>(args: &Args<'_, A>) -> Option<&'static str> {
     let searches_no_text = match args.last("--only") {
         Some(list) => !TEXT_KINDS.iter().any(|kind| list_contains(list, kind)),
@@ -161,7 +150,6 @@ fn contradiction<A: Allocator + Copy>(args: &Args<'_, A>) -> Option<&'static str
     None
 }
 
-/// Whether standard input is read as a source or as a list of paths.
 fn reads_input<A: Allocator + Copy>(args: &Args<'_, A>) -> bool {
     let mut is_read = args.paths.is_empty() && !args.has("--files-from");
     for path in args.paths.as_slice() {
@@ -173,7 +161,6 @@ fn reads_input<A: Allocator + Copy>(args: &Args<'_, A>) -> bool {
     is_read
 }
 
-/// Returns the contradiction between options that select a style and other arguments.
 fn style_contradiction<A: Allocator + Copy>(args: &Args<'_, A>) -> Option<&'static str> {
     let style = args.last("--style")?;
     if is_input(style) && reads_input(args) {
@@ -187,11 +174,6 @@ fn style_contradiction<A: Allocator + Copy>(args: &Args<'_, A>) -> Option<&'stat
     None
 }
 
-/// Checks the whole command line.
-///
-/// # Errors
-///
-/// Returns an error if options contradict each other, if an option has no effect in the mode, or if an allocation fails.
 pub(crate) fn check_command_line<A: Allocator + Copy>(
     alloc: A,
     args: &Args<'_, A>,

@@ -11,29 +11,22 @@ use crate::rl_scan::widths::width_of;
 use crate::rattle_std::alloc::{AllocError, Allocator};
 use crate::rattle_std::io::Write;
 
-/// The maximum length, in bytes, of a line that is printed.
 const LONGEST: usize = 1024;
 
-/// The numbers of lines that are printed before and after a line with findings.
 #[derive(Clone, Copy)]
 pub(crate) struct Around {
     pub before: usize,
     pub after: usize,
 }
 
-/// The lines of a source that are printed around its findings.
 pub(crate) struct Context<'p> {
     source: &'p str,
     around: Around,
-    /// The byte offset where the last line with a finding begins.
     line_at: usize,
-    /// The byte offset after the last printed line.
     end: usize,
-    /// The number of lines after it that are still to be printed.
     owed: usize,
 }
 
-/// Returns the line without its LF or CR LF.
 fn without_line_end(line: &str) -> &str {
     match line.strip_suffix('\n') {
         Some(line) => line.strip_suffix('\r').unwrap_or(line),
@@ -41,7 +34,6 @@ fn without_line_end(line: &str) -> &str {
     }
 }
 
-/// Appends a line, indented, or a note if it is too long.
 fn push_line<A: Allocator>(out: &mut String<A>, line: &str) -> Result<(), AllocError> {
     let shown = without_line_end(line);
     if shown.len() > LONGEST {
@@ -52,7 +44,6 @@ fn push_line<A: Allocator>(out: &mut String<A>, line: &str) -> Result<(), AllocE
     out.push('\n')
 }
 
-/// Prints the last `count` lines of a text.
 fn print_last_lines<A: Allocator + Copy, W: Write>(
     output: &mut Output<'_, A, W>,
     text: &str,
@@ -76,8 +67,6 @@ fn print_last_lines<A: Allocator + Copy, W: Write>(
     Ok(())
 }
 
-/// Appends a part of a line to `out`, and below each of its columns `mark` to `marks`. A tab stays a tab below text that isn't
-/// marked. Returns the description of the characters before the next part.
 fn push_marked<A: Allocator>(
     out: &mut String<A>,
     marks: &mut String<A>,
@@ -103,7 +92,6 @@ fn push_marked<A: Allocator>(
     Ok(last)
 }
 
-/// Appends a line, and carets below the part of it from `lo` to `hi`. `marks` is a buffer.
 fn push_marked_line<A: Allocator>(
     out: &mut String<A>,
     marks: &mut String<A>,
@@ -133,7 +121,6 @@ fn push_marked_line<A: Allocator>(
 }
 
 impl<'p> Context<'p> {
-    /// Creates the context of a source. `start` is the byte offset of its first line.
     pub(crate) fn new(source: &'p str, start: usize, around: Around) -> Context<'p> {
         Context {
             source,
@@ -144,7 +131,6 @@ impl<'p> Context<'p> {
         }
     }
 
-    /// Prints the lines that are still to be printed and end at the byte offset `end` or before it.
     pub(crate) fn print_owed<A: Allocator + Copy, W: Write>(
         &mut self,
         output: &mut Output<'_, A, W>,
@@ -166,7 +152,6 @@ impl<'p> Context<'p> {
         Ok(())
     }
 
-    /// Prints the lines after the last finding.
     pub(crate) fn print_end<A: Allocator + Copy, W: Write>(
         &mut self,
         output: &mut Output<'_, A, W>,
@@ -174,8 +159,6 @@ impl<'p> Context<'p> {
         self.print_owed(output, self.source.len())
     }
 
-    /// Prints the line with a finding, which begins at the byte offset `line_at`, and lines before it that aren't printed yet.
-    /// `marks` is a buffer.
     pub(crate) fn print_finding<A: Allocator + Copy, W: Write>(
         &mut self,
         output: &mut Output<'_, A, W>,

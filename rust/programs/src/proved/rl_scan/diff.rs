@@ -11,13 +11,11 @@ use crate::rl_syntax::lines::after_first_line_feed;
 use crate::rattle_std::alloc::{AllocError, Allocator};
 use crate::rattle_std::io::Write;
 
-/// Returns the text before `rest`, which is its end.
 fn up_to<'t>(text: &'t str, rest: &str) -> &'t str {
     text.get(..text.len().saturating_sub(rest.len()))
         .unwrap_or("")
 }
 
-/// Returns the first line of a text, with its LF if it has one, and the text after it.
 fn split_line(text: &str) -> (&str, &str) {
     match after_first_line_feed(text) {
         Some(rest) => (up_to(text, rest), rest),
@@ -25,7 +23,6 @@ fn split_line(text: &str) -> (&str, &str) {
     }
 }
 
-/// Appends a range of lines, as `3,2`. `at` is the number of the first line of `lines`.
 fn push_range<A: Allocator>(out: &mut String<A>, at: usize, lines: &str) -> Result<(), AllocError> {
     let count = lines.split_inclusive('\n').count();
     push_number(out, if count == 0 { at.saturating_sub(1) } else { at })?;
@@ -33,14 +30,12 @@ fn push_range<A: Allocator>(out: &mut String<A>, at: usize, lines: &str) -> Resu
     push_number(out, count)
 }
 
-/// Appends the head of a diff. A tab ends a path that contains a space.
 fn push_head<A: Allocator>(out: &mut String<A>, mark: &str, path: &str) -> Result<(), AllocError> {
     out.push_str(mark)?;
     push_visible(out, path)?;
     out.push_str(if path.contains(' ') { "\t\n" } else { "\n" })
 }
 
-/// Prints the lines of a text with a sign before each.
 fn print_lines<A: Allocator + Copy, W: Write>(
     output: &mut Output<'_, A, W>,
     sign: char,
@@ -57,7 +52,6 @@ fn print_lines<A: Allocator + Copy, W: Write>(
     Ok(())
 }
 
-/// Prints a hunk, unless no line is removed or added. `at` is the number of its first line.
 fn print_hunk<A: Allocator + Copy, W: Write>(
     output: &mut Output<'_, A, W>,
     at: usize,
@@ -76,7 +70,6 @@ fn print_hunk<A: Allocator + Copy, W: Write>(
     print_lines(output, '+', added)
 }
 
-/// Prints the diff of two texts, which are compared line by line.
 pub(crate) fn print_diff<A: Allocator + Copy, W: Write>(
     output: &mut Output<'_, A, W>,
     path: &str,

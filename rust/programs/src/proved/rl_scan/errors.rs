@@ -16,16 +16,12 @@ use crate::rl_syntax::text::split_char;
 use crate::rattle_std::alloc::Allocator;
 use crate::rattle_std::io::Write;
 
-/// The errors that `--bad` reports besides invalid literals.
 #[derive(Clone, Copy)]
 pub(crate) struct Checks {
-    /// Literals whose suffix or value has no type.
     pub types: bool,
-    /// Characters at which no token begins.
     pub strays: bool,
 }
 
-/// Returns the next token, or the next literal if only literals are needed.
 #[inline(always)]
 pub(crate) fn next_token<'t>(tokens: &mut Sources<'t>, all: bool) -> Option<SourceToken<'t>> {
     if all {
@@ -35,7 +31,6 @@ pub(crate) fn next_token<'t>(tokens: &mut Sources<'t>, all: bool) -> Option<Sour
     }
 }
 
-/// Reports an error that isn't in a literal. `piece` is the text to show.
 fn report_lex_error<A: Allocator + Copy, W: Write>(
     page: &mut Page<'_, '_, A, W>,
     kind: LexKind,
@@ -50,7 +45,6 @@ fn report_lex_error<A: Allocator + Copy, W: Write>(
     report_error(page, place, (id, kind.message()), piece, None)
 }
 
-/// Reports the error that ends a source.
 pub(crate) fn report_end<A: Allocator + Copy, W: Write>(
     page: &mut Page<'_, '_, A, W>,
     error: LexError,
@@ -59,7 +53,6 @@ pub(crate) fn report_end<A: Allocator + Copy, W: Write>(
     report_lex_error(page, error.kind, Place { lo, hi }, "")
 }
 
-/// Reports an error. `literal` is the text of the literal that contains it.
 fn report_error<A: Allocator + Copy, W: Write>(
     page: &mut Page<'_, '_, A, W>,
     place: Place,
@@ -79,13 +72,10 @@ fn report_error<A: Allocator + Copy, W: Write>(
     )
 }
 
-// ---- literals that Rust's grammar accepts
-
 fn is_of_word(c: char) -> bool {
     c.is_ascii_alphanumeric() || c == '_'
 }
 
-/// Whether a reserved prefix may end at the byte offset `at` of a source: after a word or a hash. Most literals follow neither.
 #[inline(always)]
 fn may_end_prefix(source: &str, at: usize) -> bool {
     match source.as_bytes().get(at.wrapping_sub(1)) {
@@ -94,7 +84,6 @@ fn may_end_prefix(source: &str, at: usize) -> bool {
     }
 }
 
-/// Returns the byte offset where the reserved prefix of a literal begins. `before` is the text before the literal.
 fn prefix_start(before: &str, text: &str) -> usize {
     let front = before.trim_end_matches('#');
     match first_reserving_edition(before, text) {
@@ -103,7 +92,6 @@ fn prefix_start(before: &str, text: &str) -> usize {
     }
 }
 
-/// Returns the reason why Rust has no type for a literal. `before` is the text before the literal.
 #[inline(always)]
 fn type_error_in(before: &str, text: &str, reading: &Reading) -> Option<TypeError> {
     let (kind, magnitude, suffix_at) = match reading {
@@ -120,7 +108,6 @@ fn type_error_in(before: &str, text: &str, reading: &Reading) -> Option<TypeErro
     type_error_of(kind, text, magnitude, suffix, may_be_negated(before))
 }
 
-/// Returns the range in a literal where an integer above 128 bits becomes too large: the character after its digits.
 fn large_place(text: &str, reading: &Reading) -> Option<Place> {
     match reading {
         Reading::Integer(None, at) if !is_float_by_suffix(text) => {
@@ -135,14 +122,12 @@ fn large_place(text: &str, reading: &Reading) -> Option<Place> {
     }
 }
 
-/// A second reader of a source, which says what is in macro calls. It only moves if a finding depends on that.
 struct Follower<'t> {
     tokens: Sources<'t>,
     calls: Calls<'t>,
 }
 
 impl<'t> Follower<'t> {
-    /// Whether the token at the byte offset `lo` is in a macro call. The offsets of later calls are greater.
     fn is_in_call_at(&mut self, lo: usize) -> bool {
         for _ in 0..u64::MAX {
             let Some(token) = self.tokens.next() else {
@@ -158,7 +143,6 @@ impl<'t> Follower<'t> {
     }
 }
 
-/// Reports that Rust has no type for a literal: its suffix is wrong, or its value is out of range.
 #[inline(always)]
 fn report_type<'t, A: Allocator + Copy, W: Write>(
     page: &mut Page<'_, '_, A, W>,
@@ -181,7 +165,6 @@ fn report_type<'t, A: Allocator + Copy, W: Write>(
     report_error(page, place, words, token.text, Some(token.text))
 }
 
-/// Reports the reserved prefix of a literal. Returns whether it has one.
 #[inline(always)]
 fn report_prefix<A: Allocator + Copy, W: Write>(
     page: &mut Page<'_, '_, A, W>,
@@ -198,8 +181,6 @@ fn report_prefix<A: Allocator + Copy, W: Write>(
     report_error(page, Place { lo, hi }, words, whole, Some(whole))?;
     Ok(true)
 }
-
-// ---- invalid literals
 
 fn report_flaw<A: Allocator + Copy, W: Write>(
     page: &mut Page<'_, '_, A, W>,
@@ -218,7 +199,6 @@ fn report_flaw<A: Allocator + Copy, W: Write>(
     report_error(page, place, words, piece, Some(text))
 }
 
-/// Reports all flaws of a literal: the first one, and those that the cursor returns.
 fn report_flaws<A: Allocator + Copy, W: Write>(
     page: &mut Page<'_, '_, A, W>,
     token: SourceToken<'_>,
@@ -237,14 +217,10 @@ fn report_flaws<A: Allocator + Copy, W: Write>(
     Ok(())
 }
 
-// ---- sources
-
-/// Whether the text may be several tokens before 2021: `c"a"` is an identifier and a string there, and `'r#a'` a lifetime and more.
 fn is_literal_since_2021(text: &str) -> bool {
     text.starts_with("c\"") || text.starts_with("cr") || text.starts_with("'r#")
 }
 
-/// Reports the errors of a literal.
 #[inline(always)]
 fn report_literal<'t, A: Allocator + Copy, W: Write>(
     page: &mut Page<'_, '_, A, W>,
@@ -269,7 +245,6 @@ fn report_literal<'t, A: Allocator + Copy, W: Write>(
     }
 }
 
-/// Reports the errors of a source.
 pub(crate) fn report_errors<A: Allocator + Copy, W: Write>(
     page: &mut Page<'_, '_, A, W>,
     checks: Checks,

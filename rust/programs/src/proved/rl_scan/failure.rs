@@ -6,24 +6,16 @@ use crate::rl_program::{RunError, WriteError};
 use crate::rattle_std::alloc::{AllocError, AllocFailed, Allocator, Global};
 use crate::rattle_std::fmt;
 
-/// The reason why a call of `rl_scan` ends early.
 pub enum Failure<A: Allocator = Global> {
-    /// There are no arguments, not even the program's name.
     NoArguments,
-    /// An allocation failed.
     Memory,
-    /// The walk entered too many directories.
     TooManyDirectories,
-    /// The reader of the output has closed it.
     Closed,
-    /// Writing the output failed.
     Write,
-    /// Any other error. The field is its line, without the program's name.
     Said(String<A>),
 }
 
 impl<A: Allocator> Failure<A> {
-    /// Creates the error with the line `words`.
     pub(crate) fn said(alloc: A, words: &str) -> Failure<A> {
         match String::from_str(alloc, words) {
             Ok(line) => Failure::Said(line),
@@ -67,7 +59,6 @@ impl<A: Allocator> fmt::Display for Failure<A> {
             Failure::TooManyDirectories => write!(f, "rl_scan: too many directories"),
             Failure::Closed | Failure::Write => write!(f, "rl_scan: write failed"),
             Failure::Said(line) => {
-                // A runner of GitHub would take a line with `##[` for a command.
                 let mut is_first = true;
                 for part in line.as_str().split("##[") {
                     let lead = if is_first { "rl_scan: " } else { "##\\u{5b}" };

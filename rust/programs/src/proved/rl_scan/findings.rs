@@ -13,7 +13,6 @@ use crate::rl_lexer::{LexError, LexKind, SourceForm, SourceToken, Sources};
 use crate::rattle_std::alloc::Allocator;
 use crate::rattle_std::io::Write;
 
-/// Reports a literal if the call lists it.
 fn report_literal<A: Allocator + Copy, W: Write>(
     page: &mut Page<'_, '_, A, W>,
     token: SourceToken<'_>,
@@ -34,7 +33,6 @@ fn report_literal<A: Allocator + Copy, W: Write>(
     page.report_finding(place, Finding::Literal(literal))
 }
 
-/// Reports the literals of a source. Returns the error that ends the source.
 fn report_literals<A: Allocator + Copy, W: Write>(
     page: &mut Page<'_, '_, A, W>,
 ) -> Result<Option<LexError>, Failure<A>> {
@@ -52,7 +50,6 @@ fn report_literals<A: Allocator + Copy, W: Write>(
     Ok(tokens.error())
 }
 
-/// Reports the findings of a source. Returns the error that ends the source, unless it is a finding.
 pub(crate) fn report_findings<A: Allocator + Copy, W: Write>(
     page: &mut Page<'_, '_, A, W>,
 ) -> Result<Option<LexError>, Failure<A>> {

@@ -1,7 +1,6 @@
 // Rendered from crates/rl_scan/src/generated.rt by tools/render, which erases contracts: change that file, and render again.
 //! The texts that `rl_scan --generate` prints. `tools/manual` writes this file.
 
-/// The manual page of `rl_scan`.
 const MAN: &str = r#".TH RL_SCAN 1 2026-12-01
 .SH NAME
 rl_scan \- prints the literals of Rust source files, or the errors in them
@@ -131,7 +130,6 @@ Print the version.
 .fi
 "#;
 
-/// The completions for bash.
 const BASH: &str = r#"_rl_scan() {
     local word=${COMP_WORDS[COMP_CWORD]} before=${COMP_WORDS[COMP_CWORD - 1]} at
     # bash cuts --option=word in three
@@ -162,7 +160,6 @@ const BASH: &str = r#"_rl_scan() {
 complete -o filenames -F _rl_scan rl_scan
 "#;
 
-/// The completions for zsh.
 const ZSH: &str = r"#compdef rl_scan
 _arguments -s -S \
     '--bad[print the literals that Rust rejects, and unclosed quotes and comments]' \
@@ -210,7 +207,6 @@ _arguments -s -S \
     '*:PATH:_files'
 ";
 
-/// The completions for fish.
 const FISH: &str =
     r#"complete -c rl_scan -l bad -d 'print the literals that Rust rejects, and unclosed quotes and comments'
 complete -c rl_scan -l invisible -d 'print invisible and bidirectional characters, anywhere in a file'
@@ -256,7 +252,6 @@ complete -c rl_scan -s h -l help -d 'print this help'
 complete -c rl_scan -s V -l version -d 'print the version'
 "#;
 
-/// The program for `jq` that makes SARIF of JSON objects.
 const SARIF_JQ: &str =
     r#"# Makes one document of SARIF 2.1.0 from the objects that `rl_scan --json` prints with `--bad`, `--invisible` or `--check`:
 #     rl_scan --generate sarif-jq > sarif.jq
@@ -288,7 +283,6 @@ map(select(has("files_with_findings") | not))
     {tool: {driver: (driver + {rules: rules})}, columnKind: "unicodeCodePoints", results: map(result)} + invocations]}
 "#;
 
-/// The problem matchers for GitHub.
 const PROBLEM_MATCHER: &str = r#"{
   "problemMatcher": [
     { "owner": "rl_scan-bad",
@@ -301,7 +295,6 @@ const PROBLEM_MATCHER: &str = r#"{
 }
 "#;
 
-/// Returns the text that `--generate` prints for the value `what`.
 pub(crate) fn generated_text(what: &str) -> &'static str {
     match what {
         "man" => MAN,

@@ -6,10 +6,8 @@ use crate::rl_files::path_text;
 use crate::rattle_std::alloc::AllocError;
 use crate::rattle_std::env::{Env, FillError};
 
-/// The length for which memory is allocated first.
 const USUAL_LEN: usize = 256;
 
-/// Returns the bytes of an argument, if it has at most `len` bytes. `at` is the argument's number.
 fn argument_within(
     rt: &HostRuntime,
     at: usize,
@@ -25,7 +23,6 @@ fn argument_within(
     }
 }
 
-/// Returns the bytes of the argument with the number `at`. After the last argument, the result is `None`.
 fn argument(rt: &HostRuntime, at: usize) -> Result<Option<Vec<u8>>, AllocError> {
     let mut len = USUAL_LEN;
     for _ in 0..64 {
@@ -38,12 +35,6 @@ fn argument(rt: &HostRuntime, at: usize) -> Result<Option<Vec<u8>>, AllocError> 
     Err(AllocError)
 }
 
-/// Returns the program's arguments, with the program's name first. An argument that isn't UTF-8 is represented as `path_text`
-/// represents it.
-///
-/// # Errors
-///
-/// Returns an error if an allocation fails.
 pub(crate) fn host_arguments(rt: &HostRuntime) -> Result<Vec<String>, AllocError> {
     let mut all = Vec::new(rt.alloc());
     for at in 0..usize::MAX {

@@ -17,7 +17,6 @@ use crate::rl_style::Style;
 use crate::rl_syntax::Kind;
 use crate::rattle_std::alloc::{AllocError, Allocator};
 
-/// The format of findings.
 #[derive(Clone, Copy)]
 pub(crate) enum Form {
     Text,
@@ -25,20 +24,14 @@ pub(crate) enum Form {
     Github,
 }
 
-/// The values of options that may be repeated.
 #[derive(Clone, Copy)]
 pub(crate) struct Lists<'a> {
-    /// The texts to search for.
     pub finds: &'a [&'a str],
-    /// The integers to search for.
     pub numbers: &'a [u128],
-    /// The identifiers of findings that don't count.
     pub allowed: &'a [&'a str],
-    /// The kinds of the literals that count if `--only` is passed. `None` is a literal without a value.
     pub kinds: &'a [Option<Kind>],
 }
 
-/// Owns the values of options that may be repeated.
 pub(crate) struct Values<'a, A: Allocator> {
     finds: Vec<&'a str, A>,
     numbers: Vec<u128, A>,
@@ -67,34 +60,24 @@ impl<'a, A: Allocator + Copy> Values<'a, A> {
     }
 }
 
-/// The work of a call of `rl_scan` on each file.
 #[derive(Clone, Copy)]
 pub(crate) struct Job<'a> {
     pub mode: Mode,
     pub lists: Lists<'a>,
-    /// Whether only literals of some kinds count.
     pub has_kinds: bool,
-    /// Whether any suffix and any value is accepted.
     pub any_suffix: bool,
-    /// Whether stray characters are errors.
     pub strays: bool,
-    /// Whether any suffix and any value is accepted in macro calls.
     pub follows: bool,
     pub edition: Edition,
-    /// Whether a search ignores the case of ASCII letters.
     pub ignores_case: bool,
     pub whole_words: bool,
-    /// Whether literals are printed as written.
     pub as_written: bool,
     pub form: Form,
     pub color: bool,
-    /// The numbers of lines around each finding, if its line is printed.
     pub around: Option<Around>,
     pub lines: bool,
     pub bytes: bool,
-    /// Whether columns are counted in bytes.
     pub byte_columns: bool,
-    /// Whether findings are printed.
     pub shows: bool,
     pub quiet: bool,
     pub counts: bool,
@@ -103,7 +86,6 @@ pub(crate) struct Job<'a> {
     pub lists_files: bool,
     pub messages: bool,
     pub stats: bool,
-    /// Whether a text may have been passed as a path.
     pub may_be_text: bool,
     pub style: Style,
     pub macros: Macros,
@@ -125,7 +107,6 @@ fn lines_of(value: Option<&str>, other: Option<usize>) -> Option<usize> {
     }
 }
 
-/// Returns the numbers of lines around findings that a call requests.
 fn around_of<A: Allocator + Copy>(args: &Args<'_, A>) -> Option<Around> {
     let both = lines_of(args.last("--context"), None);
     let before = lines_of(args.last("--before-context"), both);
@@ -138,7 +119,6 @@ fn around_of<A: Allocator + Copy>(args: &Args<'_, A>) -> Option<Around> {
 }
 
 impl<'a> Job<'a> {
-    /// Reads the options of a call.
     pub(crate) fn of<A: Allocator + Copy>(
         args: &Args<'_, A>,
         lists: Lists<'a>,
@@ -190,12 +170,10 @@ impl<'a> Job<'a> {
         }
     }
 
-    /// Whether literals are rewritten.
     pub(crate) fn rewrites(&self) -> bool {
         self.mode.is_among(REWRITING)
     }
 
-    /// Returns the choice of the literals that are rewritten.
     pub(crate) fn choice(&self) -> Choice<'a> {
         let kinds = self.lists.kinds;
         Choice {
@@ -204,12 +182,10 @@ impl<'a> Job<'a> {
         }
     }
 
-    /// Whether the positions in a file, or else in standard input, are lines and columns.
     pub(crate) fn shows_lines(&self, is_file: bool) -> bool {
         !self.bytes && (self.lines || is_file)
     }
 
-    /// Returns the column of a position, in characters or in bytes.
     pub(crate) fn column(&self, position: Position) -> usize {
         if self.byte_columns {
             position.byte_column()
@@ -218,7 +194,6 @@ impl<'a> Job<'a> {
         }
     }
 
-    /// Appends the code of a colour, if the output has colours.
     pub(crate) fn push_color<A: Allocator>(
         &self,
         out: &mut String<A>,
@@ -231,7 +206,6 @@ impl<'a> Job<'a> {
         }
     }
 
-    /// Whether a finding doesn't count.
     pub(crate) fn allows(&self, finding: &Finding<'_>) -> bool {
         let allowed = self.lists.allowed;
         if allowed.is_empty() {
@@ -246,12 +220,10 @@ impl<'a> Job<'a> {
         }
     }
 
-    /// Whether literals of a kind count.
     pub(crate) fn wants(&self, kind: Option<Kind>) -> bool {
         !self.has_kinds || self.lists.kinds.iter().any(|wanted| *wanted == kind)
     }
 
-    /// Returns the job for errors of a file, which are lines of text.
     pub(crate) fn for_errors(&self) -> Job<'a> {
         let mut job = *self;
         job.form = Form::Text;
@@ -261,7 +233,6 @@ impl<'a> Job<'a> {
         job
     }
 
-    /// Returns the exit status of a run without errors.
     pub(crate) fn status(&self, findings: u64) -> u8 {
         let fails = match self.mode {
             Mode::Bad | Mode::Invisible | Mode::Check | Mode::Diff => findings > 0,

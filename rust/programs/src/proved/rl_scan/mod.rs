@@ -47,7 +47,6 @@ use crate::rattle_std::os::unix::fs::FileTypeExt;
 use crate::rattle_std::process::ExitCode;
 use crate::rattle_std::{env, fs};
 
-/// Whether the environment variable NO_COLOR isn't empty. It requests that programs print no colours.
 fn forbids_colors(rt: &HostRuntime) -> bool {
     match env::var(rt, "NO_COLOR") {
         Ok(value) => !value.is_empty(),
@@ -55,7 +54,6 @@ fn forbids_colors(rt: &HostRuntime) -> bool {
     }
 }
 
-/// Whether the environment variable TERM is `dumb`, which is a terminal without colours.
 fn is_dumb(rt: &HostRuntime) -> bool {
     match env::var(rt, "TERM") {
         Ok(value) => value.as_str() == "dumb",
@@ -63,8 +61,6 @@ fn is_dumb(rt: &HostRuntime) -> bool {
     }
 }
 
-/// Whether standard input isn't a file, a pipe or a socket, but a terminal or another device, such as /dev/null. If the type of
-/// standard input is unknown, only a terminal counts.
 fn lacks_input(rt: &HostRuntime) -> bool {
     match fs::metadata(rt, "/dev/stdin") {
         Ok(about) => {

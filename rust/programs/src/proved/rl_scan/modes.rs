@@ -1,12 +1,9 @@
 // Rendered from crates/rl_scan/src/modes.rt by tools/render, which erases contracts: change that file, and render again.
 //! The modes of `rl_scan`, and the sets of modes in which options have an effect.
 
-/// The task of a call.
 #[derive(Clone, Copy, PartialEq, Eq, Debug)]
 pub(crate) enum Mode {
-    /// Prints a page, such as `--help`.
     Page,
-    /// Lists all literals: no option selects another mode.
     List,
     Only,
     Find,
@@ -17,7 +14,6 @@ pub(crate) enum Mode {
     Diff,
 }
 
-/// The options that select a mode. Of several passed options, the first row counts.
 #[rustfmt::skip]
 pub(crate) const SELECTING: [(&str, Mode); 12] = [
     ("--help", Mode::Page), ("--version", Mode::Page), ("--rules", Mode::Page), ("--generate", Mode::Page),
@@ -25,14 +21,12 @@ pub(crate) const SELECTING: [(&str, Mode); 12] = [
     ("--invisible", Mode::Invisible), ("--find", Mode::Find), ("--number", Mode::Find), ("--only", Mode::Only),
 ];
 
-/// A set of modes, and the message's end that names them to a user who passed an option without an effect.
 #[derive(Clone, Copy)]
 pub(crate) struct Modes {
     members: &'static [Mode],
     pub hint: &'static str,
 }
 
-/// The modes in which an option for all modes has an effect.
 #[rustfmt::skip]
 pub(crate) const ALL: Modes = Modes {
     members: &[Mode::List, Mode::Only, Mode::Find, Mode::Bad, Mode::Invisible, Mode::Fix, Mode::Check, Mode::Diff],
@@ -48,25 +42,21 @@ pub(crate) const NUMBER: Modes = Modes { members: &[Mode::Find], hint: "use only
 #[rustfmt::skip]
 pub(crate) const BAD: Modes = Modes { members: &[Mode::Bad], hint: "use --bad" };
 
-/// The modes that print literals.
 #[rustfmt::skip]
 pub(crate) const LITERALS: Modes = Modes { members: &[Mode::List, Mode::Only, Mode::Find], hint: "use --only, --find or no mode" };
 
-/// The modes that lex a source, and accept stray characters.
 #[rustfmt::skip]
 pub(crate) const TOKENS: Modes = Modes {
     members: &[Mode::List, Mode::Only, Mode::Find, Mode::Bad],
     hint: "use --bad, --only, --find or no mode",
 };
 
-/// The modes that `--fix`, `--check` and `--diff` exclude.
 #[rustfmt::skip]
 pub(crate) const READING: Modes = Modes {
     members: &[Mode::List, Mode::Only, Mode::Find, Mode::Bad, Mode::Invisible],
     hint: "use only one of them",
 };
 
-/// The modes that print a line for each finding.
 #[rustfmt::skip]
 pub(crate) const LISTING: Modes = Modes {
     members: &[Mode::List, Mode::Only, Mode::Find, Mode::Bad, Mode::Invisible, Mode::Check],
@@ -86,7 +76,6 @@ pub(crate) const BAD_OR_REWRITING: Modes = Modes {
 pub(crate) const BAD_OR_INVISIBLE: Modes = Modes { members: &[Mode::Bad, Mode::Invisible], hint: "use --bad or --invisible" };
 
 impl Mode {
-    /// Returns the words for the mode in a message.
     pub(crate) fn words(self) -> &'static str {
         match self {
             Mode::Page => "with --help, --version, --rules or --generate",

@@ -6,46 +6,29 @@ use crate::rl_scan::modes::{
     REWRITING, TOKENS,
 };
 
-/// The value that an option takes. The text describes it in messages.
 #[derive(Clone, Copy)]
 pub(crate) enum Value {
-    /// The option has no value.
     None,
-    /// One of the words in the text.
     Word(&'static str),
-    /// Kinds of literals in upper or lower case, separated by commas.
     Kinds(&'static str),
-    /// A number of lines.
     Number(&'static str),
-    /// An integer as a literal without a suffix.
     Integer(&'static str),
-    /// An extension of files, with or without its dot.
     Extension(&'static str),
-    /// A pattern of paths.
     Pattern(&'static str),
-    /// An identifier of findings.
     Id(&'static str),
-    /// A rule of a style.
     Rule(&'static str),
-    /// Any text that isn't empty.
     Text(&'static str),
 }
 
-/// An option of `rl_scan`.
 #[derive(Clone, Copy)]
 pub(crate) struct OptionRow {
-    /// The option's name.
     pub name: &'static str,
-    /// The letter of the short option, or NUL.
     pub letter: char,
-    /// The modes in which the option has an effect.
     pub modes: Modes,
     pub value: Value,
-    /// The lines of `--help` for the option, each after an LF.
     pub help: &'static str,
 }
 
-/// The options, in the order of `--help`.
 #[rustfmt::skip]
 pub(crate) const OPTIONS: [OptionRow; 43] = [
     OptionRow { name: "--bad", letter: '\0', modes: READING, value: Value::None, help: "
@@ -179,12 +162,10 @@ Output:
   -V, --version        print the version" },
 ];
 
-/// Returns the option with the name, which has its dashes.
 pub(crate) fn row_named(name: &str) -> Option<OptionRow> {
     OPTIONS.iter().find(|row| row.name == name).copied()
 }
 
-/// Returns the option with the letter.
 pub(crate) fn row_lettered(letter: char) -> Option<OptionRow> {
     if letter == '\0' {
         return None;
@@ -197,7 +178,6 @@ impl OptionRow {
         !matches!(self.value, Value::None)
     }
 
-    /// Returns the text that describes the option's value.
     pub(crate) fn expected(&self) -> &'static str {
         match self.value {
             Value::None => "",

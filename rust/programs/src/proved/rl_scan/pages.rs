@@ -7,7 +7,6 @@ use crate::rl_scan::generated::generated_text;
 use crate::rl_scan::options::OPTIONS;
 use crate::rattle_std::alloc::{AllocError, Allocator};
 
-/// The start of the output of `rl_scan --help`. The lines of the options follow.
 const INTRODUCTION: &str = "usage: rl_scan [OPTIONS] [PATH..]
 Prints the literals of Rust source files, or the errors in them.
 
@@ -17,7 +16,6 @@ beside a Cargo.toml, and doesn't follow symbolic links. `-` is standard input.
 Without a PATH and --files-from, rl_scan reads standard input if that is a file,
 a pipe or a socket. Otherwise, or with --files, it reads the current directory.";
 
-/// The end of the output of `rl_scan --help`, after the lines of the options.
 const CLOSING: &str = "
 
 Lines:
@@ -43,10 +41,8 @@ Examples:
   git ls-files -z '*.rs' | rl_scan --invisible --files-from -
 ";
 
-/// The output of `rl_scan --version`.
 const VERSION: &str = "rl_scan 0.2.0\n";
 
-/// The rules of a style, each with its values, its meaning and an example.
 const RULES_PAGE: &str =
     r###"The rules of a style, for lines NAME = VALUE of the file of --style, and for
 --rule NAME=VALUE. A rule that isn't set is off. Without --style and --rule,
@@ -137,7 +133,6 @@ escape_invisible = true or false
     escape_invisible = true: "<U+200B>" -> "\u{200b}"
 "###;
 
-/// Returns the output of `--help`.
 fn help_page<A: Allocator>(alloc: A) -> Result<String<A>, AllocError> {
     let mut page = String::from_str(alloc, INTRODUCTION)?;
     for row in &OPTIONS {
@@ -147,7 +142,6 @@ fn help_page<A: Allocator>(alloc: A) -> Result<String<A>, AllocError> {
     Ok(page)
 }
 
-/// Returns the output of a call that only prints a page.
 pub(crate) fn page_of<A: Allocator + Copy>(
     alloc: A,
     args: &Args<'_, A>,

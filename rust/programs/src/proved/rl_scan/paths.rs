@@ -8,7 +8,6 @@ use crate::rl_scan::failure::Failure;
 use crate::rl_files::{Tree, push_listed_paths, visible_text};
 use crate::rattle_std::alloc::{AllocError, Allocator};
 
-/// Checks that a call reads standard input at most once: as a source, a list or a style.
 fn check_input<A: Allocator + Copy>(
     alloc: A,
     args: &Args<'_, A>,
@@ -31,12 +30,6 @@ fn check_input<A: Allocator + Copy>(
     Ok(())
 }
 
-/// Returns the paths of a call, and those in the files of `--files-from`. Without a path and a list, the result is the current
-/// directory if `reads_here`, or else standard input.
-///
-/// # Errors
-///
-/// Returns an error if a list can't be read, if standard input would be read twice, or if an allocation fails.
 pub(crate) fn paths_of<A: Allocator + Copy, T: Tree>(
     alloc: A,
     args: &Args<'_, A>,
@@ -59,7 +52,6 @@ pub(crate) fn paths_of<A: Allocator + Copy, T: Tree>(
     Ok(paths)
 }
 
-/// Returns the extensions of the files to read in directories.
 pub(crate) fn extensions_of<'a, A: Allocator + Copy>(
     alloc: A,
     args: &Args<'a, A>,

@@ -1,19 +1,14 @@
 // Rendered from crates/rl_scan/src/position.rt by tools/render, which erases contracts: change that file, and render again.
 //! Positions in a source: lines and columns.
 
-/// A position in a source. Lines and columns count from 1, and a byte order mark at the start has no column.
 #[derive(Clone, Copy)]
 pub(crate) struct Position {
-    /// The byte offset.
     pub at: usize,
     pub line: usize,
-    /// The byte offset where the line begins, after a byte order mark.
     pub line_at: usize,
-    /// The column in characters.
     pub column: usize,
 }
 
-/// Returns the number of LFs in a text. The inner loop has a count of one byte, so that rustc compiles it to vector instructions.
 fn count_line_feeds(text: &str) -> usize {
     let mut count = 0_usize;
     for chunk in text.as_bytes().chunks(192) {
@@ -27,7 +22,6 @@ fn count_line_feeds(text: &str) -> usize {
 }
 
 impl Position {
-    /// Returns the first position of a source.
     pub(crate) fn first(source: &str) -> Position {
         let mark = if source.starts_with('\u{feff}') { 3 } else { 0 };
         Position {
@@ -38,8 +32,6 @@ impl Position {
         }
     }
 
-    /// Returns the position at the byte offset `at` of the source. If `at` isn't before this position, only the text between them
-    /// is read.
     pub(crate) fn moved(self, source: &str, at: usize) -> Position {
         let first = Position::first(source);
         let from = if self.at <= at { self } else { first };
@@ -62,7 +54,6 @@ impl Position {
         }
     }
 
-    /// Returns the column in bytes.
     pub(crate) fn byte_column(self) -> usize {
         self.at.saturating_sub(self.line_at).saturating_add(1)
     }

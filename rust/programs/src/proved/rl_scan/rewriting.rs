@@ -16,7 +16,6 @@ use crate::rl_restyle::{RULES, RestyleError, changing_rules, number_of, rewrite_
 use crate::rattle_std::alloc::Allocator;
 use crate::rattle_std::io::Write;
 
-/// Reports the change of a literal, and counts the rules that change it.
 fn report_change<A: Allocator + Copy, W: Write>(
     page: &mut Page<'_, '_, A, W>,
     rules: &mut [u64; RULES],
@@ -39,7 +38,6 @@ fn report_change<A: Allocator + Copy, W: Write>(
     page.report_finding(Place { lo, hi }, Finding::Change { old, new, rules })
 }
 
-/// Reports the literals that differ between a source and its new text, which has the same tokens but for the rewritten literals.
 fn report_changes<A: Allocator + Copy, W: Write>(
     page: &mut Page<'_, '_, A, W>,
     rules: &mut [u64; RULES],
@@ -59,7 +57,6 @@ fn report_changes<A: Allocator + Copy, W: Write>(
 }
 
 impl<'o, 'e, 'a, A: Allocator + Copy, W: Write, E: Write> Call<'o, 'e, 'a, A, W, E> {
-    /// Prints the errors because of which a source isn't rewritten. Returns whether there are any.
     fn explains<'t>(&mut self, path: &'t str, source: &'t str) -> Result<bool, Failure<A>> {
         let job = self.job;
         let job = job.for_errors();
@@ -70,7 +67,6 @@ impl<'o, 'e, 'a, A: Allocator + Copy, W: Write, E: Write> Call<'o, 'e, 'a, A, W,
         Ok(page.count > 0)
     }
 
-    /// Replaces a file. Returns whether it was replaced.
     fn replaces<F: Replace>(
         &mut self,
         files: &mut F,
@@ -90,7 +86,6 @@ impl<'o, 'e, 'a, A: Allocator + Copy, W: Write, E: Write> Call<'o, 'e, 'a, A, W,
         }
     }
 
-    /// Prints the changes of a source, or replaces it by its new text. Returns the number of changes.
     fn print_changes<'t, F: Replace>(
         &mut self,
         files: &mut F,
@@ -121,7 +116,6 @@ impl<'o, 'e, 'a, A: Allocator + Copy, W: Write, E: Write> Call<'o, 'e, 'a, A, W,
         Ok(count)
     }
 
-    /// Rewrites a source. Returns the number of changes.
     pub(crate) fn rewrite<'t, F: Replace>(
         &mut self,
         files: &mut F,

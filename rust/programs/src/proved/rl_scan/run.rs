@@ -20,19 +20,13 @@ use crate::rl_program::{Ending, write_bytes};
 use crate::rattle_std::alloc::{AllocError, Allocator};
 use crate::rattle_std::io::Write;
 
-/// The standard streams, and the properties of them that a call depends on.
 pub struct Console<'o, 'e, W, E> {
-    /// Whether standard input isn't a file, a pipe or a socket.
     pub lacks_input: bool,
-    /// Whether standard output displays colours.
     pub has_colors: bool,
-    /// Standard output.
     pub out: &'o mut W,
-    /// Standard error.
     pub err: &'e mut E,
 }
 
-/// A call that is being run: its job, its streams, and its counts.
 pub(crate) struct Call<'o, 'e, 'a, A: Allocator, W, E> {
     pub alloc: A,
     pub job: Job<'a>,
@@ -42,9 +36,6 @@ pub(crate) struct Call<'o, 'e, 'a, A: Allocator, W, E> {
 }
 
 impl<'o, 'e, 'a, A: Allocator + Copy, W: Write, E: Write> Call<'o, 'e, 'a, A, W, E> {
-    // ---- errors of paths
-
-    /// Prints a line about a file on standard error, after the program's name and the file's path.
     pub(crate) fn complain(&mut self, path: &str, words: &str) -> Result<(), Failure<A>> {
         if !self.job.messages {
             return Ok(());
@@ -58,7 +49,6 @@ impl<'o, 'e, 'a, A: Allocator + Copy, W: Write, E: Write> Call<'o, 'e, 'a, A, W,
         Ok(())
     }
 
-    /// Prints that a path can't be read or written.
     pub(crate) fn complain_why(&mut self, path: &str, why: PathError) -> Result<(), Failure<A>> {
         let mut words = format!(in self.alloc; "{why}")?;
         if matches!(why, PathError::NotFound) && !path.is_empty() {
@@ -72,7 +62,6 @@ impl<'o, 'e, 'a, A: Allocator + Copy, W: Write, E: Write> Call<'o, 'e, 'a, A, W,
         self.complain(without_mark(path), words.as_str())
     }
 
-    /// Prints that a path can't be read, and counts it. A path that isn't UTF-8 is only skipped.
     fn report_unread(&mut self, path: &str, why: PathError) -> Result<(), Failure<A>> {
         self.complain_why(path, why)?;
         if !matches!(why, PathError::PathNotUtf8) {
@@ -82,9 +71,6 @@ impl<'o, 'e, 'a, A: Allocator + Copy, W: Write, E: Write> Call<'o, 'e, 'a, A, W,
         Ok(())
     }
 
-    // ---- sources
-
-    /// Appends a path of `--files`, `-l` or `-c`, with a mark after it.
     fn push_file(&self, out: &mut String<A>, path: &str, mark: char) -> Result<(), AllocError> {
         self.job.push_color(out, "\x1b[35m")?;
         if self.job.nul {
@@ -96,7 +82,6 @@ impl<'o, 'e, 'a, A: Allocator + Copy, W: Write, E: Write> Call<'o, 'e, 'a, A, W,
         out.push(if self.job.nul { '\0' } else { mark })
     }
 
-    /// Prints the path of a file, or the number of its findings.
     fn print_count(&mut self, path: &str, count: u64) -> Result<(), Failure<A>> {
         let mut line = String::new(self.alloc);
         let is_input = path == "-";
@@ -113,7 +98,6 @@ impl<'o, 'e, 'a, A: Allocator + Copy, W: Write, E: Write> Call<'o, 'e, 'a, A, W,
         Ok(())
     }
 
-    /// Prints the findings of a source. Returns their number.
     fn print_findings<'t>(&mut self, path: &'t str, source: &'t str) -> Result<u64, Failure<A>> {
         let job = self.job;
         let mut page = Page::new(self.alloc, &job, path, source, self.out);
@@ -132,7 +116,6 @@ impl<'o, 'e, 'a, A: Allocator + Copy, W: Write, E: Write> Call<'o, 'e, 'a, A, W,
         Ok(count)
     }
 
-    /// Reads a source, prints its findings, and counts them.
     fn report_source<'t, F: Replace>(
         &mut self,
         files: &mut F,
@@ -155,7 +138,6 @@ impl<'o, 'e, 'a, A: Allocator + Copy, W: Write, E: Write> Call<'o, 'e, 'a, A, W,
         self.print_count(path, count)
     }
 
-    /// Reads a file, prints its findings, and counts them. With `--files`, it prints only the path.
     fn report_file<T: Tree, F: Replace>(
         &mut self,
         tree: &T,
@@ -182,7 +164,6 @@ impl<'o, 'e, 'a, A: Allocator + Copy, W: Write, E: Write> Call<'o, 'e, 'a, A, W,
         }
     }
 
-    /// Prints the findings of all files of a walk, and counts them.
     fn report_files<T: Tree, F: Replace>(
         &mut self,
         tree: &T,
@@ -203,9 +184,6 @@ impl<'o, 'e, 'a, A: Allocator + Copy, W: Write, E: Write> Call<'o, 'e, 'a, A, W,
     }
 }
 
-// ---- calls
-
-/// Returns the description of the files that a walk visits.
 fn selection_of<'x>(
     all: bool,
     extensions: &'x [&'x str],
@@ -218,7 +196,6 @@ fn selection_of<'x>(
     }
 }
 
-/// Prints the findings of the files at `paths`, and the totals. Returns the exit status.
 fn run_call<A: Allocator + Copy, T: Tree, W: Write, E: Write, F: Replace>(
     call: &mut Call<'_, '_, '_, A, W, E>,
     args: &Args<'_, A>,
@@ -250,7 +227,6 @@ fn run_call<A: Allocator + Copy, T: Tree, W: Write, E: Write, F: Replace>(
     Ok(job.status(call.tally.findings))
 }
 
-/// Runs a call with the given options. Returns its exit status.
 fn run_options<A: Allocator + Copy, T: Tree, W: Write, E: Write, F: Replace>(
     alloc: A,
     args: &Args<'_, A>,
@@ -278,7 +254,6 @@ fn run_options<A: Allocator + Copy, T: Tree, W: Write, E: Write, F: Replace>(
     run_call(&mut call, args, tree, files, &mut paths)
 }
 
-/// Parses the arguments and runs the call. Returns its exit status.
 fn parse_and_run<A: Allocator + Copy, T: Tree, W: Write, E: Write, F: Replace>(
     alloc: A,
     words: &[String<A>],
@@ -294,8 +269,6 @@ fn parse_and_run<A: Allocator + Copy, T: Tree, W: Write, E: Write, F: Replace>(
     run_options(alloc, &args, console, tree, files)
 }
 
-/// Runs `rl_scan` with the arguments `args`, of which the first is the program's name, and returns the result of the call. `tree` has
-/// the files that are read, and `files` replaces files.
 pub fn run_with_arguments<A: Allocator + Copy, T: Tree, W: Write, E: Write, F: Replace>(
     alloc: A,
     args: &[String<A>],

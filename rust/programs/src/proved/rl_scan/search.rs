@@ -23,7 +23,6 @@ fn begins_with(rest: &[u8], sought: &[u8], ignores_case: bool) -> bool {
     }
 }
 
-/// Returns the byte offset of the first match of a text in a value.
 fn first_in(value: &[u8], sought: &[u8], job: &Job<'_>) -> Option<usize> {
     for at in 0..value.len().saturating_sub(sought.len()).saturating_add(1) {
         let (front, rest) = value.split_at_checked(at)?;
@@ -37,7 +36,6 @@ fn first_in(value: &[u8], sought: &[u8], job: &Job<'_>) -> Option<usize> {
     None
 }
 
-/// Returns the byte range of a literal that encodes a part of its value.
 fn encoding_range(text: &str, part: Place) -> Option<Place> {
     Some(Place {
         lo: Segments::of(text)?.text_offset(part.lo),
@@ -45,7 +43,6 @@ fn encoding_range(text: &str, part: Place) -> Option<Place> {
     })
 }
 
-/// Returns the byte range of the first match of the texts in a value.
 fn match_in(value: &[u8], job: &Job<'_>) -> Option<Place> {
     let mut best: Option<Place> = None;
     for sought in job.lists.finds {
@@ -63,7 +60,6 @@ fn match_in(value: &[u8], job: &Job<'_>) -> Option<Place> {
     best
 }
 
-/// Returns the range in a literal of the first match in its value. A literal that isn't quoted has no match.
 fn text_match<A: Allocator + Copy>(
     alloc: A,
     job: &Job<'_>,
@@ -88,7 +84,6 @@ fn text_match<A: Allocator + Copy>(
     }
 }
 
-/// Returns the range in a literal that a search finds: its first match, or all of an integer that the search names.
 pub(crate) fn found_in<A: Allocator + Copy>(
     alloc: A,
     job: &Job<'_>,
@@ -101,7 +96,6 @@ pub(crate) fn found_in<A: Allocator + Copy>(
         return Ok(if named { Some(Place { lo, hi }) } else { None });
     }
     let finds = job.lists.finds;
-    // A value isn't longer than its literal.
     if !finds.iter().any(|sought| sought.len() <= text.len()) {
         return Ok(None);
     }

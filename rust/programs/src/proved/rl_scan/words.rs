@@ -13,10 +13,8 @@ use crate::rl_syntax::Kind;
 use crate::rattle_std::alloc::{AllocError, Allocator};
 use crate::rattle_std::io::Write;
 
-/// The maximum length, in bytes, of the text of an invalid literal in JSON.
 const LONGEST: usize = 1024;
 
-/// Appends the names of rules with a separator between them.
 fn push_names<A: Allocator>(
     out: &mut String<A>,
     separator: &str,
@@ -33,7 +31,6 @@ fn push_names<A: Allocator>(
     Ok(())
 }
 
-/// Returns the digits in the line of a number, which is its kind, its digits, and its suffix.
 fn digits_in(line: &str) -> &str {
     let (_, rest) = line.split_once(' ').unwrap_or(("", ""));
     let (digits, _) = rest.split_once(' ').unwrap_or((rest, ""));
@@ -41,7 +38,6 @@ fn digits_in(line: &str) -> &str {
 }
 
 impl<'p, 'a, A: Allocator + Copy, W: Write> Page<'p, 'a, A, W> {
-    /// Prints the words of a finding in a line.
     pub(crate) fn print_words(&mut self, finding: &Finding<'_>) -> Result<(), Failure<A>> {
         let (within, escapes) = (self.within(), Escapes::Literal);
         match finding {
@@ -80,7 +76,6 @@ impl<'p, 'a, A: Allocator + Copy, W: Write> Page<'p, 'a, A, W> {
         }
     }
 
-    /// Prints the value of a literal as JSON.
     fn print_value(&mut self, literal: &Literal<'_>) -> Result<(), Failure<A>> {
         if let (Some(Kind::Str), Some((_, value))) = (literal.kind(), literal.plain_value()) {
             return self.output.print_json("", value);
@@ -106,7 +101,6 @@ impl<'p, 'a, A: Allocator + Copy, W: Write> Page<'p, 'a, A, W> {
         Ok(())
     }
 
-    /// Prints the members of an error.
     fn print_fault(&mut self, fault: &Fault<'_>) -> Result<(), Failure<A>> {
         match fault.literal {
             Some(text) if text.len() > LONGEST => self.output.text.push_str(",\"text\":null")?,
@@ -121,7 +115,6 @@ impl<'p, 'a, A: Allocator + Copy, W: Write> Page<'p, 'a, A, W> {
         self.output.print_json(",\"piece\":", fault.piece)
     }
 
-    /// Prints the members of a finding in a JSON object.
     pub(crate) fn print_members(&mut self, finding: &Finding<'_>) -> Result<(), Failure<A>> {
         match finding {
             Finding::Literal(literal) => {

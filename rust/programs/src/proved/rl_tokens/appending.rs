@@ -8,11 +8,6 @@ use crate::rl_tokens::literal::Literal;
 use crate::rl_tokens::token::{TokenStream, TokenTree};
 use crate::rattle_std::alloc::Allocator;
 
-/// Appends a copy of the literal token `token` to the stream `tokens`.
-///
-/// # Errors
-///
-/// Returns `Memory` at the token's span if an allocation fails. The stream is unchanged then.
 pub fn append_literal<A: Allocator, B: Allocator>(
     alloc: B,
     token: &Literal<A>,
@@ -23,12 +18,6 @@ pub fn append_literal<A: Allocator, B: Allocator>(
     Ok(())
 }
 
-/// Appends the identifier token `ident` to the stream `tokens`.
-///
-/// # Errors
-///
-/// Returns `Memory` at the identifier's span if an allocation fails. The stream is unchanged then, and the error
-/// contains the identifier.
 pub fn append_ident<A: Allocator>(
     ident: Ident<A>,
     tokens: &mut TokenStream<A>,

@@ -5,25 +5,16 @@ use crate::rattle_std::prelude::{Vec};
 use crate::rattle_std::alloc::{Allocator, Global};
 use crate::rattle_std::fmt;
 
-/// An owned C string: a sequence of bytes that contains no zero byte, also not at the end. Two C strings are equal if
-/// their bytes are equal.
 pub struct CString<A: Allocator = Global> {
     bytes: Vec<u8, A>,
 }
 
-/// The error of [`CString::new`] for bytes that contain a zero, with the bytes and the offset of the first zero.
 pub struct NulError<A: Allocator = Global> {
     bytes: Vec<u8, A>,
     place: usize,
 }
 
 impl<A: Allocator> CString<A> {
-    /// Creates a C string from `bytes`, or returns an error if `bytes` contains a zero.
-    ///
-    /// # Errors
-    ///
-    /// Returns a [`NulError`] if `bytes` contains a zero. The error contains the bytes and the offset of the first
-    /// zero.
     pub fn new(bytes: Vec<u8, A>) -> Result<CString<A>, NulError<A>> {
         match first_zero(bytes.as_slice()) {
             Some(place) => Err(NulError { bytes, place }),
@@ -31,24 +22,20 @@ impl<A: Allocator> CString<A> {
         }
     }
 
-    /// Returns the C string's bytes, borrowed. There is no zero at the end.
     pub fn as_bytes(&self) -> &[u8] {
         self.bytes.as_slice()
     }
 }
 
-/// Returns the offset of the first zero in `bytes`, or `None` if there is none.
 fn first_zero(bytes: &[u8]) -> Option<usize> {
     bytes.iter().position(|b| *b == 0)
 }
 
 impl<A: Allocator> NulError<A> {
-    /// Returns the byte offset of the first zero in the rejected bytes.
     pub fn nul_position(&self) -> usize {
         self.place
     }
 
-    /// Returns the rejected bytes, which were passed to [`CString::new`].
     pub fn into_vec(self) -> Vec<u8, A> {
         let NulError { bytes, place: _ } = self;
         bytes

@@ -5,12 +5,7 @@ use crate::rattle_std::prelude::{Drop};
 use crate::rl_tokens::buffer::ParseBuffer;
 use crate::rattle_std::alloc::Allocator;
 
-/// A parse buffer whose position can be saved and restored. [`ParseBuffer`] implements the trait.
-///
-/// The member `same` of the contract relates two buffers that are at the same position.
 pub trait Rewind: Sized {
-    /// Returns a copy of the buffer at its current position. [`attempt`] uses the copy to restore the position after an
-    /// error.
     fn here(&self) -> Self;
 }
 
@@ -20,17 +15,10 @@ impl<'a, A: Allocator> Rewind for ParseBuffer<'a, A> {
     }
 }
 
-/// Runs `parser` on `input`, and returns the parser's result. The parser determines the position of `input` afterwards.
 fn ran<B, T, E, F: FnOnce(&mut B) -> Result<T, E>>(input: &mut B, parser: F) -> Result<T, E> {
     parser(input)
 }
 
-/// Runs `parser`, which may have several steps, on the buffer `input`. If the parser fails, the buffer is put back to
-/// the position that it had before the call.
-///
-/// # Errors
-///
-/// Returns the parser's error. The buffer is then at its old position.
 pub fn attempt<B: Rewind + Drop, T, E, F: FnOnce(&mut B) -> Result<T, E>>(
     input: &mut B,
     parser: F,

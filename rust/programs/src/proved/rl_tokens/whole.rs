@@ -10,13 +10,6 @@ use crate::rl_tokens::token::TokenStream;
 use crate::rl_syntax::Span;
 use crate::rattle_std::alloc::Allocator;
 
-/// Lexes a text into token trees, as [`lex`] does, and returns the lexer's error as an [`Error`]. The span of a token
-/// is `file` and the token's byte range in the text.
-///
-/// # Errors
-///
-/// Returns the lexer's error as `Lex`, with an empty span at the error's byte offset. If an allocation fails, returns
-/// `Memory` with an empty span at the start of the token for which memory was needed.
 pub fn lex_for_parsing<A: Allocator + Copy>(
     alloc: A,
     text: &str,
@@ -31,8 +24,6 @@ pub fn lex_for_parsing<A: Allocator + Copy>(
     }
 }
 
-/// Parses the token trees of `stream` as one value of type `T`. An error at the end of the token trees has the span
-/// `scope`, and a token tree after the value is an error.
 fn parse_trees<T: Parse<A> + Drop, A: Allocator>(
     alloc: A,
     stream: &TokenStream<A>,
@@ -46,15 +37,6 @@ fn parse_trees<T: Parse<A> + Drop, A: Allocator>(
     Ok(value)
 }
 
-/// Parses a whole text as one value of the type `T`, which implements [`Parse`]. Spans are `file` and byte ranges of
-/// the text.
-///
-/// # Errors
-///
-/// Returns the lexer's error as `Lex`, with an empty span at the error's byte offset. If an allocation fails while the
-/// text is lexed, returns `Memory` with an empty span at the start of the token for which memory was needed. Otherwise
-/// returns the error of `T::parse`, which runs with the empty span at the text's end as scope. Otherwise returns
-/// `Unexpected` at the first token tree that follows the value.
 pub fn parse_all<T: Parse<A> + Drop, A: Allocator + Copy>(
     alloc: A,
     text: &str,

@@ -9,8 +9,6 @@ use crate::rl_lenient::{bool_of, parse_with_added_minus};
 use crate::rl_tokens::{Form, Literal, Span, Tokens};
 use crate::rattle_std::alloc::{AllocError, Allocator, Global};
 
-/// Parses `text` as a literal with the span `span`. The result is `Lit::Verbatim` if the text isn't a valid literal or
-/// is an integer above 128 bits.
 fn literal_of<A: Allocator + Copy>(alloc: A, text: &str, span: Span) -> Result<Lit<A>, AllocError> {
     let Ok(token) = Literal::from_text(alloc, text, span) else {
         return Err(AllocError);
@@ -21,8 +19,6 @@ fn literal_of<A: Allocator + Copy>(alloc: A, text: &str, span: Span) -> Result<L
     }
 }
 
-/// Parses a minus and `text` as one literal with the span `span`. The result is `None` if they aren't a valid literal
-/// together.
 fn negative_of<A: Allocator + Copy>(
     alloc: A,
     text: &str,
@@ -40,8 +36,6 @@ fn negative_of<A: Allocator + Copy>(
     }
 }
 
-/// Consumes the literal at the start of `tokens` and returns it, or `None` if the next token doesn't begin a literal.
-/// If the result is `None` or an allocation fails, tokens may be consumed nevertheless.
 #[inline(always)]
 pub(crate) fn take_next<A: Allocator + Copy>(
     alloc: A,
@@ -76,16 +70,6 @@ pub(crate) fn take_next<A: Allocator + Copy>(
         _ => Ok(None),
     }
 }
-/// Consumes the literal at the start of `tokens` and appends it to `list`. Returns `true` if `tokens` begins with a
-/// literal, and otherwise `false`, with `tokens` and `list` unchanged. A caller that drops each literal before it reads
-/// the next one needs memory for one literal only.
-///
-/// # Errors
-///
-/// Returns an error if an allocation fails for the literal or for `list`. `tokens` and `list` are unchanged then.
-/// [`Literals`] reports such a failure with its position.
-///
-/// [`Literals`]: crate::rust_literals::Literals
 pub fn push_leading_literal<A: Allocator + Copy>(
     alloc: A,
     tokens: &mut Tokens<'_>,
@@ -97,8 +81,6 @@ pub fn push_leading_literal<A: Allocator + Copy>(
         return Ok(false);
     };
     if let Err(failed) = list.push(literal) {
-        // The literal is dropped by a function call, because dropping it in place would double the number of steps to
-        // prove.
         drop(failed);
         return Err(AllocError);
     }
@@ -106,8 +88,6 @@ pub fn push_leading_literal<A: Allocator + Copy>(
     Ok(true)
 }
 
-/// Returns the literals of `text`, which may contain only literals, white space and plain comments. If the text
-/// contains anything else, or if an allocation fails, the result is an error with the literals that were read before.
 pub(crate) fn read_flat<A: Allocator + Copy>(
     alloc: A,
     text: &str,

@@ -14,30 +14,18 @@ use crate::rl_syntax::Kind;
 use crate::rl_tokens::{Error, Kept, Literal, Parse, ParseBuffer, Span, Token};
 use crate::rattle_std::alloc::{Allocator, Global};
 
-/// A literal of Rust of any kind: a token, and its parsed parts.
 pub enum Lit<A: Allocator = Global> {
-    /// A string literal: `"foo"`, `r"foo"`.
     Str(LitStr<A>),
-    /// A byte string literal: `b"foo"`, `br"foo"`.
     ByteStr(LitByteStr<A>),
-    /// A C string literal: `c"foo"`, `cr"foo"`.
     CStr(LitCStr<A>),
-    /// A byte literal: `b'f'`.
     Byte(LitByte<A>),
-    /// A character literal: `'a'`.
     Char(LitChar<A>),
-    /// An integer literal: `1`, `1u16`. `1f64` is an integer literal too, with the suffix `f64`.
     Int(LitInt<A>),
-    /// A float literal: `1.0e10f64`. A text that is also an integer of any magnitude isn't a float literal, so `1f64`
-    /// isn't one. The size of a float isn't checked.
     Float(LitFloat<A>),
-    /// A `bool` literal: `true`, `false`.
     Bool(LitBool),
-    /// A token that isn't a literal of the other eight kinds, for example an integer above 128 bits.
     Verbatim(Literal<A>),
 }
 
-/// The parts that literals of every kind have: kind, text, suffix and span. The kind of `Lit::Verbatim` is `None`.
 #[derive(Clone, Copy)]
 struct View<'a> {
     kind: Option<Kind>,
@@ -47,7 +35,6 @@ struct View<'a> {
 }
 
 impl<'a> View<'a> {
-    /// Returns the kind, text, suffix and span of a quoted literal.
     #[inline(always)]
     fn of_quoted<K: QuotedKind, A: Allocator>(literal: &'a Quoted<K, A>) -> View<'a> {
         View {
@@ -58,7 +45,6 @@ impl<'a> View<'a> {
         }
     }
 
-    /// Returns the kind, text, suffix and span of an integer or float literal.
     #[inline(always)]
     fn of_number<K: NumberKind, A: Allocator>(literal: &'a Number<K, A>) -> View<'a> {
         View {
@@ -71,26 +57,11 @@ impl<'a> View<'a> {
 }
 
 impl<A: Allocator> Lit<A> {
-    /// Parses the text of the literal token `token`. The result is `Verbatim` exactly if the text isn't a valid literal
-    /// or is an integer above 128 bits. The literal keeps the token's text and span unchanged.
-    ///
-    /// The parser agrees with Rust's own grammar. If the text is a literal by Rust's grammar, and an integer isn't
-    /// above 128 bits, the literal has the kind, decoded value and suffix that Rust's grammar gives the text
-    /// (`strict_found`, `strict`). This holds also for a minus and a number of Rust's grammar (`strict_after_minus`). A
-    /// text without CR is parsed as a byte, or as a byte string with escapes, with an empty suffix or an identifier as
-    /// suffix, exactly if it is such a literal by Rust's grammar (`strict_bytes`).
-    ///
-    /// # Errors
-    ///
-    /// Returns an error only if an allocation fails: `Memory` at the token's span, with the token. Memory is needed
-    /// only for a number whose digits in base ten differ from the text before its suffix.
     pub fn new(alloc: A, token: Literal<A>) -> Result<Lit<A>, Kept<Literal<A>, A>> {
         let found = parse_literal(token.text());
         Lit::of_found(alloc, token, found)
     }
 
-    /// Creates the literal of the literal token `token` from the parse result `found` of the token's text. If `found`
-    /// is `None`, the literal is `Verbatim`.
     #[inline(always)]
     pub(crate) fn of_found(
         alloc: A,
@@ -114,7 +85,6 @@ impl<A: Allocator> Lit<A> {
 }
 
 impl<A: Allocator> Lit<A> {
-    /// Returns the kind, text, suffix and span of the literal, for each of its variants.
     #[inline(always)]
     fn view(&self) -> View<'_> {
         match self {
@@ -140,28 +110,22 @@ impl<A: Allocator> Lit<A> {
         }
     }
 
-    /// Returns the literal's kind, or `None` if the literal is `Verbatim`.
     pub fn kind(&self) -> Option<Kind> {
         self.view().kind
     }
 
-    /// Returns the literal's text as written, with its suffix. The text of a `bool` is `true` or `false`. The text of a
-    /// number after a minus is shorter than its span if white space or comments are between the minus and the number.
     pub fn text(&self) -> &str {
         self.view().text
     }
 
-    /// Returns the literal's suffix, borrowed. The suffix of a `bool` or a `Verbatim` literal is empty.
     pub fn suffix(&self) -> &str {
         self.view().suffix
     }
 
-    /// Returns the literal's span: the span of its token, or the one that was set last.
     pub fn span(&self) -> Span {
         self.view().span
     }
 
-    /// Sets the literal's span to `span`. Kind and text are unchanged.
     pub fn set_span(&mut self, span: Span) {
         match self {
             Lit::Str(literal) => literal.set_span(span),
@@ -177,8 +141,6 @@ impl<A: Allocator> Lit<A> {
     }
 }
 
-/// Returns the literal that consists of the tokens of `front`, or `None` if an allocation fails. A `bool` literal needs
-/// no allocation.
 fn of_front<A: Allocator + Copy>(alloc: A, front: &Front<'_, A>) -> Option<Lit<A>> {
     if let Some(value) = front.bool_value() {
         return Some(Lit::Bool(LitBool::new(value, front.span())));
@@ -192,10 +154,6 @@ fn of_front<A: Allocator + Copy>(alloc: A, front: &Front<'_, A>) -> Option<Lit<A
     }
 }
 
-/// Parses the literal of any kind at the start of a buffer: a literal token, the identifier `true` or `false`, or a
-/// minus and a number token that together are one literal. A literal token with an invalid text, or with an integer
-/// above 128 bits, becomes `Verbatim`. If the buffer doesn't begin with a literal, the error's message names `literal`.
-/// On an error the buffer is unchanged.
 impl<A: Allocator + Copy> Parse<A> for Lit<A> {
     fn parse(alloc: A, input: &mut ParseBuffer<'_, A>) -> Result<Lit<A>, Error<A>> {
         let mut ahead = input.fork();
@@ -212,7 +170,6 @@ impl<A: Allocator + Copy> Parse<A> for Lit<A> {
     }
 }
 
-/// `peek` returns `true` exactly if the parser would succeed, provided that no allocation fails.
 impl<A: Allocator> Token for Lit<A> {
     fn peek<B: Allocator>(input: &ParseBuffer<'_, B>) -> bool {
         let mut ahead = input.fork();

@@ -7,13 +7,8 @@ use crate::rl_syntax::Kind;
 use crate::rl_tokens::ErrorKind;
 use crate::rattle_std::alloc::{Allocator, Global};
 
-/// The type that represents the kind of floats. The type makes `LitFloat` and `LitInt` different types.
 pub struct FloatKind;
 
-/// A float literal: `1.5`, `1e5`, `2.0f32`. The number's size isn't checked.
-///
-/// `LitFloat::new` parses a text by the rule for floats only. So it accepts `1f64` too, which `Lit::new` parses as an
-/// integer with the suffix `f64`.
 pub type LitFloat<A = Global> = Number<FloatKind, A>;
 
 impl NumberKind for FloatKind {

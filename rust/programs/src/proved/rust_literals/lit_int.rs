@@ -7,10 +7,8 @@ use crate::rl_syntax::Kind;
 use crate::rl_tokens::ErrorKind;
 use crate::rattle_std::alloc::{Allocator, Global};
 
-/// The type that represents the kind of integers. The type makes `LitInt` and `LitFloat` different types.
 pub struct IntKind;
 
-/// An integer literal: `1`, `-0x1F`, `1_000u16`. The greatest magnitude is 2 to the 128th power, less 1.
 pub type LitInt<A = Global> = Number<IntKind, A>;
 
 impl NumberKind for IntKind {

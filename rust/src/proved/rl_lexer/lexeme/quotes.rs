@@ -6,35 +6,26 @@ use crate::rl_syntax::classes::skip_hashes;
 use crate::rl_syntax::scan::{Marks, split_after_mark};
 use crate::rl_syntax::text::{after_prefix, before, begins_with_char, split_char, without_first_char};
 
-/// Returns the text after a string literal and its suffix, where `text` follows the opening `"`. Returns `None` if the
-/// literal isn't closed.
 pub(crate) fn after_quoted(text: &str) -> Option<&str> {
     let rest = after_quote(text)?;
     Some(after_suffix(rest))
 }
 
-/// Returns the text after a character or byte literal and its suffix, where `text` follows the opening `'`. Returns
-/// `None` if no `'` follows the one character or the escape.
 pub(crate) fn after_character(text: &str) -> Option<&str> {
     let rest = after_single(text)?;
     Some(after_suffix(rest))
 }
 
-/// Returns the text after a raw literal and its suffix, where `text` follows the literal's `r`. Returns `None` if the
-/// literal isn't closed.
 pub(crate) fn after_raw_literal(text: &str) -> Option<&str> {
     let opener = skip_hashes(text);
     let rest = after_raw(before(text, opener), without_first_char(opener))?;
     Some(after_suffix(rest))
 }
 
-/// Whether the text begins with any number of hashes and a `"`.
 pub(crate) fn begins_hashed_quote(text: &str) -> bool {
     begins_with_char(skip_hashes(text), '"')
 }
 
-/// Returns the text after the `"` that closes a string literal, where `text` follows the opening `"`. A `"` after a
-/// backslash doesn't close the literal. Returns `None` if the literal isn't closed.
 #[inline(never)]
 fn after_quote(text: &str) -> Option<&str> {
     let mut rest = text;
@@ -48,8 +39,6 @@ fn after_quote(text: &str) -> Option<&str> {
     None
 }
 
-/// Returns the text after the `"` and the hashes that close a raw literal, where `text` follows the opening `"`.
-/// `hashes` are the hashes before that quote. Returns `None` if the literal isn't closed.
 #[inline(never)]
 fn after_raw<'t>(hashes: &str, text: &'t str) -> Option<&'t str> {
     let mut rest = text;
@@ -62,8 +51,6 @@ fn after_raw<'t>(hashes: &str, text: &'t str) -> Option<&'t str> {
     None
 }
 
-/// Returns the text after the `'` that closes a character literal, where `text` follows the opening `'`. Returns `None`
-/// if no `'` follows the one character or the escape.
 fn after_single(text: &str) -> Option<&str> {
     let (c, following) = split_char(text)?;
     let (second, more) = split_char(following)?;
@@ -76,8 +63,6 @@ fn after_single(text: &str) -> Option<&str> {
     }
 }
 
-/// Returns the text after the `'` that closes a character literal with an escape, where `text` follows the backslash
-/// and one more character. Returns `None` if an LF or the end of the text comes first.
 fn after_apostrophe(text: &str) -> Option<&str> {
     let mut rest = text;
     while let Some((c, following)) = split_char(rest) {

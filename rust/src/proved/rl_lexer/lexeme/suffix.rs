@@ -5,8 +5,6 @@ use crate::rl_syntax::characters::is_id_start;
 use crate::rl_syntax::classes::{CharClass, skip_class};
 use crate::rl_syntax::text::{split_ascii, split_char};
 
-/// Returns `text` without the suffix of a literal at its start. If `text` doesn't begin with a suffix, the result is
-/// `text` itself.
 #[inline(always)]
 pub(crate) fn after_suffix(text: &str) -> &str {
     match split_ascii(text) {
@@ -15,8 +13,6 @@ pub(crate) fn after_suffix(text: &str) -> &str {
     }
 }
 
-/// Returns `text` without the suffix of a literal at its start, or `text` itself if it doesn't begin with a suffix.
-/// [`after_suffix`] calls this function for texts whose first byte doesn't exclude a suffix.
 #[inline(never)]
 fn after_some_suffix(text: &str) -> &str {
     match split_char(text) {

@@ -8,8 +8,6 @@ use crate::rl_syntax::characters::is_id_start;
 use crate::rl_syntax::classes::skip_id_continue;
 use crate::rl_syntax::text::{begins_with_char, split_ascii, split_char, without_first_char};
 
-/// Returns `text` without the invalid quoted literal at its start, such as `'ab'` or `b'hello'`, or `None` if the
-/// literal has no end.
 #[inline(never)]
 pub(crate) fn after_bad_quote(text: &str) -> Option<&str> {
     match split_char(text) {
@@ -21,10 +19,6 @@ pub(crate) fn after_bad_quote(text: &str) -> Option<&str> {
     }
 }
 
-/// Returns the text after an invalid quoted literal without prefix, where `text` follows the opening apostrophe.
-///
-/// The literal is an identifier between apostrophes; or a digit and the identifier characters after it, with or without
-/// a closing apostrophe; or everything up to the next apostrophe.
 fn after_bare(text: &str) -> Option<&str> {
     let (c, following) = split_char(text)?;
     if c.is_ascii_digit() {
@@ -36,8 +30,6 @@ fn after_bare(text: &str) -> Option<&str> {
     after_other(text)
 }
 
-/// Returns the text after the closing apostrophe and the suffix of an invalid quoted literal, where `text` follows the
-/// opening apostrophe. Returns `None` if `text` begins with a backslash, or if the literal has no end.
 fn after_other(text: &str) -> Option<&str> {
     if begins_with_char(text, '\\') {
         return None;
@@ -46,8 +38,6 @@ fn after_other(text: &str) -> Option<&str> {
     Some(after_suffix(rest))
 }
 
-/// Returns the text after the next `'`, or `None` if a slash, the end of the text, or an LF without a `'` right after
-/// it comes first. A character after a backslash is skipped.
 fn after_next_quote(text: &str) -> Option<&str> {
     let mut rest = text;
     while let Some((c, following)) = split_char(rest) {
@@ -59,9 +49,6 @@ fn after_next_quote(text: &str) -> Option<&str> {
     None
 }
 
-/// Returns the text after one part of an invalid quoted literal, where `c` is the first character of the part, and the
-/// text `following` follows `c`. A backslash and the next character are one part. Returns `None` if the literal has no
-/// end: at a slash, and at an LF without a `'` right after it.
 fn after_part(c: char, following: &str) -> Option<&str> {
     if c == '\\' {
         let (_, more) = split_char(following)?;
@@ -73,7 +60,6 @@ fn after_part(c: char, following: &str) -> Option<&str> {
     Some(following)
 }
 
-/// Returns `text` without the `'` at its start, or `None` if `text` doesn't begin with `'`.
 fn after_closing(text: &str) -> Option<&str> {
     match split_char(text) {
         Some(('\'', following)) => Some(following),
@@ -81,7 +67,6 @@ fn after_closing(text: &str) -> Option<&str> {
     }
 }
 
-/// Returns `text` without the `'` at its start, or `text` itself if it doesn't begin with `'`.
 fn past_closing(text: &str) -> &str {
     match split_char(text) {
         Some(('\'', following)) => following,

@@ -10,12 +10,8 @@ use crate::rust_literals::Lit;
 use crate::rattle_std::alloc::Allocator;
 use crate::rattle_std::collections::BTreeSet;
 
-/// The set of the attribute names that have been parsed. The set is a balanced tree, so no choice of names makes the
-/// search slow.
 type Names<'a, A> = BTreeSet<Name<'a>, A>;
 
-/// Consumes the identifier at the start of `input` as an attribute's name, which must not be in `names` yet, and adds
-/// it to `names`.
 fn take_name<'a, A: Allocator + Copy>(
     input: &mut ParseBuffer<'a, A>,
     names: &mut Names<'a, A>,
@@ -30,8 +26,6 @@ fn take_name<'a, A: Allocator + Copy>(
     }
 }
 
-/// Consumes the attribute `name = literal` at the start of `input`, whose name must not be in `names` yet, and adds the
-/// name to `names`.
 fn take_entry<'a, A: Allocator + Copy>(
     alloc: A,
     input: &mut ParseBuffer<'a, A>,
@@ -48,8 +42,6 @@ fn take_entry<'a, A: Allocator + Copy>(
     })
 }
 
-/// Consumes the attribute `name = literal` at the start of `input`, and the comma after it. The comma may be missing at
-/// the end of the token trees. The name must not be in `names` yet, and is added to `names`.
 fn take_next<'a, A: Allocator + Copy>(
     alloc: A,
     input: &mut ParseBuffer<'a, A>,
@@ -58,8 +50,6 @@ fn take_next<'a, A: Allocator + Copy>(
     let entry = take_entry(alloc, input, names)?;
     if !input.is_empty() {
         if let Err(error) = input.take_punct(',') {
-            // The attribute is dropped by a function call, because dropping it in place would double the number of
-            // steps to prove.
             drop(entry);
             return Err(error);
         }
@@ -67,8 +57,6 @@ fn take_next<'a, A: Allocator + Copy>(
     Ok(entry)
 }
 
-/// Consumes all token trees of `input` as a list of attributes. On an error, attributes may have been consumed. An
-/// allocation failure is reported at the token tree for which memory was needed.
 fn take_all<A: Allocator + Copy>(
     alloc: A,
     input: &mut ParseBuffer<'_, A>,
@@ -78,8 +66,6 @@ fn take_all<A: Allocator + Copy>(
     while !input.is_empty() {
         let entry = take_next(alloc, input, &mut names)?;
         if let Err(failed) = entries.push(entry) {
-            // The attribute is dropped by a function call, because dropping it in place would double the number of
-            // steps to prove.
             drop(failed);
             return Err(Error::out_of_memory(input.span()));
         }
@@ -90,7 +76,6 @@ fn take_all<A: Allocator + Copy>(
     })
 }
 
-/// Returns `error`, with the span `place` if it is an allocation failure, and otherwise unchanged.
 fn with_memory_at<A: Allocator>(error: Error<A>, place: Span) -> Error<A> {
     match error.kind {
         ErrorKind::Memory => Error::out_of_memory(place),
@@ -98,15 +83,6 @@ fn with_memory_at<A: Allocator>(error: Error<A>, place: Span) -> Error<A> {
     }
 }
 
-/// Parses all token trees of a buffer as a list of attributes with commas between them. The list may be empty, and a
-/// comma may follow the last attribute. An attribute is an identifier, `=` and a literal.
-///
-/// # Errors
-///
-/// The token trees are parsed from left to right. The error names the first part that is missing: `identifier`,
-/// `` `=` ``, `literal`, or `` `,` ``. The error for a name that an earlier attribute has is `Repeated`, at the name,
-/// even if `=` doesn't follow the name. An allocation failure is reported at the first token tree of the buffer. On an
-/// error the buffer is unchanged.
 impl<A: Allocator + Copy> Parse<A> for Attrs<A> {
     fn parse(alloc: A, input: &mut ParseBuffer<'_, A>) -> Result<Attrs<A>, Error<A>> {
         let place = input.span();

@@ -11,7 +11,6 @@ use crate::rust_literals::Lit;
 use crate::rattle_std::alloc::{AllocError, Allocator};
 use crate::rattle_std::collections::BTreeSet;
 
-/// Returns the literal `next`, which was lexed from a text, as a parsed literal with a span in the file `file`.
 fn literal_of<A: Allocator + Copy>(
     alloc: A,
     next: NextLiteral<'_>,
@@ -31,7 +30,6 @@ fn literal_of<A: Allocator + Copy>(
     }
 }
 
-/// Returns the setting `next`, which was lexed from a text, as an attribute with spans in the file `file`.
 fn entry_of<A: Allocator + Copy>(
     alloc: A,
     next: NextSetting<'_>,
@@ -46,8 +44,6 @@ fn entry_of<A: Allocator + Copy>(
     })
 }
 
-/// Adds `name` to the set `names`, and returns `true`. The result is `false` if the set contains the name already, or
-/// if an allocation fails.
 fn add_name<'a, A: Allocator + Copy>(names: &mut BTreeSet<Name<'a>, A>, name: &'a str) -> bool {
     match names.insert(Name::new(name)) {
         Ok(true) => true,
@@ -55,7 +51,6 @@ fn add_name<'a, A: Allocator + Copy>(names: &mut BTreeSet<Name<'a>, A>, name: &'
     }
 }
 
-/// Returns the attributes of `text`, or `None` if the text isn't a list of attributes or an allocation fails.
 fn read_flat<A: Allocator + Copy>(alloc: A, text: &str, file: u32) -> Option<Attrs<A>> {
     let mut tokens = Tokens::new(text);
     let mut names = BTreeSet::new(alloc);
@@ -71,8 +66,6 @@ fn read_flat<A: Allocator + Copy>(alloc: A, text: &str, file: u32) -> Option<Att
             return None;
         };
         if let Err(failed) = entries.push(entry) {
-            // The attribute is dropped by a function call, because dropping it in place would double the number of
-            // steps to prove.
             drop(failed);
             return None;
         }
@@ -83,8 +76,6 @@ fn read_flat<A: Allocator + Copy>(alloc: A, text: &str, file: u32) -> Option<Att
     })
 }
 
-/// Parses the attributes of `text` from its token trees, and returns them or the error. An error of the lexer is
-/// reported before token trees are built.
 fn read_trees<A: Allocator + Copy>(alloc: A, text: &str, file: u32) -> Result<Attrs<A>, Error<A>> {
     match first_error(text) {
         Some(error) => {
@@ -95,14 +86,6 @@ fn read_trees<A: Allocator + Copy>(alloc: A, text: &str, file: u32) -> Result<At
     }
 }
 
-/// Parses `text` as a list of attributes `name = literal` with commas between them. Spans are `file` and byte ranges of
-/// the text.
-///
-/// # Errors
-///
-/// Returns the lexer's error as `Lex`, with an empty span at the error's byte offset. Returns `Memory` with an empty
-/// span if an allocation fails while the text is lexed. Otherwise returns the error of the parser of [`Attrs`], which
-/// runs with the empty span at the text's end as scope.
 pub fn read<A: Allocator + Copy>(alloc: A, text: &str, file: u32) -> Result<Attrs<A>, Error<A>> {
     match read_flat(alloc, text, file) {
         Some(attrs) => Ok(attrs),

@@ -9,11 +9,6 @@ use crate::rattle_std::fmt;
 use crate::rattle_std::hash::{Hash, Hasher};
 
 impl<A: Allocator> Lit<A> {
-    /// Returns a copy of the literal, in memory from `alloc`.
-    ///
-    /// # Errors
-    ///
-    /// Returns `Memory` at the literal's span if an allocation fails.
     pub fn clone<B: Allocator + Copy>(&self, alloc: B) -> Result<Lit<B>, Error<B>> {
         Ok(match self {
             Lit::Str(literal) => Lit::Str(literal.clone(alloc)?),
@@ -28,7 +23,6 @@ impl<A: Allocator> Lit<A> {
         })
     }
 
-    /// Returns the index of the literal's variant in `Lit`, counted from 0.
     fn variant(&self) -> u8 {
         match self.kind() {
             Some(kind) => kind as u8,
@@ -37,8 +31,6 @@ impl<A: Allocator> Lit<A> {
     }
 }
 
-/// Two literals are equal if their kinds and their texts as written are equal: `0xF` isn't equal to `15`, and `1f64` as
-/// an integer isn't equal to `1f64` as a float. Spans are ignored.
 impl<A: Allocator> PartialEq for Lit<A> {
     fn eq(&self, other: &Self) -> bool {
         self.variant() == other.variant() && self.text() == other.text()
@@ -48,7 +40,6 @@ impl<A: Allocator> PartialEq for Lit<A> {
 impl<A: Allocator> Eq for Lit<A> {
 }
 
-/// The hash of a literal depends on its kind and its text.
 impl<A: Allocator> Hash for Lit<A> {
     fn hash<H: Hasher>(&self, state: &mut H) {
         state.write_u8(self.variant());
@@ -56,15 +47,12 @@ impl<A: Allocator> Hash for Lit<A> {
     }
 }
 
-/// Writes the literal's text as written. A width in the format pads the text, as it pads a `str`.
 impl<A: Allocator> fmt::Display for Lit<A> {
     fn fmt(&self, f: &mut fmt::Formatter<'_>) -> fmt::Result {
         f.pad(self.text())
     }
 }
 
-/// Writes the debug output of the variant's own type, for example of `LitStr`. For `Verbatim` the output is the name
-/// `Verbatim`, and the token's text in braces.
 impl<A: Allocator> fmt::Debug for Lit<A> {
     fn fmt(&self, f: &mut fmt::Formatter<'_>) -> fmt::Result {
         let text = self.text();
@@ -79,8 +67,6 @@ impl<A: Allocator> fmt::Debug for Lit<A> {
     }
 }
 
-/// Appends a literal token with the text `text` and the span `span` to the stream `tokens`. If an allocation fails, the
-/// stream is unchanged, and the error is at the span.
 fn append_text<A: Allocator>(
     alloc: A,
     text: &str,
@@ -94,7 +80,6 @@ fn append_text<A: Allocator>(
     }
 }
 
-/// Appends the literal's token to a token stream. The token of a `bool` literal is the identifier `true` or `false`.
 impl<A: Allocator> ToTokens for Lit<A> {
     fn to_tokens<B: Allocator>(&self, alloc: B, tokens: &mut TokenStream<B>) -> Result<(), Error<B>> {
         match self {

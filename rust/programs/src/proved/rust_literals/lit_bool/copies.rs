@@ -8,11 +8,6 @@ use crate::rattle_std::fmt;
 use crate::rattle_std::hash::{Hash, Hasher};
 
 impl LitBool {
-    /// Returns a copy of the literal. Nothing is allocated, so the function never fails.
-    ///
-    /// # Errors
-    ///
-    /// Returns no error: the result is always `Ok`.
     pub fn clone<B: Allocator>(&self, _alloc: B) -> Result<LitBool, Error<B>> {
         Ok(LitBool {
             value: self.value,
@@ -21,7 +16,6 @@ impl LitBool {
     }
 }
 
-/// Two `bool` literals are equal if their values are equal. Spans are ignored.
 impl PartialEq for LitBool {
     fn eq(&self, other: &Self) -> bool {
         self.value == other.value
@@ -31,21 +25,18 @@ impl PartialEq for LitBool {
 impl Eq for LitBool {
 }
 
-/// The hash of a `bool` literal depends on its value only.
 impl Hash for LitBool {
     fn hash<H: Hasher>(&self, state: &mut H) {
         self.value.hash(state);
     }
 }
 
-/// Writes `true` or `false`. A width in the format pads the text, as it pads a `str`.
 impl fmt::Display for LitBool {
     fn fmt(&self, f: &mut fmt::Formatter<'_>) -> fmt::Result {
         f.pad(word(self.value))
     }
 }
 
-/// Writes the type's name, and the value in braces: `LitBool { value: true }`.
 impl fmt::Debug for LitBool {
     fn fmt(&self, f: &mut fmt::Formatter<'_>) -> fmt::Result {
         let word = word(self.value);
@@ -53,7 +44,6 @@ impl fmt::Debug for LitBool {
     }
 }
 
-/// Appends the identifier `true` or `false` to a token stream.
 impl ToTokens for LitBool {
     fn to_tokens<B: Allocator>(&self, alloc: B, tokens: &mut TokenStream<B>) -> Result<(), Error<B>> {
         append_ident(self.token(alloc)?, tokens)?;

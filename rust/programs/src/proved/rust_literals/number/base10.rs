@@ -8,8 +8,6 @@ use crate::rattle_std::alloc::Allocator;
 use crate::rattle_std::fmt::Display;
 use crate::rattle_std::str::FromStr;
 
-/// Returns an error at `span` whose message is that of a number type's own error, `error`. If an allocation fails for
-/// the message, the result is `Memory` at `span`.
 fn reported<F: Display, B: Allocator>(alloc: B, error: &F, span: Span) -> Error<B> {
     match format!(in alloc; "{error}") {
         Ok(words) => Error {
@@ -21,14 +19,6 @@ fn reported<F: Display, B: Allocator>(alloc: B, error: &F, span: Span) -> Error<
 }
 
 impl<K: NumberKind, A: Allocator> Number<K, A> {
-    /// Converts the number to a value of the type `N`: `N::from_str` parses the number's digits in base ten. `0xFF` as
-    /// a `u8` is 255.
-    ///
-    /// # Errors
-    ///
-    /// Returns the error of `N::from_str` at the number's span, as `ErrorKind::Number` with the error's own message. If
-    /// an allocation fails for the message, the result is `Memory` at the number's span. If the error can't be
-    /// displayed, the result is an error at that span too.
     pub fn base10_parse<N: FromStr, B: Allocator>(&self, alloc: B) -> Result<N, Error<B>>
     where
         N::Err: Display + Drop, {

@@ -9,7 +9,6 @@ use crate::rattle_std::fmt;
 use crate::rattle_std::hash::{Hash, Hasher};
 use crate::rattle_std::marker::PhantomData;
 
-/// Returns a copy of the string in `text`, or `None` if `text` is `None`.
 fn copy_of<A: Allocator, B: Allocator>(
     alloc: B,
     text: &Option<String<A>>,
@@ -21,21 +20,10 @@ fn copy_of<A: Allocator, B: Allocator>(
 }
 
 impl<K: NumberKind, A: Allocator> Number<K, A> {
-    /// Returns a new literal token with the number's text and span.
-    ///
-    /// # Errors
-    ///
-    /// Returns `Memory` at the number's span if an allocation fails.
     pub fn token<B: Allocator>(&self, alloc: B) -> Result<Literal<B>, Error<B>> {
         self.token.clone(alloc)
     }
 
-    /// Returns a copy of the number, in memory from `alloc`. Memory is needed for the token, and for the digits in base
-    /// ten unless they are borrowed from the token's text.
-    ///
-    /// # Errors
-    ///
-    /// Returns `Memory` at the literal's span if an allocation fails.
     pub fn clone<B: Allocator + Copy>(&self, alloc: B) -> Result<Number<K, B>, Error<B>> {
         let token = match self.token.clone(alloc) {
             Ok(token) => token,
@@ -53,8 +41,6 @@ impl<K: NumberKind, A: Allocator> Number<K, A> {
     }
 }
 
-/// Two number literals are equal if their texts as written are equal: `0xF` isn't equal to `15`, and `1.0` isn't equal
-/// to `1.00`. Spans are ignored.
 impl<K: NumberKind, A: Allocator> PartialEq for Number<K, A> {
     fn eq(&self, other: &Self) -> bool {
         self.token.text() == other.token.text()
@@ -64,14 +50,12 @@ impl<K: NumberKind, A: Allocator> PartialEq for Number<K, A> {
 impl<K: NumberKind, A: Allocator> Eq for Number<K, A> {
 }
 
-/// The hash of a number depends on its text only.
 impl<K: NumberKind, A: Allocator> Hash for Number<K, A> {
     fn hash<H: Hasher>(&self, state: &mut H) {
         self.token.text().hash(state);
     }
 }
 
-/// Writes the type's name, and the number's text in braces, as in `LitInt { token: 1 }`.
 impl<K: NumberKind, A: Allocator> fmt::Debug for Number<K, A> {
     fn fmt(&self, f: &mut fmt::Formatter<'_>) -> fmt::Result {
         let name = K::KIND.struct_name();
@@ -80,7 +64,6 @@ impl<K: NumberKind, A: Allocator> fmt::Debug for Number<K, A> {
     }
 }
 
-/// Appends the number's token to a token stream.
 impl<K: NumberKind, A: Allocator> ToTokens for Number<K, A> {
     fn to_tokens<B: Allocator>(&self, alloc: B, tokens: &mut TokenStream<B>) -> Result<(), Error<B>> {
         append_literal(alloc, &self.token, tokens)
