@@ -170,10 +170,10 @@ continue_from text after value m =
 
 -- ---- units of each kind
 
-abbrev Fits : Kind → QuotedUnit → List ℕ → Type 0
+abbrev pub Fits : Kind → QuotedUnit → List ℕ → Type 0
 Fits kind u after = IsUnit kind u × EndsBefore u after
 
-abbrev UnitRule : Kind → Rule → Type 0
+abbrev pub UnitRule : Kind → Rule → Type 0
 UnitRule kind a = IsRuleOf a unit_text (unit_value kind) (Fits kind)
 
 abbrev Found : Kind → List ℕ → List ℕ → List ℕ → Type 0
@@ -237,7 +237,7 @@ byte_unit = record { to = to; from = from }
           | inr (l, t, v) ↦ (Named l, (refl, tt), t, v)
         ]
 
-str_unit : UnitRule Str str_inside
+pub str_unit : UnitRule Str str_inside
 str_unit = record { to = to; from = from }
   where
     to : (u : QuotedUnit) (after : List ℕ) → Fits Str u after → Means str_inside (unit_text u) after (unit_value Str u)
@@ -264,7 +264,7 @@ str_unit = record { to = to; from = from }
         let (end, run, ending, each, e, t, v) = continue_from text after value m in
         (Continuation end run, ((refl, ending, each), e), t, v)
 
-byte_str_unit : UnitRule ByteStr byte_str_inside
+pub byte_str_unit : UnitRule ByteStr byte_str_inside
 byte_str_unit = record { to = to; from = from }
   where
     to : (u : QuotedUnit) (after : List ℕ) → Fits ByteStr u after → Means byte_str_inside (unit_text u) after (unit_value ByteStr u)
@@ -303,7 +303,7 @@ with_true : (a b : Bool) → a ≡ true → (a && (true || b)) ≡ true
 with_true true b h = refl
 with_true false b h = h
 
-c_str_unit : UnitRule CStr c_str_inside
+pub c_str_unit : UnitRule CStr c_str_inside
 c_str_unit = record { to = to; from = from }
   where
     to : (u : QuotedUnit) (after : List ℕ) → Fits CStr u after → Means c_str_inside (unit_text u) after (unit_value CStr u)
@@ -391,15 +391,19 @@ of_row kind (u ∷ us) after ((is_unit, e), row) =
     let (each, ends) = of_row kind us after row in
     ((is_unit, each), (ends_cut u (texts us) after e, ends))
 
+-- The units of a string before its quote and any text have the string's value.
+pub inside_to : (kind : Kind) (a : Rule) → UnitRule kind a → (text value x : List ℕ) (s : Cooked kind text value x) (after : List ℕ)
+    → Means (Many a) (texts s.units) (34 ∷ after) value
+inside_to kind a rule text value x s after =
+    subst (λ v. Means (Many a) (texts s.units) (34 ∷ after) v) (sym s.value_is)
+    (many_to a unit_text (unit_value kind) (Fits kind) rule s.units (34 ∷ after) (row_of kind s.units (34 ∷ after) refl s.each s.ends))
+
 cooked_rule : (kind : Kind) (a : Rule) → UnitRule kind a → is_string kind ≡ true → (text value x : List ℕ)
     → Cooked kind text value x ↔ Framed (frame kind (Many a) 34) text value x
 cooked_rule kind a rule string text value x = (to, from)
   where
     to : Cooked kind text value x → Framed (frame kind (Many a) 34) text value x
-    to s =
-        subst (λ v. Framed (frame kind (Many a) 34) text v x) (sym s.value_is)
-        (framed kind (Many a) 34 text (texts s.units) (values kind s.units) x s.text_is
-        (many_to a unit_text (unit_value kind) (Fits kind) rule s.units (34 ∷ x) (row_of kind s.units (34 ∷ x) refl s.each s.ends)))
+    to s = framed kind (Many a) 34 text (texts s.units) value x s.text_is (inside_to kind a rule text value x s x)
 
     from : Framed (frame kind (Many a) 34) text value x → Cooked kind text value x
     from f =

@@ -10,6 +10,7 @@ use Rattle.rl_syntax.specs.declared.kind.Kind.{Kind}
 use Rattle.rl_syntax.specs.declared.kind.Kind.TheVariants.{Str, ByteStr, CStr, Byte, Char, Int, Float, Bool as BoolKind}
 use Rattle.rl_syntax.specs.Spelling.{place_value}
 use Rattle.rl_syntax.specs.Reading.{Contents, Digits, Truth, quoted_contents}
+use Rattle.rl_syntax.specs.Readings.{Reading}
 use Rattle.rl_syntax.specs.Strict.{Strict, dec}
 use Rattle.rl_theorem.specs.Notation.{Rule, Text, One, Many, As, If, Some, Unless, ◌⋅◌, ◌∣◌, Means, maybe, any_of, but, end, ◌is◌, skip}
 
@@ -229,12 +230,12 @@ pub record IsLiteralBy (rule tail : Rule) (kind : Kind) (text : List ℕ) (conte
   pub is_suffix : (v : List ℕ) × Means tail suffix_text [] v
   pub contents_is : contents ≡ as_contents kind value
 
--- By the rules of the Reference, the text is a literal of the kind, with the given value and suffix.
-abbrev pub IsLiteral : List ℕ → Kind → Contents → List ℕ → Type 0
-IsLiteral text kind contents suffix_text = IsLiteralBy (literal kind) (maybe suffix) kind text contents suffix_text
+-- By Rust's grammar, which is the rules of the Reference, the text is a literal with the parse result.
+abbrev pub IsLiteral : List ℕ → Reading → Type 0
+IsLiteral text r = IsLiteralBy (literal r.kind) (maybe suffix) r.kind text r.contents r.suffix
 
 -- Rust's grammar is the rules of the Reference.
 abbrev pub StrictIsByTheRules : Type 0
 StrictIsByTheRules =
     (text : List ℕ) (kind : Kind) (contents : Contents) (suffix_text : List ℕ)
-    → Strict text kind contents suffix_text ↔ IsLiteral text kind contents suffix_text
+    → Strict text kind contents suffix_text ↔ IsLiteral text (record { kind = kind; contents = contents; suffix = suffix_text })

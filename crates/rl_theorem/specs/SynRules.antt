@@ -10,6 +10,7 @@ use Rattle.rl_syntax.specs.declared.kind.Kind.TheVariants.{Str, ByteStr, CStr, B
 use Rattle.rl_syntax.specs.Spelling.{place_value}
 use Rattle.rl_syntax.specs.Numbers.{limit}
 use Rattle.rl_syntax.specs.Reading.{Contents, Reads}
+use Rattle.rl_syntax.specs.Readings.{Reading}
 use Rattle.rl_theorem.specs.Notation.{Rule, Text, One, Many, As, If, Some, Unless, ◌⋅◌, ◌∣◌, maybe, any_of, but, end, ◌is◌, skip}
 use Rattle.rl_theorem.specs.RustRules.{identifier_or_keyword, digit, digits, some_digits, byte_escape, not_nul, ascii_for_char, ascii_for_string, dec_literal, bin_literal, oct_literal, hex_literal, number, no_prefix, boolean_literal, IsLiteralBy}
 
@@ -146,13 +147,12 @@ syn_suffix Int = number_suffix
 syn_suffix Float = number_suffix
 syn_suffix kind = Many (One (λ c. true))
 
--- By the rules of `syn`, the text is a literal of the kind, with the given value and suffix.
-abbrev pub IsSynLiteral : List ℕ → Kind → Contents → List ℕ → Type 0
-IsSynLiteral text kind contents suffix_text =
-    IsLiteralBy (syn_literal kind) (syn_suffix kind) kind text contents suffix_text
+-- By `syn`'s grammar, which is these rules, the text is a literal with the parse result.
+abbrev pub IsSynLiteral : List ℕ → Reading → Type 0
+IsSynLiteral text r = IsLiteralBy (syn_literal r.kind) (syn_suffix r.kind) r.kind text r.contents r.suffix
 
 -- `syn`'s grammar is the rules of `syn`.
 abbrev pub ReadsIsByTheRules : Type 0
 ReadsIsByTheRules =
     (text : List ℕ) (kind : Kind) (contents : Contents) (suffix_text : List ℕ)
-    → Reads text kind contents suffix_text ↔ IsSynLiteral text kind contents suffix_text
+    → Reads text kind contents suffix_text ↔ IsSynLiteral text (record { kind = kind; contents = contents; suffix = suffix_text })
