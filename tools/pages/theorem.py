@@ -151,7 +151,8 @@ def page():
         for it in found:
             if group_of(it.path) == title:
                 mark = '//' if it.path.endswith('.rt') else '--'
-                rows += [''] * bool(rows) + [f'{mark} {it.path.removeprefix("crates/")}:'] * (it.path != last)
+                if it.path != last:
+                    rows += [''] * bool(rows) + [f'{mark} {it.path.removeprefix("crates/")}:']
                 rows += [re.sub(r'(?m)^(infixr? .*|abbrev pub [\w◌⋅∣]+ : [^\n]*Rule)\n', '', it.text)]
                 last = it.path
     parts['Names of the standard library'] = [f'{module}: {", ".join(sorted(those))}' for module, those in sorted(standard.items())]

@@ -1,5 +1,5 @@
 -- Lemmas of the theorem: what a literal's accessors return is the literal's parse result.
-use Rattle.std.proofs.Common.{◌≡◌, inl, inr, ℕ, ◌+◌, List, [], ◌∷◌, Option, Some, None, refl, sym, ◌∙◌, ap, subst}
+use Rattle.std.proofs.Common.{◌≡◌, inl, inr, ℕ, ◌+◌, List, [], ◌∷◌, ◌++◌, Option, Some, None, refl, sym, ◌∙◌, ap, subst}
 use Rattle.std.specs.Prelude.{Result, Ok, Err, Vec}
 use Rattle.std.specs.Str.{chars}
 use Rattle.rl_syntax.specs.declared.kind.Kind.{Kind}
@@ -8,7 +8,8 @@ use Rattle.rl_syntax.specs.Texts.{SpannedText, byte_len}
 use Rattle.rl_syntax.specs.Numbers.{float_digits}
 use Rattle.rl_syntax.specs.Reading.{Contents, Digits, Reads, HasContents, IsReadAs}
 use Rattle.rl_syntax.specs.Readings.{Reading, IsTheReading}
-use Rattle.rl_syntax.specs.Written.{IsWrittenForm}
+use Rattle.rl_syntax.specs.Quoted.{opener}
+use Rattle.rl_syntax.specs.Written.{IsWrittenForm, closer}
 use Rattle.rl_syntax.specs.declared.span.Span.{Span}
 use Rattle.rl_syntax.specs.Printed.{Entry, item_text}
 use Rattle.rl_tokens.specs.declared.error.Error.{Error}
@@ -21,6 +22,7 @@ use Rattle.rl_theorem.specs.Headline.{HoldsReading, HoldsItsReading, Writes, pla
 use Rattle.rl_theorem.specs.Printed.{Item, IsItemAt, HoldItems}
 use Rattle.rl_theorem.proofs.ByTheRules.{strict_by, by_reads, reads_by, the_only}
 use Rattle.rl_theorem.proofs.PrintedItems.{IsEntryOf, AreEntries}
+use Rattle.rl_theorem.proofs.WrittenTexts.{characters_text}
 
 -- ---- `parsed`
 
@@ -122,7 +124,7 @@ lit_suffix lit x r has holds = go (kind_of lit) has holds.kind
 
 pub writes : (k : Kind) (v t : List ℕ) → IsWrittenForm k v t → Writes k v t
 writes k v t is = record {
-  text_is = is.text_is;
+  text_is = is.text_is ∙ ap (λ t. opener k ++ (t ++ (closer k ∷ []))) (characters_text k v);
   strict = strict_by t (plain_reading k v) is.strict;
   reads = reads_by t (plain_reading k v) is.reads;
 }

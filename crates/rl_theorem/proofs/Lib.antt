@@ -12,5 +12,7 @@ mod SynNumberRules
 mod SynLaw
 mod ByTheRules
 mod PrintedItems
+mod WrittenTexts
 mod HeadlineLemmas
+mod ValueLemmas
 mod StepLemmas

@@ -1,11 +1,14 @@
 -- The theorem of the libraries, as properties of what their calls return. A parse result has a kind, a value and a
 -- suffix.
-use Rattle.std.specs.Prelude.{◌≡◌, ◌⊎◌, ℕ, List, [], ◌∷◌, Option, Some, None, string_bytes}
+use Rattle.std.specs.Prelude.{◌≡◌, ◌⊎◌, ℕ, ◌==◌, ◌/◌, ◌%◌, List, [], ◌∷◌, ◌++◌, Option, Some, None, codes, string_bytes, if◌then◌else◌}
+use Rattle.std.specs.List.{flat_map}
 use Rattle.std.specs.Str.{chars}
+use Prim.Native.Char.{code}
 use Rattle.rl_syntax.specs.declared.kind.Kind.{Kind}
 use Rattle.rl_syntax.specs.Reading.{Contents, Characters, Bytes, Digits, Truth, quoted_contents}
 use Rattle.rl_syntax.specs.Readings.{Reading}
-use Rattle.rl_syntax.specs.Written.{written_text}
+use Rattle.rl_syntax.specs.Quoted.{opener}
+use Rattle.rl_syntax.specs.Written.{closer, is_written_as_number, upper_digit}
 use Rattle.rust_literals.specs.declared.lit.Lit.{Lit}
 use Rattle.rust_literals.specs.Literals.{kind_of, token_of}
 use Rattle.rl_theorem.specs.declared.Value.{Value}
@@ -53,9 +56,26 @@ abbrev pub plain_reading : Kind → List ℕ → Reading
 plain_reading kind value =
     record { kind = kind; contents = quoted_contents kind value; suffix = [] }
 
+-- The text that is written for a character or byte of a literal of the kind: itself, or an escape. Characters below the
+-- space, DEL, and in literals of bytes the bytes above 127 are written as `\x7F`, unless they have a shorter escape.
+abbrev pub escaped : Kind → ℕ → List ℕ
+escaped kind c =
+    if c == 0 then codes "\\0" else
+    (if c == code "\t" then codes "\\t" else
+    (if c == code "\n" then codes "\\n" else
+    (if c == code "\r" then codes "\\r" else
+    (if c == code "\\" then codes "\\\\" else
+    (if c == closer kind then code "\\" ∷ closer kind ∷ [] else
+    (if is_written_as_number kind c then code "\\" ∷ code "x" ∷ upper_digit (c / 16) ∷ upper_digit (c % 16) ∷ []
+    else c ∷ []))))))
+
+-- The literal that is written for a value: its characters or bytes between quotes.
+abbrev pub written_literal : Kind → List ℕ → List ℕ
+written_literal kind value = opener kind ++ (flat_map (escaped kind) value ++ (closer kind ∷ []))
+
 -- The text is the literal that is written for a value. By both grammars, it is a literal with this value and no suffix. By
 -- `syn`'s grammar it has no other parse result.
 pub record Writes (kind : Kind) (value text : List ℕ) : Type 0 where
-  pub text_is : text ≡ written_text kind value
+  pub text_is : text ≡ written_literal kind value
   pub strict : IsLiteral text (plain_reading kind value)
   pub reads : HasReading text (plain_reading kind value)

@@ -40,58 +40,65 @@ line_continue =
 
 -- ---- quoted literals
 
--- `parse_lit_char`: between single quotes, a character other than `\`, or an escape. `\x` represents an ASCII character.
+-- Between the quotes of a character: a character other than `\`, or an escape. `\x` represents an ASCII character.
 abbrev pub char_inside : Rule
 char_inside = One (but (codes "\\")) ∣ ascii_only byte_escape ∣ backslash_u
 
+-- `parse_lit_char`: one of these between single quotes.
 abbrev pub parse_lit_char : Rule
 parse_lit_char = Text (codes "'") ⋅ char_inside ⋅ Text (codes "'")
 
--- `parse_lit_byte`: `b`, and between single quotes ASCII_FOR_CHAR or an escape.
+-- Between the quotes of a byte: ASCII_FOR_CHAR, or an escape.
 abbrev pub byte_inside : Rule
 byte_inside = ascii_for_char ∣ byte_escape
 
+-- `parse_lit_byte`: `b`, and one of these between single quotes.
 abbrev pub parse_lit_byte : Rule
 parse_lit_byte = Text (codes "b'") ⋅ byte_inside ⋅ Text (codes "'")
 
--- `parse_lit_str_cooked`: between double quotes, any number of characters other than `"`, `\` and CR, of CR LF, and of
--- escapes.
+-- Between the quotes of a string: a character other than `"`, `\` and CR, or CR LF, or an escape.
 abbrev pub str_inside : Rule
 str_inside = One (but (codes "\"\\\r")) ∣ cr_lf ∣ ascii_only byte_escape ∣ backslash_u ∣ line_continue
 
+-- `parse_lit_str_cooked`: any number of these between double quotes.
 abbrev pub parse_lit_str_cooked : Rule
 parse_lit_str_cooked = Text (codes "\"") ⋅ Many str_inside ⋅ Text (codes "\"")
 
--- `parse_lit_byte_str_cooked`: the same after `b`, where characters are ASCII. There is no escape `\u{..}`.
+-- Between the quotes of a byte string: as in a string, but characters are ASCII, and there is no escape `\u{..}`.
 abbrev pub byte_str_inside : Rule
 byte_str_inside = ascii_for_string ∣ cr_lf ∣ byte_escape ∣ line_continue
 
+-- `parse_lit_byte_str_cooked`: `b`, and any number of these between double quotes.
 abbrev pub parse_lit_byte_str_cooked : Rule
 parse_lit_byte_str_cooked = Text (codes "b\"") ⋅ Many byte_str_inside ⋅ Text (codes "\"")
 
--- `parse_lit_c_str_cooked`: the same after `c`, without NUL. The value is bytes.
+-- Between the quotes of a C string: as in a string, but without NUL, and `\x` may be any other byte. The value is bytes.
 abbrev pub c_str_inside : Rule
 c_str_inside =
     As encode_utf8_all (One (λ c. but (codes "\"\\\r") c && not (c == 0))) ∣ cr_lf ∣ not_nul byte_escape
     ∣ As encode_utf8_all (not_nul backslash_u) ∣ line_continue
 
+-- `parse_lit_c_str_cooked`: `c`, and any number of these between double quotes.
 abbrev pub parse_lit_c_str_cooked : Rule
 parse_lit_c_str_cooked = Text (codes "c\"") ⋅ Many c_str_inside ⋅ Text (codes "\"")
 
--- `parse_lit_str_raw`, `parse_lit_byte_str_raw`, `parse_lit_c_str_raw`: the prefix, any number of hashes and `"`, characters
--- that pass the test, and `"` with as many hashes. The closing quote is the last `"` of the whole text.
+-- A raw string: the prefix, any number of hashes and `"`, characters that pass the test, and `"` with as many hashes. The
+-- closing quote is the last `"` of the whole text.
 abbrev pub raw_to_last : List ℕ → (ℕ → Bool) → Rule
 raw_to_last prefix test =
     Some (λ hashes. (Text (prefix ++ replicate hashes (code "#") ++ codes "\"") ⋅ Many (One test)
     ⋅ Text (code "\"" ∷ replicate hashes (code "#")))
     ⋅ Unless (Many (One (λ c. true)) ⋅ Text (codes "\"")))
 
+-- `parse_lit_str_raw`: `r`, and any characters.
 abbrev pub parse_lit_str_raw : Rule
 parse_lit_str_raw = raw_to_last (codes "r") (λ c. true)
 
+-- `parse_lit_byte_str_raw`: `br`, and ASCII characters.
 abbrev pub parse_lit_byte_str_raw : Rule
 parse_lit_byte_str_raw = raw_to_last (codes "br") is_ascii
 
+-- `parse_lit_c_str_raw`: `cr`, and characters other than NUL. The value is bytes.
 abbrev pub parse_lit_c_str_raw : Rule
 parse_lit_c_str_raw = As encode_utf8_all (raw_to_last (codes "cr") (λ c. not (c == 0)))
 
@@ -130,7 +137,8 @@ parse_lit_float =
 
 -- ---- all literals
 
--- An integer is within 128 bits. A number is a float only if it isn't an integer of any size.
+-- The rules of each kind of literals, without the suffix. An integer is within 128 bits. A number is a float only if it
+-- isn't an integer of any size.
 abbrev pub syn_literal : Kind → Rule
 syn_literal Str = parse_lit_str_cooked ∣ parse_lit_str_raw
 syn_literal ByteStr = parse_lit_byte_str_cooked ∣ parse_lit_byte_str_raw

@@ -1,5 +1,5 @@
-//! The theorem of the libraries, as contracts of small functions that call them. `specs/Headline.antt` and
-//! `specs/Lists.antt` have the definitions that the contracts use.
+//! The theorem of the libraries, as contracts of small functions that call them. The contracts use the rules of both
+//! grammars, and the definitions of `specs/`.
 //!
 //! - [`parsed`], [`value_of`], [`suffix_of`]: a token is parsed as its one parse result, which the accessors return.
 //! - [`written_string`] and the like: the literal written for a value is strict, and is parsed as the value.
@@ -188,7 +188,7 @@ pub fn both_ways<'t, A: Allocator + Copy>(
     file: u32,
     n: usize,
 ) -> Result<(Vec<Lit<A>, A>, ListStep<'t>), Error<A>>
-    // If the text is a printed list of literals, both ways return the same literals.
+    // If the text is a printed list of literals, both ways return the same item of the list.
     ensures same { (items : List Item) (last : List ℕ) → Printed (chars text.now) items last
         → IfOk result (λ both. IsAlsoAt file both.0.items n both.1) }
 {
