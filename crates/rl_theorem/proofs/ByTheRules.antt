@@ -6,7 +6,7 @@ use Rattle.rl_syntax.specs.Strict.{Strict}
 use Rattle.rl_syntax.proofs.ReadingRecords.{one_is, the_reading}
 use Rattle.rl_theorem.specs.RustRules.{IsLiteral}
 use Rattle.rl_theorem.specs.SynRules.{IsSynLiteral}
-use Rattle.rl_theorem.specs.Headline.{HasReading}
+use Rattle.rl_theorem.specs.Headline.{HasTheReading}
 use Rattle.rl_theorem.proofs.RustLaw.{strict_is_by_the_rules}
 use Rattle.rl_theorem.proofs.SynLaw.{reads_is_by_the_rules}
 
@@ -20,11 +20,11 @@ pub by_reads : (t : List ℕ) (r : Reading) → IsSynLiteral t r → Reads t r.k
 by_reads t r l = (reads_is_by_the_rules t r.kind r.contents r.suffix).1 l
 
 -- A parse result is the only one.
-pub reads_by : (t : List ℕ) (r : Reading) → Reads t r.kind r.contents r.suffix → HasReading t r
+pub reads_by : (t : List ℕ) (r : Reading) → Reads t r.kind r.contents r.suffix → HasTheReading t r
 reads_by t r reads = record {
   is = (reads_is_by_the_rules t r.kind r.contents r.suffix).0 reads;
   only = λ s l. one_is t s r (record { reads = by_reads t s l }) (record { reads = reads });
 }
 
-pub the_only : (t : List ℕ) (r : Reading) → HasReading t r → IsTheReading t r
+pub the_only : (t : List ℕ) (r : Reading) → HasTheReading t r → IsTheReading t r
 the_only t r has = the_reading t r (by_reads t r has.is)

@@ -19,7 +19,7 @@ use Rattle.rust_literals.specs.LitParts.{HasLitSuffix, IsSuffixAs}
 use Rattle.rust_literals.specs.Held.{HasDigits}
 use Rattle.rust_literals.specs.ReadBack.{HoldsOrMemory, IsItemRead, AreItems as AreItemsRead}
 use Rattle.rl_theorem.specs.Headline.{HoldsReading, HoldsItsReading, Writes, plain_reading}
-use Rattle.rl_theorem.specs.Printed.{Item, IsItemAt, HoldItems}
+use Rattle.rl_theorem.specs.Printed.{ListItem, IsItemAt, HoldItems}
 use Rattle.rl_theorem.proofs.ByTheRules.{strict_by, by_reads, reads_by, the_only}
 use Rattle.rl_theorem.proofs.PrintedItems.{IsEntryOf, AreEntries}
 use Rattle.rl_theorem.proofs.WrittenTexts.{characters_text}
@@ -131,7 +131,7 @@ writes k v t is = record {
 
 -- ---- the items of a printed list
 
-item_at : {A : Type 0} (file at : ℕ) (i : Item) (e : Entry) (lit : Lit A) → IsEntryOf i e
+item_at : {A : Type 0} (file at : ℕ) (i : ListItem) (e : Entry) (lit : Lit A) → IsEntryOf i e
     → IsItemRead file at e.item lit → IsItemAt file at i lit
 item_at file at i e lit is h =
     let (kind_is, reads) = h.is_of_kind i.reading.kind i.reading.contents i.reading.suffix is.of in
@@ -143,15 +143,15 @@ item_at file at i e lit is h =
     }
 
 -- The byte offsets of an entry and of the next one are those of its item and of the next one.
-pub at_gap : (at : ℕ) (i : Item) (e : Entry) → IsEntryOf i e → at + byte_len e.gap ≡ at + byte_len i.gap
+pub at_gap : (at : ℕ) (i : ListItem) (e : Entry) → IsEntryOf i e → at + byte_len e.gap ≡ at + byte_len i.gap
 at_gap at i e is = ap (λ g. at + byte_len g) is.gap
 
-pub at_next : (at : ℕ) (i : Item) (e : Entry) → IsEntryOf i e
+pub at_next : (at : ℕ) (i : ListItem) (e : Entry) → IsEntryOf i e
     → at + byte_len e.gap + byte_len (item_text e.item) ≡ at + byte_len i.gap + byte_len i.text
 at_next at i e is =
     ap (λ g. at + byte_len g + byte_len (item_text e.item)) is.gap ∙ ap (λ t. at + byte_len i.gap + byte_len t) is.text
 
-items_at : {A : Type 0} (file at : ℕ) (items : List Item) (es : List Entry) (lits : List (Lit A)) → AreEntries items es
+items_at : {A : Type 0} (file at : ℕ) (items : List ListItem) (es : List Entry) (lits : List (Lit A)) → AreEntries items es
     → AreItemsRead file at es lits → HoldItems file at items lits
 items_at file at [] [] lits are read = read
 items_at file at [] (e ∷ es) lits are read = absurd are
@@ -163,7 +163,7 @@ items_at file at (i ∷ items) (e ∷ es) (l ∷ ls) (is, are) (here, read) = (
   (items_at file (at + byte_len e.gap + byte_len (item_text e.item)) items es ls are read),
 )
 
-pub items_answer : {A B : Type 0} (file : ℕ) (items : List Item) (es : List Entry) (r : Result (Vec (Lit A) B) (Error A))
+pub items_answer : {A B : Type 0} (file : ℕ) (items : List ListItem) (es : List Entry) (r : Result (Vec (Lit A) B) (Error A))
     → AreEntries items es → HoldsOrMemory (AreItemsRead file 0 es) r → HoldsOrMemory (HoldItems file 0 items) r
 items_answer file items es (Ok found) are read = items_at file 0 items es found.items are read
 items_answer file items es (Err e) are same = same

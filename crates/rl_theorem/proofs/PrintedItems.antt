@@ -11,7 +11,7 @@ use Rattle.rl_syntax.specs.Readings.{Reading}
 use Rattle.rl_syntax.specs.Strict.{Strict}
 use Rattle.rl_syntax.specs.Printed.{Item as OldItem, WordItem, LiteralItem, MinusItem, Entry, item_text, IsStrictItem, IsItemOf, IsApart as IsApartEntry, printed_text as text_of, Printed as PrintedEntries}
 use Rattle.rl_theorem.specs.RustRules.{IsLiteral}
-use Rattle.rl_theorem.specs.Printed.{Item, IsNegative, IsItem, IsApart, printed_text, Printed}
+use Rattle.rl_theorem.specs.Printed.{ListItem, IsNegative, IsListItem, IsSeparated, list_text, PrintedList}
 use Rattle.rl_theorem.proofs.ByTheRules.{by_strict, by_reads}
 use Rattle.rl_theorem.proofs.TruthRule.{strict_truth}
 
@@ -56,43 +56,43 @@ old_item t r (inr n) reads =
     }
 
 -- The entry has the item's separator, text and parse result.
-pub record IsEntryOf (i : Item) (e : Entry) : Type 0 where
+pub record IsEntryOf (i : ListItem) (e : Entry) : Type 0 where
   pub gap : e.gap ≡ i.gap
   pub text : item_text e.item ≡ i.text
   pub of : IsItemOf i.reading.kind i.reading.contents i.reading.suffix e.item
   pub trivia : IsTrivia e.gap
   pub strict : IsStrictItem e.item
 
-abbrev pub AreEntries : List Item → List Entry → Type 0
+abbrev pub AreEntries : List ListItem → List Entry → Type 0
 AreEntries [] [] = ⊤
 AreEntries [] (e ∷ es) = ⊥
 AreEntries (i ∷ items) [] = ⊥
 AreEntries (i ∷ items) (e ∷ es) = IsEntryOf i e × AreEntries items es
 
-entries_of : (items : List Item) → AllByRecursion IsItem items → (es : List Entry) × AreEntries items es
+entries_of : (items : List ListItem) → AllByRecursion IsListItem items → (es : List Entry) × AreEntries items es
 entries_of [] each = ([], tt)
 entries_of (i ∷ items) each =
     let o = old_item i.text i.reading each.0.strict (by_reads i.text i.reading each.0.syn) in
     let (es, are) = entries_of items each.1 in
     (record { gap = i.gap; item = o.item } ∷ es, (record { gap = refl; text = o.text; of = o.of; trivia = each.0.gap; strict = o.strict }, are))
 
-text_same : (items : List Item) (es : List Entry) (last : List ℕ) → AreEntries items es → printed_text items last ≡ text_of es last
+text_same : (items : List ListItem) (es : List Entry) (last : List ℕ) → AreEntries items es → list_text items last ≡ text_of es last
 text_same [] [] last are = refl
 text_same [] (e ∷ es) last are = absurd are
 text_same (i ∷ items) [] last are = absurd are
 text_same (i ∷ items) (e ∷ es) last (h, are) =
-    ap (λ g. g ++ (i.text ++ printed_text items last)) (sym h.gap)
-    ∙ ap (λ t. e.gap ++ (t ++ printed_text items last)) (sym h.text)
+    ap (λ g. g ++ (i.text ++ list_text items last)) (sym h.gap)
+    ∙ ap (λ t. e.gap ++ (t ++ list_text items last)) (sym h.text)
     ∙ ap (λ t. e.gap ++ (item_text e.item ++ t)) (text_same items es last are)
 
-each_same : (items : List Item) (es : List Entry) → AreEntries items es
+each_same : (items : List ListItem) (es : List Entry) → AreEntries items es
     → AllByRecursion (λ (e : Entry). IsTrivia e.gap × IsStrictItem e.item) es
 each_same [] [] are = tt
 each_same [] (e ∷ es) are = absurd are
 each_same (i ∷ items) [] are = absurd are
 each_same (i ∷ items) (e ∷ es) (h, are) = ((h.trivia, h.strict), each_same items es are)
 
-apart_same : (items : List Item) (es : List Entry) → AreEntries items es → AllByRecursion IsApart items → AllByRecursion IsApartEntry es
+apart_same : (items : List ListItem) (es : List Entry) → AreEntries items es → AllByRecursion IsSeparated items → AllByRecursion IsApartEntry es
 apart_same [] [] are apart = tt
 apart_same [] (e ∷ es) are apart = absurd are
 apart_same (i ∷ items) [] are apart = absurd are
@@ -102,7 +102,7 @@ apart_same (i ∷ items) (e ∷ es) (h, are) (here, more) = (
   apart_same items es are more,
 )
 
-all_apart : (items : List Item) (es : List Entry) → AreEntries items es → AllByRecursion IsApart (drop 1 items)
+all_apart : (items : List ListItem) (es : List Entry) → AreEntries items es → AllByRecursion IsSeparated (drop 1 items)
     → AllByRecursion IsApartEntry (drop 1 es)
 all_apart [] [] are apart = tt
 all_apart [] (e ∷ es) are apart = absurd are
@@ -110,12 +110,12 @@ all_apart (i ∷ items) [] are apart = absurd are
 all_apart (i ∷ items) (e ∷ es) (h, are) apart = apart_same items es are apart
 
 -- The entries of a printed list, and its items.
-pub record HasEntries (t : List ℕ) (items : List Item) (last : List ℕ) : Type 0 where
+pub record HasEntries (t : List ℕ) (items : List ListItem) (last : List ℕ) : Type 0 where
   pub entries : List Entry
   pub are : AreEntries items entries
   pub printed : PrintedEntries t entries last
 
-pub has_entries : (t : List ℕ) (items : List Item) (last : List ℕ) → Printed t items last → HasEntries t items last
+pub has_entries : (t : List ℕ) (items : List ListItem) (last : List ℕ) → PrintedList t items last → HasEntries t items last
 has_entries t items last p =
     let (es, are) = entries_of items p.each in
     record {

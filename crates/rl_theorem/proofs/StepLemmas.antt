@@ -17,15 +17,15 @@ use Rattle.rl_cursors.specs.NextLiterals.{FindsReading, IsReadLiteral, StepsList
 use Rattle.rl_cursors.specs.Lists.{ListState, IsItemTaken as IsEntryTaken, ItemsLeft, TakesItem}
 use Rattle.rl_cursors.proofs.Theorems.{a_taken_literal_is_read}
 use Rattle.rust_literals.specs.declared.lit.Lit.{Lit}
-use Rattle.rl_theorem.specs.Printed.{Item, HoldItems}
-use Rattle.rl_theorem.specs.Lists.{IsItemTaken, IsStepAt, IsAlsoAt}
+use Rattle.rl_theorem.specs.Printed.{ListItem, HoldItems}
+use Rattle.rl_theorem.specs.Lists.{IsItemReturned, IsStepAt, IsAlsoAt}
 use Rattle.rl_theorem.proofs.ByTheRules.{reads_by}
 use Rattle.rl_theorem.proofs.HeadlineLemmas.{at_gap, at_next}
 use Rattle.rl_theorem.proofs.PrintedItems.{IsEntryOf, AreEntries}
 use Rattle.rl_theorem.proofs.ValueLemmas.{gives}
 
-taken_is : (at : ℕ) (i : Item) (e : Entry) (l : NextLiteral) → IsEntryOf i e → IsEntryTaken at e.item l → IsReadLiteral l
-    → IsItemTaken at i l
+taken_is : (at : ℕ) (i : ListItem) (e : Entry) (l : NextLiteral) → IsEntryOf i e → IsEntryTaken at e.item l → IsReadLiteral l
+    → IsItemReturned at i l
 taken_is at i e l is taken read = go l.found refl read
   where
     text : chars (whole_text l) ≡ i.text
@@ -38,7 +38,7 @@ taken_is at i e l is taken read = go l.found refl read
     the : IsTheReading (chars (whole_text l)) i.reading
     the = subst (λ t. IsTheReading t i.reading) (sym text) (the_reading i.text i.reading reads)
 
-    go : (o : Option Found) → l.found ≡ o → FindsReading (whole_text l) o → IsItemTaken at i l
+    go : (o : Option Found) → l.found ≡ o → FindsReading (whole_text l) o → IsItemReturned at i l
     go None found_is none = absurd (none i.reading.kind i.reading.contents i.reading.suffix the.reads.reads)
     go (Some f) found_is found =
         let s : Reading = record { kind = f.kind; contents = found.reads.0; suffix = chars (suffix_in (whole_text l) f.body) } in
@@ -71,7 +71,7 @@ pub record Takes (old : ListState) (step : ListStep) (new : ListState) : Type 0 
 step_read : (old : ListState) (step : ListStep) (new : ListState) (l : NextLiteral) → Takes old step new
     → old.is_done ≡ false → step ≡ Literal l → IsReadLiteral l
 step_read old step new l takes going is =
-    a_taken_literal_is_read old.cursor l new.cursor
+    a_taken_literal_is_read old.cursor new.cursor l
     (subst (λ s. StepsList old.cursor s new.cursor) is (takes.steps going))
 
 pub after_step : (count at : ℕ) (es : List Entry) (old : ListState) (step : ListStep) (new : ListState)
@@ -83,7 +83,7 @@ after_step (suc count) at [] old step new takes left = (takes.item at [] left).1
 after_step (suc count) at (e ∷ es) old step new takes left =
     after_step count (at + byte_len e.gap + byte_len (item_text e.item)) es old step new takes left
 
-pub step_at : (count at : ℕ) (items : List Item) (es : List Entry) (old : ListState) (step : ListStep) (new : ListState)
+pub step_at : (count at : ℕ) (items : List ListItem) (es : List Entry) (old : ListState) (step : ListStep) (new : ListState)
     → AreEntries items es → Takes old step new → IsAfter count at es old → IsStepAt at items count step
 step_at count at [] (e ∷ es) old step new are takes left = absurd are
 step_at count at (i ∷ items) [] old step new are takes left = absurd are
@@ -92,14 +92,14 @@ step_at (suc count) at [] [] old step new are takes left = (takes.item at [] lef
 step_at zero at (i ∷ items) (e ∷ es) old step new (h, are) takes left =
     let (l, is, taken, more) = takes.item at (e ∷ es) left in
     let read = step_read old step new l takes left.going is in
-    (l, is, subst (λ n. IsItemTaken n i l) (at_gap at i e h) (taken_is (at + byte_len e.gap) i e l h taken read))
+    (l, is, subst (λ n. IsItemReturned n i l) (at_gap at i e h) (taken_is (at + byte_len e.gap) i e l h taken read))
 step_at (suc count) at (i ∷ items) (e ∷ es) old step new (h, are) takes left =
     subst (λ n. IsStepAt n items count step) (at_next at i e h)
     (step_at count (at + byte_len e.gap + byte_len (item_text e.item)) items es old step new are takes left)
 
 -- ---- both ways of reading a list give the same literals
 
-pub same_at : {A : Type 0} (file at : ℕ) (items : List Item) (lits : List (Lit A)) (n : ℕ) (step : ListStep)
+pub same_at : {A : Type 0} (file at : ℕ) (items : List ListItem) (lits : List (Lit A)) (n : ℕ) (step : ListStep)
     → HoldItems file at items lits → IsStepAt at items n step → IsAlsoAt file lits n step
 same_at file at [] [] n step are is = is
 same_at file at [] (lit ∷ lits) n step are is = absurd (cc)

@@ -17,14 +17,14 @@ use Rattle.rl_theorem.specs.RustRules.{IsLiteral}
 use Rattle.rl_theorem.specs.SynRules.{IsSynLiteral}
 
 -- By `syn`'s grammar, the text has the parse result `r`, and no other.
-pub record HasReading (text : List ℕ) (r : Reading) : Type 0 where
+pub record HasTheReading (text : List ℕ) (r : Reading) : Type 0 where
   pub is : IsSynLiteral text r
   pub only : (s : Reading) → IsSynLiteral text s → s ≡ r
 
 -- The literal holds the parse result: it is of its kind, and the literal's text has this parse result and no other.
 pub record HoldsReading {A : Type 0} (lit : Lit A) (r : Reading) : Type 0 where
   pub kind : kind_of lit ≡ Some r.kind
-  pub reads : HasReading (chars (token_of lit).text) r
+  pub reads : HasTheReading (chars (token_of lit).text) r
 
 -- The literal is `Verbatim`, and its text has no parse result by `syn`'s grammar. A token such as `x` has none, and neither
 -- has an integer above 128 bits.
@@ -78,4 +78,4 @@ written_literal kind value = opener kind ++ (flat_map (escaped kind) value ++ (c
 pub record Writes (kind : Kind) (value text : List ℕ) : Type 0 where
   pub text_is : text ≡ written_literal kind value
   pub strict : IsLiteral text (plain_reading kind value)
-  pub reads : HasReading text (plain_reading kind value)
+  pub reads : HasTheReading text (plain_reading kind value)

@@ -21,8 +21,8 @@ use Rattle.rl_cursors.specs.Lists.{begins_at}
 use Rattle.rust_literals.specs.declared.lit.Lit.{Lit}
 use Rattle.rl_theorem.specs.Notation.{Rule, Text, Many, Means}
 use Rattle.rl_theorem.specs.SynRules.{str_inside, byte_str_inside, c_str_inside}
-use Rattle.rl_theorem.specs.Headline.{HasReading}
-use Rattle.rl_theorem.specs.Printed.{Item, IsItemAt}
+use Rattle.rl_theorem.specs.Headline.{HasTheReading}
+use Rattle.rl_theorem.specs.Printed.{ListItem, IsItemAt}
 
 -- A character or escape between the quotes of a string literal of the kind.
 abbrev pub inside : Kind → Rule
@@ -53,23 +53,23 @@ GivesContents kind text f contents =
 
 -- The literal is the item that begins at the byte offset `at`: it has the item's text and range, and the kind, value and
 -- suffix of the item's parse result. The text has no other parse result.
-pub record IsItemTaken (at : ℕ) (i : Item) (l : NextLiteral) : Type 0 where
+pub record IsItemReturned (at : ℕ) (i : ListItem) (l : NextLiteral) : Type 0 where
   pub found : Found
   pub found_is : l.found ≡ Some found
   pub kind : found.kind ≡ i.reading.kind
   pub value : GivesContents i.reading.kind (whole_text l) found i.reading.contents
   pub suffix : chars (suffix_in (whole_text l) found.body) ≡ i.reading.suffix
   pub text : chars (whole_text l) ≡ i.text
-  pub reads : HasReading i.text i.reading
+  pub reads : HasTheReading i.text i.reading
   pub lo : begins_at l.minus_at l.token.lo ≡ at
   pub hi : l.token.hi ≡ at + byte_len i.text
 
 -- The step number `n` over a printed list, counted from 0: the item of this number, or the end if the list is shorter.
 -- The list begins at the byte offset `at`.
-abbrev pub IsStepAt : ℕ → List Item → ℕ → ListStep → Type 0
+abbrev pub IsStepAt : ℕ → List ListItem → ℕ → ListStep → Type 0
 IsStepAt at [] n step = step ≡ End
 IsStepAt at (i ∷ is) zero step =
-    (l : NextLiteral) × (step ≡ Literal l) × IsItemTaken (at + byte_len i.gap) i l
+    (l : NextLiteral) × (step ≡ Literal l) × IsItemReturned (at + byte_len i.gap) i l
 IsStepAt at (i ∷ is) (suc n) step = IsStepAt (at + byte_len i.gap + byte_len i.text) is n step
 
 -- The step number `n` and the literal of this number are one item of a list. If there are fewer literals, the step is
@@ -77,5 +77,5 @@ IsStepAt at (i ∷ is) (suc n) step = IsStepAt (at + byte_len i.gap + byte_len i
 abbrev pub IsAlsoAt : {A : Type 0} → ℕ → List (Lit A) → ℕ → ListStep → Type 0
 IsAlsoAt file [] n step = step ≡ End
 IsAlsoAt file (lit ∷ lits) zero step =
-    (at : ℕ) × (i : Item) × (l : NextLiteral) × (step ≡ Literal l) × IsItemAt file at i lit × IsItemTaken at i l
+    (at : ℕ) × (i : ListItem) × (l : NextLiteral) × (step ≡ Literal l) × IsItemAt file at i lit × IsItemReturned at i l
 IsAlsoAt file (lit ∷ lits) (suc n) step = IsAlsoAt file lits n step

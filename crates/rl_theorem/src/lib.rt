@@ -19,7 +19,7 @@ ghost use Rattle.rl_syntax.specs.Readings.{Reading};
 ghost use Rattle.rl_tokens.specs.declared.error.ErrorKind.TheVariants.{Memory};
 ghost use Rattle.rust_literals.specs.Literals.{token_of};
 ghost use Rattle.rl_theorem.specs.Headline.{HoldsItsReading, HoldsReading, HoldsNoReading, GivesValue, Writes};
-ghost use Rattle.rl_theorem.specs.Printed.{Item, Printed, HoldItems};
+ghost use Rattle.rl_theorem.specs.Printed.{ListItem, PrintedList, HoldItems};
 ghost use Rattle.rust_literals.specs.ReadBack.{HoldsOrMemory};
 ghost use Rattle.rust_literals.specs.Reprints.{Spaced, lits_of, IsReprint, SameButSpans};
 ghost use Rattle.rl_theorem.specs.Lists.{IsStepAt, IsAlsoAt};
@@ -162,7 +162,7 @@ pub fn read_back<A: Allocator + Copy>(
     file: u32,
 ) -> Result<Vec<Lit<A>, A>, Error<A>>
     // If the text is a printed list of literals, these are the literals that are returned, or an allocation failed.
-    ensures { (items : List Item) (last : List ℕ) → Printed (chars text.now) items last
+    ensures { (items : List ListItem) (last : List ℕ) → PrintedList (chars text.now) items last
         → HoldsOrMemory (HoldItems file 0 items) result }
 {
     read_all(alloc, text, file)
@@ -171,7 +171,7 @@ pub fn read_back<A: Allocator + Copy>(
 /// Returns the step number `n` of the loop over a list, counted from 0.
 pub fn literal_at(text: &str, n: usize) -> ListStep<'_>
     // If the text is a printed list of literals, the step is the item number `n`, or the end if the list is shorter.
-    ensures { (items : List Item) (last : List ℕ) → Printed (chars text.now) items last
+    ensures { (items : List ListItem) (last : List ℕ) → PrintedList (chars text.now) items last
         → IsStepAt 0 items n result }
 {
     let mut list = ListLiterals::new(text);
@@ -189,7 +189,7 @@ pub fn both_ways<'t, A: Allocator + Copy>(
     n: usize,
 ) -> Result<(Vec<Lit<A>, A>, ListStep<'t>), Error<A>>
     // If the text is a printed list of literals, both ways return the same item of the list.
-    ensures same { (items : List Item) (last : List ℕ) → Printed (chars text.now) items last
+    ensures same { (items : List ListItem) (last : List ℕ) → PrintedList (chars text.now) items last
         → IfOk result (λ both. IsAlsoAt file both.0.items n both.1) }
 {
     match read_back(alloc, text, file) {
