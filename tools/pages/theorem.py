@@ -20,6 +20,8 @@ How to read it:
 
 - A text is a list of the codes of its characters. `chars` decodes bytes to such a list. `x.now` is the value of a borrowed argument.
 - `⊎` is *or*, `×` is *and* or *there is*, `→` is *for all* or *implies*, `≡` is *equals*, `⊥` is *false*, and `⊤` is *true*.
+- `pub record` begins a structure, or a statement that consists of its fields. `pub data` lists constructors. Other definitions
+  consist of equations, of which the first that fits counts. `StrKind` and the like are the variants of `Kind`.
 - `∷` puts an element before a list, and `++` joins two lists. `codes "ab"` is the list of the codes of `a` and `b`.
 - `IsTrue b` states that a test succeeds. `IfOk result (λ x. P)` states `P` of the value `x` if the result is `Ok`.
 - `Memory` is the error for a failed allocation. No contract states that an allocation fails if `Memory` is returned, or that one
@@ -148,13 +150,14 @@ def page():
     parts = {'Contracts': functions[:-1]}
     for title in GROUPS:
         last, rows = '', parts.setdefault(title, [])
-        for it in found:
-            if group_of(it.path) == title:
-                mark = '//' if it.path.endswith('.rt') else '--'
-                if it.path != last:
-                    rows += [''] * bool(rows) + [f'{mark} {it.path.removeprefix("crates/")}:']
-                rows += [re.sub(r'(?m)^(infixr? .*|abbrev pub [\w◌⋅∣]+ : [^\n]*Rule)\n', '', it.text)]
-                last = it.path
+        those = [it for it in found if group_of(it.path) == title]
+        files = list(dict.fromkeys(it.path for it in those))
+        for it in sorted(those, key=lambda it: files.index(it.path)):
+            mark = '//' if it.path.endswith('.rt') else '--'
+            if it.path != last:
+                rows += [''] * bool(rows) + [f'{mark} {it.path.removeprefix("crates/")}:']
+            rows += [re.sub(r'(?m)^(infixr? .*|abbrev pub [\w◌⋅∣]+ : [^\n]*Rule)\n', '', it.text)]
+            last = it.path
     parts['Names of the standard library'] = [f'{module}: {", ".join(sorted(those))}' for module, those in sorted(standard.items())]
     body = ''.join('\n'.join([f'\n## {title}\n', '```text', *those, '```', '']) for title, those in parts.items())
     types = sum(it.path.endswith('.rt') for it in found)
