@@ -68,7 +68,7 @@ def names_of(code):
     head = r"(?:(?:abbrev|unfoldable|pub|record|data) +)*([^\s:({]+)"
     if code.startswith(('mutual', 'abbrev mutual')):
         return [it for it in re.findall(rf'(?m)^  {head}', code) if it] + re.findall(r'(?m)^    (\w+) :', code)
-    first = re.match(head, code)[1]
+    first = re.match(head, re.sub(r'\Ainfix.*\n', '', code))[1]
     return [first, *(re.findall(r'(?m)^  (\w+) :', code) if re.match(r'(?:pub )?data ', code) else [])]
 
 
@@ -152,7 +152,8 @@ def page():
         last, rows = '', parts.setdefault(title, [])
         those = [it for it in found if group_of(it.path) == title]
         files = list(dict.fromkeys(it.path for it in those))
-        for it in sorted(those, key=lambda it: files.index(it.path)):
+        in_order = lambda it: read(it.path).index(it.text) if it.path.endswith(('Notation.antt', 'Rules.antt')) else 0
+        for it in sorted(those, key=lambda it: (files.index(it.path), in_order(it))):
             mark = '//' if it.path.endswith('.rt') else '--'
             if it.path != last:
                 rows += [''] * bool(rows) + [f'{mark} {it.path.removeprefix("crates/")}:']

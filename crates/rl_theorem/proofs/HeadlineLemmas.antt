@@ -160,7 +160,7 @@ items_at file at (i ∷ items) (e ∷ es) [] are read = read
 items_at file at (i ∷ items) (e ∷ es) (l ∷ ls) (is, are) (here, read) = (
   subst (λ n. IsItemAt file n i l) (at_gap at i e is) (item_at file (at + byte_len e.gap) i e l is here),
   subst (λ n. HoldItems file n items ls) (at_next at i e is)
-  (items_at file (at + byte_len e.gap + byte_len (item_text e.item)) items es ls are read),
+      (items_at file (at + byte_len e.gap + byte_len (item_text e.item)) items es ls are read),
 )
 
 pub items_answer : {A B : Type 0} (file : ℕ) (items : List ListItem) (es : List Entry) (r : Result (Vec (Lit A) B) (Error A))

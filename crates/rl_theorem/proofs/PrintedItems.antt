@@ -98,7 +98,7 @@ apart_same [] (e ∷ es) are apart = absurd are
 apart_same (i ∷ items) [] are apart = absurd are
 apart_same (i ∷ items) (e ∷ es) (h, are) (here, more) = (
   subst (λ g. (g ≢ []) ⊎ IsTrue (first_passes (is_among (codes "\"'-")) (item_text e.item))) (sym h.gap)
-  (subst (λ t. (i.gap ≢ []) ⊎ IsTrue (first_passes (is_among (codes "\"'-")) t)) (sym h.text) here),
+      (subst (λ t. (i.gap ≢ []) ⊎ IsTrue (first_passes (is_among (codes "\"'-")) t)) (sym h.text) here),
   apart_same items es are more,
 )
 

@@ -72,7 +72,7 @@ string_gives k a rule string quoted same reads text f r found e is =
     let q : IsQuotedAt k text f.body = subst (λ z. IsQuotedAt z text f.body) e (found.quoted (ap is_quoted e ∙ quoted)) in (
       q.value,
       sym (one_value (chars text) k (quoted_contents k q.value) r
-      (chars (suffix_in text f.body), reads (chars text) (chars (suffix_in text f.body)) q.value q.form (chars (body_in text f.body)) q.parts) is),
+          (chars (suffix_in text f.body), reads (chars text) (chars (suffix_in text f.body)) q.value q.form (chars (body_in text f.body)) q.parts) is),
       decoded k a rule string same q.form (chars text) q.value (chars (body_in text f.body)) (chars (suffix_in text f.body)) q.parts,
     )
 

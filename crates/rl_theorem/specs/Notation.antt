@@ -24,12 +24,12 @@ pub data Rule : Type 0 where
   -- The empty text, if no text of the rule follows.
   Unless : (rule : Rule) → Rule
 
--- Is written for `Then`.
+-- The sign for `Then`.
 infixr 30 ◌⋅◌
 abbrev pub ◌⋅◌ : Rule → Rule → Rule
 a ⋅ b = Then a b
 
--- Is written for `Or`.
+-- The sign for `Or`.
 infixr 20 ◌∣◌
 abbrev pub ◌∣◌ : Rule → Rule → Rule
 a ∣ b = Or a b

@@ -104,7 +104,7 @@ parse_lit_c_str_raw = As encode_utf8_all (raw_to_last (codes "cr") (λ c. not (c
 
 -- ---- numbers
 
--- The suffix of a number is empty or an identifier (`xid_ok`), and doesn't begin with `_`.
+-- The suffix of a number is empty or an identifier, and doesn't begin with `_`.
 abbrev pub number_suffix : Rule
 number_suffix = Unless (any_of (codes "_")) ⋅ maybe identifier_or_keyword
 
