@@ -7,7 +7,7 @@ use Rattle.rl_syntax.specs.declared.kind.Kind.{Kind}
 use Rattle.rl_syntax.specs.declared.kind.Kind.TheVariants.{Str, ByteStr, CStr, Byte, Char}
 use Rattle.rl_syntax.specs.Texts.{first_passes, is_blank, is_underscore, is_run_part}
 use Rattle.rl_syntax.specs.Spelling.{place_value, without_underscores}
-use Rattle.rl_syntax.specs.Quoted.{Letter, LowerN, LowerR, LowerT, Backslash, Apostrophe, Quote, Zero, letter_text, letter_value, QuotedUnit, Plain, CrLf, Named, Hex, Unicode, Continuation, unit_text, unit_value, unicode_value, is_hex_digit, is_line_end, IsUnit, texts, values, EndsBefore, ContinuationsEnd, opener, raw_opener, content_of, is_raw, is_string, is_single, Cooked, Raw, Single}
+use Rattle.rl_syntax.specs.Quoted.{Letter, LowerN, LowerR, LowerT, Backslash, Apostrophe, Quote, Zero, letter_text, letter_value, QuotedUnit, Plain, CrLf, Named, Hex, Unicode, Continuation, unit_text, unit_value, unicode_value, is_hex_digit, is_line_end, IsUnit, texts, EndsBefore, ContinuationsEnd, opener, raw_opener, content_of, is_raw, is_string, is_single, Cooked, Raw, Single}
 use Rattle.rl_syntax.proofs.Basics.{all_same, passes_same, hex_is_sixteen}
 use Rattle.rl_theorem.specs.Notation.{Rule, Text, One, Many, As, If, Means, ◌⋅◌, but, skip}
 use Rattle.rl_theorem.specs.RustRules.{digit, digits, byte_escape}
@@ -18,10 +18,6 @@ use Rattle.rl_theorem.proofs.QuotedRules.{in_quotes, in_string, alone, passes_cu
 use Rattle.rl_theorem.proofs.NumberRules.{of_base, without_digit, split}
 
 -- ---- escapes
-
--- The value of an escape of one character, or of `\x`, passes the test.
-abbrev Tested : (ℕ → Bool) → Rule
-Tested test = If (list_all test) byte_escape
 
 letter_to : (l : Letter) (after : List ℕ) → Means byte_escape (92 ∷ letter_text l ∷ []) after (letter_value l ∷ [])
 letter_to LowerN after = inr (inl (inl ([], (refl, refl), refl)))

@@ -1,6 +1,6 @@
 -- The literals of a printed list, as the loop over the list returns them. No memory is taken, so no definition speaks of
 -- it.
-use Rattle.std.specs.Prelude.{◌≡◌, ℕ, zero, suc, ◌+◌, Bool, true, false, List, [], ◌∷◌, ◌++◌, Option, Some, None, codes, if◌then◌else◌}
+use Rattle.std.specs.Prelude.{◌≡◌, ℕ, zero, suc, ◌+◌, Bool, true, false, List, [], ◌∷◌, ◌++◌, Some, codes, if◌then◌else◌}
 use Rattle.std.specs.Str.{chars}
 use Prim.Native.Char.{code}
 use Rattle.rl_syntax.specs.declared.kind.Kind.{Kind}
@@ -9,7 +9,6 @@ use Rattle.rl_syntax.specs.Texts.{byte_len, begins, begins_char}
 use Rattle.rl_syntax.specs.Numbers.{float_digits}
 use Rattle.rl_syntax.specs.Quoted.{content_of, raw_opener}
 use Rattle.rl_syntax.specs.Reading.{Contents, Digits, Truth, quoted_contents}
-use Rattle.rl_syntax.specs.Readings.{Reading}
 use Rattle.rl_syntax.specs.Strict.{dec}
 use Rattle.rl_lenient.specs.declared.found.Found.{Found}
 use Rattle.rl_lenient.specs.Founds.{body_in, suffix_in}
