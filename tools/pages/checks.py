@@ -284,7 +284,7 @@ def check_diagrams(tell):
         if f'(diagrams/{name}.svg)' not in shown:
             tell(f'{path}: no page shows it')
         if name == 'crates':
-            if graph().replace('->', 'to') not in read(path):
+            if pictures.digest(graph()) not in read(path):
                 tell(f'{path}: it is not what crates.txt says: run tools/diagrams')
         elif f'{name}.antt' in rules.FILES:
             if pictures.mark(f'{name}.antt') not in read(path):

@@ -1,4 +1,5 @@
 """Railroad diagrams of the rules of a grammar, drawn from the source."""
+import hashlib
 import re
 
 from .rules import FILES, code_of
@@ -16,7 +17,7 @@ TOKEN = re.compile(r'\s*(codes? "(?:\\.|[^"\\])*"|λ \w+\.|[()⋅∣∷]|[^\s()]
 
 def rules_of(name):
     """Returns the rules of a file: the parameters and the right side of each, by its name."""
-    code = re.sub(r'(?m)^--.*\n|^(pub record|  pub |    :).*\n', '', code_of(name) + '\n')
+    code = re.sub(r'(?m)^(pub record|  pub |    :).*\n', '', code_of(name) + '\n')
     found = re.findall(r'(?m)^(\w+)((?: \w+)*) =((?:.*\n)(?:    .*\n)*)', code)
     return {rule: (parameters.split(), right.strip()) for rule, parameters, right in found if 'IsByTheRules' not in rule}
 
@@ -120,7 +121,7 @@ class Drawing:
 
 
 def drawn(name):
-    """Returns the diagrams of the rules of a file, one below another, as SVG."""
+    """Returns the diagrams of the rules of a file as SVG, one below another, each on a line."""
     from railroad import DEFAULT_STYLE, Diagram
     rules = {rule: its for file in FILES for rule, its in rules_of(file).items()}
     parts, top, width = [], 10, 0
@@ -129,15 +130,21 @@ def drawn(name):
             continue
         written = []
         Diagram(Drawing(right, rules).choice()).writeSvg(written.append)
-        svg = ''.join(written)
+        svg = re.sub('<style>.*?</style>|\n', '', ''.join(written), flags=re.S)
         wide, high = (float(re.search(rf' {it}="([\d.]+)"', svg)[1]) for it in ('width', 'height'))
-        parts.append(f'<text x="20" y="{top + 12:g}" style="font: bold 14px monospace; text-anchor: start">{rule}</text>\n'
+        parts.append(f'<text x="20" y="{top + 12:g}" style="font: bold 14px monospace; text-anchor: start">{rule}</text>'
                      + re.sub('<svg.*?>', f'<g transform="translate(0 {top + 10:g})">', svg, count=1).replace('</svg>', '</g>'))
         top, width = top + high + 16, max(width, wide)
+    style = re.sub(r'\s+', ' ', DEFAULT_STYLE).strip()
     return (f'<svg xmlns="http://www.w3.org/2000/svg" class="railroad-diagram" width="{width:g}" height="{top:g}" '
-            f'viewBox="0 0 {width:g} {top:g}">\n<style>{DEFAULT_STYLE}</style>\n' + '\n'.join(parts) + f'\n{mark(name)}</svg>\n')
+            f'viewBox="0 0 {width:g} {top:g}">\n<style>{style}</style>\n' + '\n'.join(parts) + f'\n{mark(name)}</svg>\n')
 
 
 def mark(name):
     """Returns the comment by which a diagram shows of which rules it is made."""
-    return '<!--\n' + re.sub(r'(?m)^ *--.*\n', '', code_of(name)) + '\n-->\n'
+    return digest(code_of(name))
+
+
+def digest(code):
+    """Returns a comment with the digest of the code of which a diagram is made."""
+    return f'<!-- {hashlib.sha256(code.encode()).hexdigest()} -->\n'

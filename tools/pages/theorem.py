@@ -11,22 +11,38 @@ from .snippets import blanked, closing
 PAGE, ROOT = 'docs/THEOREM.md', 'crates/rl_theorem/src/lib.rt'
 INTRODUCTION = """# The theorem
 
-For those who must decide whether to believe the headline. This page has all that the headline rests on: first the contracts of
-[rl_theorem](../crates/rl_theorem/src/lib.rt), then each definition that they need, in the order of first use, and last the names of
-Rattle's standard library. `tools/docs --write` writes the page from the sources. It has {definitions} definitions and {types} types
-of the code, in {lines} lines with their comments. `rt check` in `crates/rl_theorem` proves the contracts.
+For those who must decide whether to believe the headline. This page has all that the headline rests on: the contracts of
+[rl_theorem](../crates/rl_theorem/src/lib.rt), then each definition that they need, in groups, and the names of Rattle's standard
+library. `tools/docs --write` writes the page from the sources. It has {definitions} definitions and {types} types of the code, in
+{lines} lines, of which {comments} are comments. `rt check` in `crates/rl_theorem` proves the contracts.
 
 How to read it:
 
-- `x.now` is the value of a borrowed argument at the call. A text is a list of the codes of its characters.
+- A text is a list of the codes of its characters. `chars` decodes bytes to such a list. `x.now` is the value of a borrowed argument.
 - `⊎` is *or*, `×` is *and* or *there is*, `→` is *for all* or *implies*, `≡` is *equals*, `⊥` is *false*, and `⊤` is *true*.
+- `pub record` begins a structure, or a statement that consists of its fields. `pub data` lists constructors. Other definitions
+  consist of equations, of which the first that fits counts. `StrKind` and the like are the variants of `Kind`.
 - `∷` puts an element before a list, and `++` joins two lists. `codes "ab"` is the list of the codes of `a` and `b`.
 - `IsTrue b` states that a test succeeds. `IfOk result (λ x. P)` states `P` of the value `x` if the result is `Ok`.
-- `Memory` is a failed allocation. A contract can't promise that an allocation succeeds, or that `Memory` is returned only if one
-  fails. `literal_at` allocates nothing.
-- The functions only call the libraries, and the page leaves out their bodies. Nothing is stated of a text that isn't a printed list,
-  such as one whose last line is a comment without a line end.
+- `Memory` is the error for a failed allocation. No contract states that an allocation fails if `Memory` is returned, or that one
+  succeeds: Rattle's allocators promise neither. So a function that always returned `Memory` would fulfill each contract except that
+  of `literal_at`, which allocates nothing, and that of `suffix_of`.
+- Each grammar consists of rules. Rust's are those of the Rust Reference, `syn`'s are those of its parser. Not all that `syn` parses is
+  Rust's. That the rules are those of rustc and `syn` isn't proved, but [compared](COMPARISON.md).
+- The page leaves out the bodies of the functions, which only call the libraries. Nothing is stated about reading a text that isn't a
+  printed list.
 """
+# The groups of the definitions: a heading, and the files.
+GROUPS = {
+    'Literals and parse results': r'rl_theorem/specs/Headline|rust_literals/specs/Literals|rl_syntax/specs/Reading|\.rt$',
+    'Printed lists': r'rl_theorem/specs/Printed|rust_literals/specs/ReadBack|rl_syntax/specs/(Trivia|Texts)',
+    'The loop over a list': r'rl_theorem/specs/Lists|rl_cursors|rl_lenient',
+    'Reading a list again': r'rust_literals/specs/(Reprints|LitParts)',
+    'Writing a value': r'rl_syntax/specs/(Written|Quoted)',
+    'The notation of the rules': r'rl_theorem/specs/Notation',
+    "Rust's grammar": r'rl_theorem/specs/RustRules|rl_syntax/specs/(Spelling|Strict)',
+    "`syn`'s grammar": r'rl_theorem/specs/SynRules|rl_syntax/specs/Numbers',
+}
 WORD = re.compile(r"«[^»]*»|[^\W\d][\w'-]*(?:\.[^\W\d][\w'-]*)*|[^\s\w(){}\[\].,;:\"«»]+")
 
 
@@ -52,7 +68,7 @@ def names_of(code):
     head = r"(?:(?:abbrev|unfoldable|pub|record|data) +)*([^\s:({]+)"
     if code.startswith(('mutual', 'abbrev mutual')):
         return [it for it in re.findall(rf'(?m)^  {head}', code) if it] + re.findall(r'(?m)^    (\w+) :', code)
-    first = re.match(head, code)[1]
+    first = re.match(head, re.sub(r'\Ainfix.*\n', '', code))[1]
     return [first, *(re.findall(r'(?m)^  (\w+) :', code) if re.match(r'(?:pub )?data ', code) else [])]
 
 
@@ -122,18 +138,31 @@ def definitions():
     return found, standard
 
 
+def group_of(path):
+    """Returns the heading of the group to which a file belongs."""
+    return next(title for title, files in GROUPS.items() if re.search(files, path))
+
+
 def page():
     """Returns the page, as in the sources."""
     functions = [line for it in items_of(ROOT) if it.kind == 'fn' for line in [*quoted(ROOT, it, {}), '']]
-    rows, last = [], ''
     found, standard = definitions()
-    for it in found:
-        mark = '//' if it.path.endswith('.rt') else '--'
-        rows += [f'{mark} {it.path.removeprefix("crates/")}:'] * (it.path != last) + [it.text, '']
-        last = it.path
-    names = [f'{module}: {", ".join(sorted(those))}' for module, those in sorted(standard.items())]
-    parts = {'Contracts': functions[:-1], 'Definitions': rows[:-1], 'Names of the standard library': names}
+    parts = {'Contracts': functions[:-1]}
+    for title in GROUPS:
+        last, rows = '', parts.setdefault(title, [])
+        those = [it for it in found if group_of(it.path) == title]
+        files = list(dict.fromkeys(it.path for it in those))
+        in_order = lambda it: read(it.path).index(it.text) if it.path.endswith(('Notation.antt', 'Rules.antt')) else 0
+        for it in sorted(those, key=lambda it: (files.index(it.path), in_order(it))):
+            mark = '//' if it.path.endswith('.rt') else '--'
+            if it.path != last:
+                rows += [''] * bool(rows) + [f'{mark} {it.path.removeprefix("crates/")}:']
+            rows += [re.sub(r'(?m)^(infixr? .*|abbrev pub [\w◌⋅∣]+ : [^\n]*Rule)\n', '', it.text)]
+            last = it.path
+    parts['Names of the standard library'] = [f'{module}: {", ".join(sorted(those))}' for module, those in sorted(standard.items())]
     body = ''.join('\n'.join([f'\n## {title}\n', '```text', *those, '```', '']) for title, those in parts.items())
     types = sum(it.path.endswith('.rt') for it in found)
+    lines = [line for title in GROUPS for row in parts[title] for line in row.split('\n') if line and not line.endswith(('.antt:', '.rt:'))]
     return INTRODUCTION.format(
-        definitions=len(found) - types, types=types, lines=sum(len(it.text.split('\n')) for it in found)) + body
+        definitions=len(found) - types, types=types, lines=len(lines),
+        comments=sum(bool(re.match(r' *(--|//)', it)) for it in lines)) + body

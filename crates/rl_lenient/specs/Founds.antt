@@ -19,6 +19,7 @@ use Rattle.rl_lenient.specs.WholeShapes.{IsSplit, IsPlain}
 abbrev pub body_in : List ℕ → Body → List ℕ
 body_in text body = take (body.hi - body.lo) (drop body.lo text)
 
+-- The part of a literal's text from the byte offset of its suffix.
 abbrev pub suffix_in : List ℕ → Body → List ℕ
 suffix_in text body = drop body.suffix_at text
 

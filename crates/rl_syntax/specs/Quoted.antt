@@ -69,6 +69,7 @@ decodes_to_chars Str = true
 decodes_to_chars Char = true
 decodes_to_chars _ = false
 
+-- The value of characters in a literal of the kind: the characters, or their bytes in UTF-8.
 abbrev pub content_of : Kind → List ℕ → List ℕ
 content_of kind cs = if decodes_to_chars kind then cs else encode_utf8_all cs
 
@@ -217,6 +218,7 @@ pub record Single (kind : Kind) (text value suffix : List ℕ) : Type 0 where
   pub text_is : text ≡ opener kind ++ (unit_text unit ++ (code "'" ∷ suffix))
   pub value_is : value ≡ unit_value kind unit
 
+-- Whether the kind is that of integers or floats.
 abbrev pub is_number : Kind → Bool
 is_number Int = true
 is_number Float = true

@@ -15,6 +15,7 @@ pub data Contents : Type 0 where
   Digits : (ds : List ℕ) → Contents
   Truth : (b : Bool) → Contents
 
+-- The value of a quoted literal of the kind, from its characters or bytes.
 abbrev pub quoted_contents : Kind → List ℕ → Contents
 quoted_contents Str v = Characters v
 quoted_contents Char v = Characters v
@@ -47,6 +48,7 @@ pub record ReadsFloat (text : List ℕ) (contents : Contents) (suffix : List ℕ
   pub no_integer : HasNoInteger text
   pub contents_is : contents ≡ Digits (float_digits numeral)
 
+-- The text of a `bool`.
 abbrev pub truth_text : Bool → List ℕ
 truth_text true = codes "true"
 truth_text false = codes "false"

@@ -35,6 +35,7 @@ first_passes test (c ∷ cs) = test c
 abbrev pub begins_char : ℕ → List ℕ → Bool
 begins_char k t = first_passes (λ c. c == k) t
 
+-- Whether a character is one of the given ones.
 abbrev pub is_among : List ℕ → ℕ → Bool
 is_among codes c = list_any (λ k. c == k) codes
 
@@ -57,6 +58,7 @@ pub record IsTail (text rest : List ℕ) : Type 0 where
   pub text_is : text ≡ front ++ rest
   pub is_text : IsUtf8 rest
 
+-- The number of bytes of a text in UTF-8.
 abbrev pub byte_len : List ℕ → ℕ
 byte_len cs = length (encode_utf8_all cs)
 

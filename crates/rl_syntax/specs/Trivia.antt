@@ -12,6 +12,7 @@ pub data Inside : Type 0 where
   Other : (c : ℕ) (rest : Inside) → Inside
   Nested : (inner rest : Inside) → Inside
 
+-- The text of a block comment after its `/*`.
 abbrev pub inside_text : Inside → List ℕ
 inside_text End = code "*" ∷ code "/" ∷ []
 inside_text (Other c rest) = c ∷ inside_text rest
@@ -51,6 +52,7 @@ pub data TriviaPiece : Type 0 where
   Line : (body : List ℕ) → TriviaPiece
   Block : (inside : Inside) → TriviaPiece
 
+-- The text of a piece.
 abbrev pub trivia_piece_text : TriviaPiece → List ℕ
 trivia_piece_text (White c) = c ∷ []
 trivia_piece_text (Line body) = code "/" ∷ code "/" ∷ body ++ code "\n" ∷ []
@@ -61,11 +63,13 @@ pub record IsLineBody (body : List ℕ) : Type 0 where
   pub plain : IsTrue (is_comment_line body)
   pub one_line : IsTrue (list_all (λ c. not (c == code "\n")) body)
 
+-- The piece is white space or a well-formed plain comment.
 abbrev pub IsTriviaPiece : TriviaPiece → Type 0
 IsTriviaPiece (White c) = IsTrue (is_white c)
 IsTriviaPiece (Line body) = IsLineBody body
 IsTriviaPiece (Block inside) = IsInside inside × IsTrue (is_comment_block (inside_text inside))
 
+-- The text of the pieces, one after another.
 abbrev pub trivia_text : List TriviaPiece → List ℕ
 trivia_text [] = []
 trivia_text (p ∷ ps) = trivia_piece_text p ++ trivia_text ps

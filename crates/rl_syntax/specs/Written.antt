@@ -11,6 +11,7 @@ use Rattle.rl_syntax.specs.Strict.{Strict}
 abbrev pub upper_digit : ℕ → ℕ
 upper_digit n = if nat_lt n 10 then code "0" + n else code "A" + (n - 10)
 
+-- The quote that ends a literal of the kind.
 abbrev pub closer : Kind → ℕ
 closer Byte = code "'"
 closer Char = code "'"

@@ -1,5 +1,3 @@
-mod HeadlineLemmas
-mod StepLemmas
 mod RuleParts
 mod WhiteLemmas
 mod SuffixRule
@@ -12,3 +10,9 @@ mod RustLaw
 mod SynQuotedRules
 mod SynNumberRules
 mod SynLaw
+mod ByTheRules
+mod PrintedItems
+mod WrittenTexts
+mod HeadlineLemmas
+mod ValueLemmas
+mod StepLemmas

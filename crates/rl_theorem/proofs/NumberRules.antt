@@ -10,8 +10,9 @@ use Rattle.rl_syntax.specs.Reading.{Contents, Digits}
 use Rattle.rl_syntax.specs.Strict.{dec, IsDigits, IsDecimalText, BasedPrefix, StrictInt, IsStrictExponent, IsDotAlone, IsPointed, IsScientific, StrictFloat}
 use Rattle.rl_syntax.proofs.Basics.{apart, digit_is_ten, hex_is_sixteen, all_same, any_same, passes_same}
 use Rattle.rl_theorem.specs.Notation.{Rule, Text, One, As, Unless, Means, ◌⋅◌, ◌∣◌, maybe, any_of, end}
-use Rattle.rl_theorem.specs.RustRules.{digit, some_digits, dec_literal, with_prefix, number, no_prefix, float_exponent, IsLiteral}
+use Rattle.rl_theorem.specs.RustRules.{digit, some_digits, dec_literal, with_prefix, number, no_prefix, integer_literal, float_exponent, float_literal}
 use Rattle.rl_theorem.proofs.RuleParts.{text_then, then_text, NoneAt, unless_then, then_unless, unless_before, before_unless, none_passes, passes_none, none_begins, begins_none, none_of_both, kept, kept_digit, kept_all, parts_to, parts_from, or_same}
+use Rattle.rl_theorem.proofs.QuotedRules.{By}
 use Rattle.rl_theorem.proofs.SuffixRule.{suffix_to, suffix_from, at_end, alone}
 
 -- ---- rows of digits and underscores
@@ -164,11 +165,11 @@ based_to : (p : List ℕ) (base : ℕ) (run x : List ℕ) → of_base base 95 �
 based_to p base run x fails all any =
     (without_underscores run, text_then p (some_digits base) run x (without_underscores run) (some_to base run x fails all any), refl)
 
-int_to : (text : List ℕ) (contents : Contents) (x : List ℕ) → StrictInt text contents x → IsLiteral text Int contents x
+int_to : (text : List ℕ) (contents : Contents) (x : List ℕ) → StrictInt text contents x → By Int integer_literal text contents x
 int_to text contents x s = go s.is_front
   where
     at : (p : List ℕ) (base : ℕ) → s.prefix ≡ p → s.base ≡ base → Means forms (p ++ s.run) x (in_ten base s.run)
-        → IsLiteral text Int contents x
+        → By Int integer_literal text contents x
     at p base prefix_is base_is m = record {
       body = p ++ s.run;
       value = in_ten base s.run;
@@ -185,7 +186,7 @@ int_to text contents x s = go s.is_front
     some base e = subst (λ b. list_any (of_base b) s.run ≡ true) e s.some
 
     go : ((s.prefix ≡ []) × (s.base ≡ 10) × IsDigits s.run × IsDecimalText text) ⊎ BasedPrefix s.prefix s.base
-        → IsLiteral text Int contents x
+        → By Int integer_literal text contents x
     go (inl (prefix_is, base_is, is_digits, is_decimal)) =
         let whole = s.text ∙ ap (λ k. (k ++ s.run) ++ x) prefix_is in
         at [] 10 prefix_is base_is (inl (unless_before (number 10 dec_literal) prefixes s.run x (in_ten 10 s.run)
@@ -197,7 +198,7 @@ int_to text contents x s = go s.is_front
         (based_to (codes "0x") 16 s.run x refl (each 16 e) (some 16 e))
         (none_passes (of_base 16) x (sym (passes_same is_ascii_hexdigit (of_base 16) hex_is_sixteen x) ∙ s.no_digit e))))))
 
-int_from : (text : List ℕ) (contents : Contents) (x : List ℕ) → IsLiteral text Int contents x → StrictInt text contents x
+int_from : (text : List ℕ) (contents : Contents) (x : List ℕ) → By Int integer_literal text contents x → StrictInt text contents x
 int_from text contents x l =
     let (m, none) = then_unless forms (any_of (codes "eE_")) l.body x l.value l.is_body in
     go m (ends_from x none)
@@ -246,7 +247,7 @@ int_from text contents x l =
         let no_digit = passes_same is_ascii_hexdigit (of_base 16) hex_is_sixteen x ∙ passes_none (of_base 16) x none in
         based (codes "0x") 16 refl (inr (inr (refl, refl))) (λ e. no_digit) ends is
 
-pub int_rule : (text : List ℕ) (contents : Contents) (x : List ℕ) → StrictInt text contents x ↔ IsLiteral text Int contents x
+pub int_rule : (text : List ℕ) (contents : Contents) (x : List ℕ) → StrictInt text contents x ↔ By Int integer_literal text contents x
 int_rule text contents x = (int_to text contents x, int_from text contents x)
 
 -- ---- the digits of floats
@@ -507,7 +508,7 @@ ended = numerals ⋅ Unless (any_of (codes "_"))
 pub underscores : (x : List ℕ) → begins_char 95 x ≡ first_passes (is_among (codes "_")) x
 underscores x = passes_same (λ c. eqb c 95) (is_among (codes "_")) (λ c. or_same (eqb c 95) []) x
 
-float_to : (text : List ℕ) (contents : Contents) (x : List ℕ) → StrictFloat text contents x → IsLiteral text Float contents x
+float_to : (text : List ℕ) (contents : Contents) (x : List ℕ) → StrictFloat text contents x → By Float float_literal text contents x
 float_to text contents x s =
     let value = float_digits s.numeral in
     record {
@@ -521,7 +522,7 @@ float_to text contents x s =
       contents_is = s.contents;
     }
 
-float_from : (text : List ℕ) (contents : Contents) (x : List ℕ) → IsLiteral text Float contents x → StrictFloat text contents x
+float_from : (text : List ℕ) (contents : Contents) (x : List ℕ) → By Float float_literal text contents x → StrictFloat text contents x
 float_from text contents x l =
     let (none, rest) = before_unless ended prefixes l.body x l.value l.is_body in
     let (m, no_underscore) = then_unless numerals (any_of (codes "_")) l.body x l.value rest in
@@ -535,5 +536,5 @@ float_from text contents x l =
       contents = l.contents_is ∙ ap Digits value_is;
     }
 
-pub float_rule : (text : List ℕ) (contents : Contents) (x : List ℕ) → StrictFloat text contents x ↔ IsLiteral text Float contents x
+pub float_rule : (text : List ℕ) (contents : Contents) (x : List ℕ) → StrictFloat text contents x ↔ By Float float_literal text contents x
 float_rule text contents x = (float_to text contents x, float_from text contents x)

@@ -7,7 +7,7 @@ use Rattle.rl_syntax.specs.declared.kind.Kind.{Kind}
 use Rattle.rl_syntax.specs.declared.kind.Kind.TheVariants.{Str, ByteStr, CStr, Byte, Char}
 use Rattle.rl_syntax.specs.Texts.{first_passes, is_blank, is_underscore, is_run_part}
 use Rattle.rl_syntax.specs.Spelling.{place_value, without_underscores}
-use Rattle.rl_syntax.specs.Quoted.{Letter, LowerN, LowerR, LowerT, Backslash, Apostrophe, Quote, Zero, letter_text, letter_value, QuotedUnit, Plain, CrLf, Named, Hex, Unicode, Continuation, unit_text, unit_value, unicode_value, is_hex_digit, is_line_end, IsUnit, texts, values, EndsBefore, ContinuationsEnd, opener, raw_opener, content_of, is_raw, is_string, is_single, Cooked, Raw, Single}
+use Rattle.rl_syntax.specs.Quoted.{Letter, LowerN, LowerR, LowerT, Backslash, Apostrophe, Quote, Zero, letter_text, letter_value, QuotedUnit, Plain, CrLf, Named, Hex, Unicode, Continuation, unit_text, unit_value, unicode_value, is_hex_digit, is_line_end, IsUnit, texts, EndsBefore, ContinuationsEnd, opener, raw_opener, content_of, is_raw, is_string, is_single, Cooked, Raw, Single}
 use Rattle.rl_syntax.proofs.Basics.{all_same, passes_same, hex_is_sixteen}
 use Rattle.rl_theorem.specs.Notation.{Rule, Text, One, Many, As, If, Means, ◌⋅◌, but, skip}
 use Rattle.rl_theorem.specs.RustRules.{digit, digits, byte_escape}
@@ -18,10 +18,6 @@ use Rattle.rl_theorem.proofs.QuotedRules.{in_quotes, in_string, alone, passes_cu
 use Rattle.rl_theorem.proofs.NumberRules.{of_base, without_digit, split}
 
 -- ---- escapes
-
--- The value of an escape of one character, or of `\x`, passes the test.
-abbrev Tested : (ℕ → Bool) → Rule
-Tested test = If (list_all test) byte_escape
 
 letter_to : (l : Letter) (after : List ℕ) → Means byte_escape (92 ∷ letter_text l ∷ []) after (letter_value l ∷ [])
 letter_to LowerN after = inr (inl (inl ([], (refl, refl), refl)))
@@ -170,10 +166,10 @@ continue_from text after value m =
 
 -- ---- units of each kind
 
-abbrev Fits : Kind → QuotedUnit → List ℕ → Type 0
+abbrev pub Fits : Kind → QuotedUnit → List ℕ → Type 0
 Fits kind u after = IsUnit kind u × EndsBefore u after
 
-abbrev UnitRule : Kind → Rule → Type 0
+abbrev pub UnitRule : Kind → Rule → Type 0
 UnitRule kind a = IsRuleOf a unit_text (unit_value kind) (Fits kind)
 
 abbrev Found : Kind → List ℕ → List ℕ → List ℕ → Type 0
@@ -237,7 +233,7 @@ byte_unit = record { to = to; from = from }
           | inr (l, t, v) ↦ (Named l, (refl, tt), t, v)
         ]
 
-str_unit : UnitRule Str str_inside
+pub str_unit : UnitRule Str str_inside
 str_unit = record { to = to; from = from }
   where
     to : (u : QuotedUnit) (after : List ℕ) → Fits Str u after → Means str_inside (unit_text u) after (unit_value Str u)
@@ -264,7 +260,7 @@ str_unit = record { to = to; from = from }
         let (end, run, ending, each, e, t, v) = continue_from text after value m in
         (Continuation end run, ((refl, ending, each), e), t, v)
 
-byte_str_unit : UnitRule ByteStr byte_str_inside
+pub byte_str_unit : UnitRule ByteStr byte_str_inside
 byte_str_unit = record { to = to; from = from }
   where
     to : (u : QuotedUnit) (after : List ℕ) → Fits ByteStr u after → Means byte_str_inside (unit_text u) after (unit_value ByteStr u)
@@ -303,7 +299,7 @@ with_true : (a b : Bool) → a ≡ true → (a && (true || b)) ≡ true
 with_true true b h = refl
 with_true false b h = h
 
-c_str_unit : UnitRule CStr c_str_inside
+pub c_str_unit : UnitRule CStr c_str_inside
 c_str_unit = record { to = to; from = from }
   where
     to : (u : QuotedUnit) (after : List ℕ) → Fits CStr u after → Means c_str_inside (unit_text u) after (unit_value CStr u)
@@ -391,15 +387,19 @@ of_row kind (u ∷ us) after ((is_unit, e), row) =
     let (each, ends) = of_row kind us after row in
     ((is_unit, each), (ends_cut u (texts us) after e, ends))
 
+-- The units of a string before its quote and any text have the string's value.
+pub inside_to : (kind : Kind) (a : Rule) → UnitRule kind a → (text value x : List ℕ) (s : Cooked kind text value x) (after : List ℕ)
+    → Means (Many a) (texts s.units) (34 ∷ after) value
+inside_to kind a rule text value x s after =
+    subst (λ v. Means (Many a) (texts s.units) (34 ∷ after) v) (sym s.value_is)
+    (many_to a unit_text (unit_value kind) (Fits kind) rule s.units (34 ∷ after) (row_of kind s.units (34 ∷ after) refl s.each s.ends))
+
 cooked_rule : (kind : Kind) (a : Rule) → UnitRule kind a → is_string kind ≡ true → (text value x : List ℕ)
     → Cooked kind text value x ↔ Framed (frame kind (Many a) 34) text value x
 cooked_rule kind a rule string text value x = (to, from)
   where
     to : Cooked kind text value x → Framed (frame kind (Many a) 34) text value x
-    to s =
-        subst (λ v. Framed (frame kind (Many a) 34) text v x) (sym s.value_is)
-        (framed kind (Many a) 34 text (texts s.units) (values kind s.units) x s.text_is
-        (many_to a unit_text (unit_value kind) (Fits kind) rule s.units (34 ∷ x) (row_of kind s.units (34 ∷ x) refl s.each s.ends)))
+    to s = framed kind (Many a) 34 text (texts s.units) value x s.text_is (inside_to kind a rule text value x s x)
 
     from : Framed (frame kind (Many a) 34) text value x → Cooked kind text value x
     from f =

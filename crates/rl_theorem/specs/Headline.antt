@@ -1,27 +1,36 @@
--- The theorem of the libraries, as properties of what their calls return. `IsReading` is the parse result of a text by
--- `syn`'s grammar, `ReadsStrictly` by Rust's grammar. A parse result has a kind, a value and a suffix.
-use Rattle.std.specs.Prelude.{◌≡◌, ◌⊎◌, ℕ, ◌+◌, List, [], ◌∷◌, Option, Some, None, string_bytes}
+-- The theorem of the libraries, as properties of what their calls return. A parse result has a kind, a value and a
+-- suffix.
+use Rattle.std.specs.Prelude.{◌≡◌, ◌⊎◌, ℕ, ◌==◌, ◌/◌, ◌%◌, List, [], ◌∷◌, ◌++◌, Option, Some, None, codes, string_bytes, if◌then◌else◌}
+use Rattle.std.specs.List.{flat_map}
 use Rattle.std.specs.Str.{chars}
+use Prim.Native.Char.{code}
 use Rattle.rl_syntax.specs.declared.kind.Kind.{Kind}
-use Rattle.rl_syntax.specs.Texts.{byte_len}
-use Rattle.rl_syntax.specs.Reading.{Contents, Characters, Bytes, Digits, Truth, quoted_contents, HasNoReading}
-use Rattle.rl_syntax.specs.Readings.{Reading, ReadsStrictly, IsTheReading}
-use Rattle.rl_syntax.specs.Written.{written_text}
-use Rattle.rl_syntax.specs.Printed.{Item, Entry, item_text, IsItemOf}
+use Rattle.rl_syntax.specs.Reading.{Contents, Characters, Bytes, Digits, Truth, quoted_contents}
+use Rattle.rl_syntax.specs.Readings.{Reading}
+use Rattle.rl_syntax.specs.Quoted.{opener}
+use Rattle.rl_syntax.specs.Written.{closer, is_written_as_number, upper_digit}
 use Rattle.rust_literals.specs.declared.lit.Lit.{Lit}
 use Rattle.rust_literals.specs.Literals.{kind_of, token_of}
 use Rattle.rl_theorem.specs.declared.Value.{Value}
 use Rattle.rl_theorem.specs.declared.Value.TheVariants as given
+use Rattle.rl_theorem.specs.RustRules.{IsLiteral}
+use Rattle.rl_theorem.specs.SynRules.{IsSynLiteral}
+
+-- By `syn`'s grammar, the text has the parse result `r`, and no other.
+pub record HasTheReading (text : List ℕ) (r : Reading) : Type 0 where
+  pub is : IsSynLiteral text r
+  pub only : (s : Reading) → IsSynLiteral text s → s ≡ r
 
 -- The literal holds the parse result: it is of its kind, and the literal's text has this parse result and no other.
 pub record HoldsReading {A : Type 0} (lit : Lit A) (r : Reading) : Type 0 where
   pub kind : kind_of lit ≡ Some r.kind
-  pub reads : IsTheReading (chars (token_of lit).text) r
+  pub reads : HasTheReading (chars (token_of lit).text) r
 
--- The literal is `Verbatim`, and its text has no parse result.
+-- The literal is `Verbatim`, and its text has no parse result by `syn`'s grammar. A token such as `x` has none, and neither
+-- has an integer above 128 bits.
 pub record HoldsNoReading {A : Type 0} (lit : Lit A) : Type 0 where
   pub verbatim : kind_of lit ≡ None
-  pub unread : HasNoReading (chars (token_of lit).text)
+  pub unread : (r : Reading) → IsSynLiteral (chars (token_of lit).text) r → ⊥
 
 -- A literal that was parsed holds the parse result of its text, or is `Verbatim` if there is none.
 abbrev pub HoldsItsReading : {A : Type 0} → Lit A → Type 0
@@ -47,26 +56,26 @@ abbrev pub plain_reading : Kind → List ℕ → Reading
 plain_reading kind value =
     record { kind = kind; contents = quoted_contents kind value; suffix = [] }
 
--- The text is the literal that is written for a value. It is a literal by Rust's grammar, and by both grammars it has
--- this value, no suffix, and no other parse result.
+-- The text that is written for a character or byte of a literal of the kind: itself, or an escape. Characters below the
+-- space, DEL, and in literals of bytes the bytes above 127 are written as `\x7F`, unless they have a shorter escape.
+abbrev pub escaped : Kind → ℕ → List ℕ
+escaped kind c =
+    if c == 0 then codes "\\0" else
+    (if c == code "\t" then codes "\\t" else
+    (if c == code "\n" then codes "\\n" else
+    (if c == code "\r" then codes "\\r" else
+    (if c == code "\\" then codes "\\\\" else
+    (if c == closer kind then code "\\" ∷ closer kind ∷ [] else
+    (if is_written_as_number kind c then code "\\" ∷ code "x" ∷ upper_digit (c / 16) ∷ upper_digit (c % 16) ∷ []
+    else c ∷ []))))))
+
+-- The literal that is written for a value: its characters or bytes between quotes.
+abbrev pub written_literal : Kind → List ℕ → List ℕ
+written_literal kind value = opener kind ++ (flat_map (escaped kind) value ++ (closer kind ∷ []))
+
+-- The text is the literal that is written for a value. By both grammars, it is a literal with this value and no suffix. By
+-- `syn`'s grammar it has no other parse result.
 pub record Writes (kind : Kind) (value text : List ℕ) : Type 0 where
-  pub text_is : text ≡ written_text kind value
-  pub strict : ReadsStrictly text (plain_reading kind value)
-  pub reads : IsTheReading text (plain_reading kind value)
-
--- The literal is the item of a printed list that begins at the byte offset `at` of the file. It holds the parse result
--- that Rust's grammar gives the item.
-pub record IsItemAt {A : Type 0} (file at : ℕ) (item : Item) (lit : Lit A) : Type 0 where
-  pub reading : Reading
-  pub strict : IsItemOf reading.kind reading.contents reading.suffix item
-  pub holds : HoldsReading lit reading
-  pub text : chars (token_of lit).text ≡ item_text item
-  pub span : (token_of lit).span ≡ record { file = file; lo = at; hi = at + byte_len (item_text item) }
-
--- The literals are the items of a printed list, one by one. The list begins at the byte offset `at` of the file.
-abbrev pub HoldItems : {A : Type 0} → ℕ → ℕ → List Entry → List (Lit A) → Type 0
-HoldItems file at [] lits = lits ≡ []
-HoldItems file at (e ∷ es) [] = ⊥
-HoldItems file at (e ∷ es) (l ∷ ls) =
-    IsItemAt file (at + byte_len e.gap) e.item l
-    × HoldItems file (at + byte_len e.gap + byte_len (item_text e.item)) es ls
+  pub text_is : text ≡ written_literal kind value
+  pub strict : IsLiteral text (plain_reading kind value)
+  pub reads : HasTheReading text (plain_reading kind value)

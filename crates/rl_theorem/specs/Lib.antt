@@ -1,4 +1,5 @@
 pub mod Headline
+pub mod Printed
 pub mod Lists
 pub mod Notation
 pub mod RustRules

@@ -1,8 +1,9 @@
--- A notation for grammars, like that of the Rust Reference. A rule has texts, and each text of a rule has a value: the
--- characters, bytes or digits that it represents. The text that follows may decide whether a text is one of the rule's.
+-- A notation for grammars, like that of the Rust Reference.
 use Rattle.std.specs.Prelude.{◌≡◌, ◌⊎◌, ℕ, Bool, true, not, List, [], ◌∷◌, ◌++◌, IsTrue}
 use Rattle.rl_syntax.specs.Texts.{is_among}
 
+-- A rule has texts, and each text of a rule has a value: the characters, bytes or digits that it represents. The text that
+-- follows may decide whether a text is one of the rule's. There are nine forms of rules.
 pub data Rule : Type 0 where
   -- Exactly this text. Its value is empty.
   Text : (text : List ℕ) → Rule
@@ -23,10 +24,12 @@ pub data Rule : Type 0 where
   -- The empty text, if no text of the rule follows.
   Unless : (rule : Rule) → Rule
 
+-- The sign for `Then`.
 infixr 30 ◌⋅◌
 abbrev pub ◌⋅◌ : Rule → Rule → Rule
 a ⋅ b = Then a b
 
+-- The sign for `Or`.
 infixr 20 ◌∣◌
 abbrev pub ◌∣◌ : Rule → Rule → Rule
 a ∣ b = Or a b
@@ -55,6 +58,7 @@ Means (Unless a) text after value =
 
 -- ---- short forms
 
+-- A text of the rule, or the empty text.
 abbrev pub maybe : Rule → Rule
 maybe a = Text [] ∣ a
 

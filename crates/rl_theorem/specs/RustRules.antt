@@ -10,6 +10,7 @@ use Rattle.rl_syntax.specs.declared.kind.Kind.{Kind}
 use Rattle.rl_syntax.specs.declared.kind.Kind.TheVariants.{Str, ByteStr, CStr, Byte, Char, Int, Float, Bool as BoolKind}
 use Rattle.rl_syntax.specs.Spelling.{place_value}
 use Rattle.rl_syntax.specs.Reading.{Contents, Digits, Truth, quoted_contents}
+use Rattle.rl_syntax.specs.Readings.{Reading}
 use Rattle.rl_syntax.specs.Strict.{Strict, dec}
 use Rattle.rl_theorem.specs.Notation.{Rule, Text, One, Many, As, If, Some, Unless, ◌⋅◌, ◌∣◌, Means, maybe, any_of, but, end, ◌is◌, skip}
 
@@ -77,17 +78,19 @@ string_continue = skip (Text (codes "\\\n") ⋅ Many (any_of (codes " \t\n"))) �
 
 -- ---- quoted literals
 
--- CHAR_LITERAL: between single quotes, a character other than `'`, `\`, LF, CR and TAB, or an escape.
+-- Between the quotes of CHAR_LITERAL: a character other than `'`, `\`, LF, CR and TAB, or an escape.
 abbrev pub char_content : Rule
 char_content = One (but (codes "'\\\n\r\t")) ∣ quote_escape ∣ ascii_escape ∣ u_escape
 
+-- CHAR_LITERAL: one of these between single quotes.
 abbrev pub char_literal : Rule
 char_literal = Text (codes "'") ⋅ char_content ⋅ Text (codes "'")
 
--- STRING_LITERAL: between double quotes, any number of characters other than `"`, `\` and CR, and escapes.
+-- Between the quotes of STRING_LITERAL: a character other than `"`, `\` and CR, or an escape.
 abbrev pub string_content : Rule
 string_content = One (but (codes "\"\\\r")) ∣ quote_escape ∣ ascii_escape ∣ u_escape ∣ string_continue
 
+-- STRING_LITERAL: any number of these between double quotes.
 abbrev pub string_literal : Rule
 string_literal = Text (codes "\"") ⋅ Many string_content ⋅ Text (codes "\"")
 
@@ -95,10 +98,11 @@ string_literal = Text (codes "\"") ⋅ Many string_content ⋅ Text (codes "\"")
 abbrev pub ascii_for_char : Rule
 ascii_for_char = One (λ c. is_ascii c && but (codes "'\\\n\r\t") c)
 
--- BYTE_LITERAL: `b`, and between single quotes ASCII_FOR_CHAR or BYTE_ESCAPE.
+-- Between the quotes of BYTE_LITERAL: ASCII_FOR_CHAR or BYTE_ESCAPE.
 abbrev pub byte_content : Rule
 byte_content = ascii_for_char ∣ byte_escape
 
+-- BYTE_LITERAL: `b`, and one of these between single quotes.
 abbrev pub byte_literal : Rule
 byte_literal = Text (codes "b'") ⋅ byte_content ⋅ Text (codes "'")
 
@@ -106,10 +110,11 @@ byte_literal = Text (codes "b'") ⋅ byte_content ⋅ Text (codes "'")
 abbrev pub ascii_for_string : Rule
 ascii_for_string = One (λ c. is_ascii c && but (codes "\"\\\r") c)
 
--- BYTE_STRING_LITERAL: `b`, and between double quotes any number of ASCII_FOR_STRING, BYTE_ESCAPE and STRING_CONTINUE.
+-- Between the quotes of BYTE_STRING_LITERAL: ASCII_FOR_STRING, BYTE_ESCAPE or STRING_CONTINUE.
 abbrev pub byte_string_content : Rule
 byte_string_content = ascii_for_string ∣ byte_escape ∣ string_continue
 
+-- BYTE_STRING_LITERAL: `b`, and any number of these between double quotes.
 abbrev pub byte_string_literal : Rule
 byte_string_literal = Text (codes "b\"") ⋅ Many byte_string_content ⋅ Text (codes "\"")
 
@@ -117,18 +122,19 @@ byte_string_literal = Text (codes "b\"") ⋅ Many byte_string_content ⋅ Text (
 abbrev pub not_nul : Rule → Rule
 not_nul a = If (list_all (λ c. not (c == 0))) a
 
--- C_STRING_LITERAL: `c`, and between double quotes any number of characters other than `"`, `\`, CR and NUL, and of
--- escapes that aren't NUL. The value is bytes. Characters are encoded as UTF-8, and `\x` is one byte.
+-- Between the quotes of C_STRING_LITERAL: a character other than `"`, `\`, CR and NUL, or an escape that isn't NUL. The
+-- value is bytes. Characters are encoded as UTF-8, and `\x` is one byte.
 abbrev pub c_string_content : Rule
 c_string_content =
     As encode_utf8_all (One (λ c. but (codes "\"\\\r") c && not (c == 0))) ∣ not_nul byte_escape
     ∣ As encode_utf8_all (not_nul u_escape) ∣ string_continue
 
+-- C_STRING_LITERAL: `c`, and any number of these between double quotes.
 abbrev pub c_string_literal : Rule
 c_string_literal = Text (codes "c\"") ⋅ Many c_string_content ⋅ Text (codes "\"")
 
--- RAW_STRING_LITERAL, RAW_BYTE_STRING_LITERAL, RAW_C_STRING_LITERAL: the prefix, at most 255 hashes and `"`, any number of
--- characters other than CR that pass the test, and the first `"` with as many hashes after it.
+-- A raw literal: the prefix, at most 255 hashes and `"`, any number of characters other than CR that pass the test, and the
+-- first `"` with as many hashes after it.
 abbrev pub raw : List ℕ → (ℕ → Bool) → Rule
 raw prefix test =
     Some (λ hashes. If (λ v. nat_lt hashes 256)
@@ -136,12 +142,15 @@ raw prefix test =
     ⋅ Many (Unless (Text (code "\"" ∷ replicate hashes (code "#"))) ⋅ One (λ c. test c && but (codes "\r") c))
     ⋅ Text (code "\"" ∷ replicate hashes (code "#"))))
 
+-- RAW_STRING_LITERAL: `r`, and any characters.
 abbrev pub raw_string_literal : Rule
 raw_string_literal = raw (codes "r") (λ c. true)
 
+-- RAW_BYTE_STRING_LITERAL: `br`, and ASCII characters.
 abbrev pub raw_byte_string_literal : Rule
 raw_byte_string_literal = raw (codes "br") is_ascii
 
+-- RAW_C_STRING_LITERAL: `cr`, and characters other than NUL. The value is bytes.
 abbrev pub raw_c_string_literal : Rule
 raw_c_string_literal = As encode_utf8_all (raw (codes "cr") (λ c. not (c == 0)))
 
@@ -155,13 +164,15 @@ dec_literal = digit 10 ⋅ digits 10
 abbrev pub with_prefix : List ℕ → ℕ → Rule
 with_prefix prefix base = Text prefix ⋅ some_digits base
 
--- BIN_LITERAL, OCT_LITERAL, HEX_LITERAL.
+-- BIN_LITERAL: a number in base 2.
 abbrev pub bin_literal : Rule
 bin_literal = with_prefix (codes "0b") 2
 
+-- OCT_LITERAL: a number in base 8.
 abbrev pub oct_literal : Rule
 oct_literal = with_prefix (codes "0o") 8
 
+-- HEX_LITERAL: a number in base 16.
 abbrev pub hex_literal : Rule
 hex_literal = with_prefix (codes "0x") 16
 
@@ -202,6 +213,7 @@ boolean_literal = (codes "true" is 1 ∣ codes "false" is 0) ⋅ end
 
 -- ---- all literals
 
+-- The rules of each kind of literals, without the suffix.
 abbrev pub literal : Kind → Rule
 literal Str = string_literal ∣ raw_string_literal
 literal ByteStr = byte_string_literal ∣ raw_byte_string_literal
@@ -229,12 +241,12 @@ pub record IsLiteralBy (rule tail : Rule) (kind : Kind) (text : List ℕ) (conte
   pub is_suffix : (v : List ℕ) × Means tail suffix_text [] v
   pub contents_is : contents ≡ as_contents kind value
 
--- By the rules of the Reference, the text is a literal of the kind, with the given value and suffix.
-abbrev pub IsLiteral : List ℕ → Kind → Contents → List ℕ → Type 0
-IsLiteral text kind contents suffix_text = IsLiteralBy (literal kind) (maybe suffix) kind text contents suffix_text
+-- By Rust's grammar, which is the rules of the Reference, the text is a literal with the parse result.
+abbrev pub IsLiteral : List ℕ → Reading → Type 0
+IsLiteral text r = IsLiteralBy (literal r.kind) (maybe suffix) r.kind text r.contents r.suffix
 
 -- Rust's grammar is the rules of the Reference.
 abbrev pub StrictIsByTheRules : Type 0
 StrictIsByTheRules =
     (text : List ℕ) (kind : Kind) (contents : Contents) (suffix_text : List ℕ)
-    → Strict text kind contents suffix_text ↔ IsLiteral text kind contents suffix_text
+    → Strict text kind contents suffix_text ↔ IsLiteral text (record { kind = kind; contents = contents; suffix = suffix_text })

@@ -10,6 +10,7 @@ use Rattle.rl_syntax.specs.declared.kind.Kind.TheVariants.{Str, ByteStr, CStr, B
 use Rattle.rl_syntax.specs.Spelling.{place_value}
 use Rattle.rl_syntax.specs.Numbers.{limit}
 use Rattle.rl_syntax.specs.Reading.{Contents, Reads}
+use Rattle.rl_syntax.specs.Readings.{Reading}
 use Rattle.rl_theorem.specs.Notation.{Rule, Text, One, Many, As, If, Some, Unless, ◌⋅◌, ◌∣◌, maybe, any_of, but, end, ◌is◌, skip}
 use Rattle.rl_theorem.specs.RustRules.{identifier_or_keyword, digit, digits, some_digits, byte_escape, not_nul, ascii_for_char, ascii_for_string, dec_literal, bin_literal, oct_literal, hex_literal, number, no_prefix, boolean_literal, IsLiteralBy}
 
@@ -39,64 +40,71 @@ line_continue =
 
 -- ---- quoted literals
 
--- `parse_lit_char`: between single quotes, a character other than `\`, or an escape. `\x` represents an ASCII character.
+-- Between the quotes of a character: a character other than `\`, or an escape. `\x` represents an ASCII character.
 abbrev pub char_inside : Rule
 char_inside = One (but (codes "\\")) ∣ ascii_only byte_escape ∣ backslash_u
 
+-- `parse_lit_char`: one of these between single quotes.
 abbrev pub parse_lit_char : Rule
 parse_lit_char = Text (codes "'") ⋅ char_inside ⋅ Text (codes "'")
 
--- `parse_lit_byte`: `b`, and between single quotes ASCII_FOR_CHAR or an escape.
+-- Between the quotes of a byte: ASCII_FOR_CHAR, or an escape.
 abbrev pub byte_inside : Rule
 byte_inside = ascii_for_char ∣ byte_escape
 
+-- `parse_lit_byte`: `b`, and one of these between single quotes.
 abbrev pub parse_lit_byte : Rule
 parse_lit_byte = Text (codes "b'") ⋅ byte_inside ⋅ Text (codes "'")
 
--- `parse_lit_str_cooked`: between double quotes, any number of characters other than `"`, `\` and CR, of CR LF, and of
--- escapes.
+-- Between the quotes of a string: a character other than `"`, `\` and CR, or CR LF, or an escape.
 abbrev pub str_inside : Rule
 str_inside = One (but (codes "\"\\\r")) ∣ cr_lf ∣ ascii_only byte_escape ∣ backslash_u ∣ line_continue
 
+-- `parse_lit_str_cooked`: any number of these between double quotes.
 abbrev pub parse_lit_str_cooked : Rule
 parse_lit_str_cooked = Text (codes "\"") ⋅ Many str_inside ⋅ Text (codes "\"")
 
--- `parse_lit_byte_str_cooked`: the same after `b`, where characters are ASCII. There is no escape `\u{..}`.
+-- Between the quotes of a byte string: as in a string, but characters are ASCII, and there is no escape `\u{..}`.
 abbrev pub byte_str_inside : Rule
 byte_str_inside = ascii_for_string ∣ cr_lf ∣ byte_escape ∣ line_continue
 
+-- `parse_lit_byte_str_cooked`: `b`, and any number of these between double quotes.
 abbrev pub parse_lit_byte_str_cooked : Rule
 parse_lit_byte_str_cooked = Text (codes "b\"") ⋅ Many byte_str_inside ⋅ Text (codes "\"")
 
--- `parse_lit_c_str_cooked`: the same after `c`, without NUL. The value is bytes.
+-- Between the quotes of a C string: as in a string, but without NUL, and `\x` may be any other byte. The value is bytes.
 abbrev pub c_str_inside : Rule
 c_str_inside =
     As encode_utf8_all (One (λ c. but (codes "\"\\\r") c && not (c == 0))) ∣ cr_lf ∣ not_nul byte_escape
     ∣ As encode_utf8_all (not_nul backslash_u) ∣ line_continue
 
+-- `parse_lit_c_str_cooked`: `c`, and any number of these between double quotes.
 abbrev pub parse_lit_c_str_cooked : Rule
 parse_lit_c_str_cooked = Text (codes "c\"") ⋅ Many c_str_inside ⋅ Text (codes "\"")
 
--- `parse_lit_str_raw`, `parse_lit_byte_str_raw`, `parse_lit_c_str_raw`: the prefix, any number of hashes and `"`, characters
--- that pass the test, and `"` with as many hashes. The closing quote is the last `"` of the whole text.
+-- A raw string: the prefix, any number of hashes and `"`, characters that pass the test, and `"` with as many hashes. The
+-- closing quote is the last `"` of the whole text.
 abbrev pub raw_to_last : List ℕ → (ℕ → Bool) → Rule
 raw_to_last prefix test =
     Some (λ hashes. (Text (prefix ++ replicate hashes (code "#") ++ codes "\"") ⋅ Many (One test)
     ⋅ Text (code "\"" ∷ replicate hashes (code "#")))
     ⋅ Unless (Many (One (λ c. true)) ⋅ Text (codes "\"")))
 
+-- `parse_lit_str_raw`: `r`, and any characters.
 abbrev pub parse_lit_str_raw : Rule
 parse_lit_str_raw = raw_to_last (codes "r") (λ c. true)
 
+-- `parse_lit_byte_str_raw`: `br`, and ASCII characters.
 abbrev pub parse_lit_byte_str_raw : Rule
 parse_lit_byte_str_raw = raw_to_last (codes "br") is_ascii
 
+-- `parse_lit_c_str_raw`: `cr`, and characters other than NUL. The value is bytes.
 abbrev pub parse_lit_c_str_raw : Rule
 parse_lit_c_str_raw = As encode_utf8_all (raw_to_last (codes "cr") (λ c. not (c == 0)))
 
 -- ---- numbers
 
--- The suffix of a number is empty or an identifier (`xid_ok`), and doesn't begin with `_`.
+-- The suffix of a number is empty or an identifier, and doesn't begin with `_`.
 abbrev pub number_suffix : Rule
 number_suffix = Unless (any_of (codes "_")) ⋅ maybe identifier_or_keyword
 
@@ -129,7 +137,8 @@ parse_lit_float =
 
 -- ---- all literals
 
--- An integer is within 128 bits. A number is a float only if it isn't an integer of any size.
+-- The rules of each kind of literals, without the suffix. An integer is within 128 bits. A number is a float only if it
+-- isn't an integer of any size.
 abbrev pub syn_literal : Kind → Rule
 syn_literal Str = parse_lit_str_cooked ∣ parse_lit_str_raw
 syn_literal ByteStr = parse_lit_byte_str_cooked ∣ parse_lit_byte_str_raw
@@ -146,13 +155,12 @@ syn_suffix Int = number_suffix
 syn_suffix Float = number_suffix
 syn_suffix kind = Many (One (λ c. true))
 
--- By the rules of `syn`, the text is a literal of the kind, with the given value and suffix.
-abbrev pub IsSynLiteral : List ℕ → Kind → Contents → List ℕ → Type 0
-IsSynLiteral text kind contents suffix_text =
-    IsLiteralBy (syn_literal kind) (syn_suffix kind) kind text contents suffix_text
+-- By `syn`'s grammar, which is these rules, the text is a literal with the parse result.
+abbrev pub IsSynLiteral : List ℕ → Reading → Type 0
+IsSynLiteral text r = IsLiteralBy (syn_literal r.kind) (syn_suffix r.kind) r.kind text r.contents r.suffix
 
 -- `syn`'s grammar is the rules of `syn`.
 abbrev pub ReadsIsByTheRules : Type 0
 ReadsIsByTheRules =
     (text : List ℕ) (kind : Kind) (contents : Contents) (suffix_text : List ℕ)
-    → Reads text kind contents suffix_text ↔ IsSynLiteral text kind contents suffix_text
+    → Reads text kind contents suffix_text ↔ IsSynLiteral text (record { kind = kind; contents = contents; suffix = suffix_text })

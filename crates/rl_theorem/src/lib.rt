@@ -1,5 +1,5 @@
-//! The theorem of the libraries, as contracts of small functions that call them. `specs/Headline.antt` and
-//! `specs/Lists.antt` have the definitions that the contracts use.
+//! The theorem of the libraries, as contracts of small functions that call them. The contracts use the rules of both
+//! grammars, and the definitions of `specs/`.
 //!
 //! - [`parsed`], [`value_of`], [`suffix_of`]: a token is parsed as its one parse result, which the accessors return.
 //! - [`written_string`] and the like: the literal written for a value is strict, and is parsed as the value.
@@ -15,11 +15,11 @@ pub mod rules;
 ghost use Rattle.std.specs.Prelude.{◌≡◌, ◌∷◌, [], ℕ, List, None, IfOk, IfErr};
 ghost use Rattle.std.specs.Str.{chars};
 ghost use Rattle.rl_syntax.specs.declared.kind.Kind.TheVariants.{Str, ByteStr, CStr, Byte, Char};
-ghost use Rattle.rl_syntax.specs.Printed.{Entry, Printed};
 ghost use Rattle.rl_syntax.specs.Readings.{Reading};
 ghost use Rattle.rl_tokens.specs.declared.error.ErrorKind.TheVariants.{Memory};
 ghost use Rattle.rust_literals.specs.Literals.{token_of};
-ghost use Rattle.rl_theorem.specs.Headline.{HoldsItsReading, HoldsReading, HoldsNoReading, GivesValue, Writes, HoldItems};
+ghost use Rattle.rl_theorem.specs.Headline.{HoldsItsReading, HoldsReading, HoldsNoReading, GivesValue, Writes};
+ghost use Rattle.rl_theorem.specs.Printed.{ListItem, PrintedList, HoldItems};
 ghost use Rattle.rust_literals.specs.ReadBack.{HoldsOrMemory};
 ghost use Rattle.rust_literals.specs.Reprints.{Spaced, lits_of, IsReprint, SameButSpans};
 ghost use Rattle.rl_theorem.specs.Lists.{IsStepAt, IsAlsoAt};
@@ -162,8 +162,8 @@ pub fn read_back<A: Allocator + Copy>(
     file: u32,
 ) -> Result<Vec<Lit<A>, A>, Error<A>>
     // If the text is a printed list of literals, these are the literals that are returned, or an allocation failed.
-    ensures { (entries : List Entry) (last : List ℕ) → Printed (chars text.now) entries last
-        → HoldsOrMemory (HoldItems file 0 entries) result }
+    ensures { (items : List ListItem) (last : List ℕ) → PrintedList (chars text.now) items last
+        → HoldsOrMemory (HoldItems file 0 items) result }
 {
     read_all(alloc, text, file)
 }
@@ -171,8 +171,8 @@ pub fn read_back<A: Allocator + Copy>(
 /// Returns the step number `n` of the loop over a list, counted from 0.
 pub fn literal_at(text: &str, n: usize) -> ListStep<'_>
     // If the text is a printed list of literals, the step is the item number `n`, or the end if the list is shorter.
-    ensures { (entries : List Entry) (last : List ℕ) → Printed (chars text.now) entries last
-        → IsStepAt 0 entries n result }
+    ensures { (items : List ListItem) (last : List ℕ) → PrintedList (chars text.now) items last
+        → IsStepAt 0 items n result }
 {
     let mut list = ListLiterals::new(text);
     for _ in 0..n {
@@ -188,8 +188,8 @@ pub fn both_ways<'t, A: Allocator + Copy>(
     file: u32,
     n: usize,
 ) -> Result<(Vec<Lit<A>, A>, ListStep<'t>), Error<A>>
-    // If the text is a printed list of literals, both ways return the same literals.
-    ensures same { (entries : List Entry) (last : List ℕ) → Printed (chars text.now) entries last
+    // If the text is a printed list of literals, both ways return the same item of the list.
+    ensures same { (items : List ListItem) (last : List ℕ) → PrintedList (chars text.now) items last
         → IfOk result (λ both. IsAlsoAt file both.0.items n both.1) }
 {
     match read_back(alloc, text, file) {

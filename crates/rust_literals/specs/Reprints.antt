@@ -22,6 +22,7 @@ abbrev pub spaced_text : {A : Type 0} → List (Spaced A) → List ℕ → List 
 spaced_text [] last = last
 spaced_text (s ∷ ss) last = s.gap ++ (lit_text s.lit ++ spaced_text ss last)
 
+-- The literals, without the separators.
 abbrev pub lits_of : {A : Type 0} → List (Spaced A) → List (Lit A)
 lits_of spaced = map (λ s. s.lit) spaced
 

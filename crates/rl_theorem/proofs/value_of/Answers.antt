@@ -1,5 +1,5 @@
 use Rattle.std.proofs.Common.{[], refl, ap, ◌∙◌}
-use Rattle.rl_syntax.specs.declared.kind.Kind.TheVariants.{Str, ByteStr, CStr, Char, Int, Bool as BoolKind}
+use Rattle.rl_syntax.specs.declared.kind.Kind.TheVariants.{Str, ByteStr, CStr, Byte, Char, Int, Bool as BoolKind}
 use Rattle.rl_syntax.specs.Reading.{Truth, truth_text}
 use Rattle.rust_literals.specs.Literals.{kind_of, token_of}
 use Rattle.rust_literals.proofs.LitLemmas.{truth_reads}
@@ -14,6 +14,9 @@ returns-in-Ok-value-clause-value g c = λ r h. holds_value c.args.literal.now By
 
 pub returns-in-Ok-value-2-clause-value : goal.returns-in-Ok-value-2-clause-value
 returns-in-Ok-value-2-clause-value g c = λ r h. holds_value c.args.literal.now CStr c.in-CStr.string _ r (ap token_of c.in-CStr.is) c.in-Ok-value-2.ensures.value h
+
+pub returns-in-Byte-clause-value : goal.returns-in-Byte-clause-value
+returns-in-Byte-clause-value g c = λ r h. holds_value c.args.literal.now Byte c.in-Byte.byte _ r (ap token_of c.in-Byte.is) c.value-in-Byte.ensures h
 
 pub returns-in-Char-clause-value : goal.returns-in-Char-clause-value
 returns-in-Char-clause-value g c = λ r h. holds_value c.args.literal.now Char c.in-Char.character _ r (ap token_of c.in-Char.is) c.value-in-Char.ensures h
