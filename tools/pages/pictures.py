@@ -17,7 +17,7 @@ TOKEN = re.compile(r'\s*(codes? "(?:\\.|[^"\\])*"|λ \w+\.|[()⋅∣∷]|[^\s()]
 
 def rules_of(name):
     """Returns the rules of a file: the parameters and the right side of each, by its name."""
-    code = re.sub(r'(?m)^(pub record|  pub |    :).*\n', '', code_of(name) + '\n')
+    code = re.sub(r'(?m)^--.*\n|^(pub record|  pub |    :).*\n', '', code_of(name) + '\n')
     found = re.findall(r'(?m)^(\w+)((?: \w+)*) =((?:.*\n)(?:    .*\n)*)', code)
     return {rule: (parameters.split(), right.strip()) for rule, parameters, right in found if 'IsByTheRules' not in rule}
 
@@ -142,7 +142,7 @@ def drawn(name):
 
 def mark(name):
     """Returns the comment by which a diagram shows of which rules it is made."""
-    return digest(code_of(name))
+    return digest(re.sub(r'(?m)^ *--.*\n', '', code_of(name)))
 
 
 def digest(code):
