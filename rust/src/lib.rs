@@ -94,6 +94,8 @@ mod setting;
 #[cfg(feature = "settings")]
 mod settings;
 mod simd;
+#[cfg(any(feature = "proc-macro", feature = "settings"))]
+mod similar;
 mod slices;
 #[cfg(feature = "sources")]
 mod source;

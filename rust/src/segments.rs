@@ -341,7 +341,7 @@ pub(crate) use quoted_type;
 
 #[cfg(test)]
 mod tests {
-    use crate::{Lit, LitStr, SegmentValue};
+    use crate::{Lit, SegmentValue};
     use std::string::String;
     use std::vec::Vec;
 
@@ -452,33 +452,6 @@ mod tests {
                 .iter()
                 .map(|it| it.start)
                 .eq(starts.take(joined.len())));
-        }
-    }
-
-    #[test]
-    fn ranges() {
-        let literal = LitStr::parse("\"a\\\n  b\\n\"").unwrap();
-        assert_eq!(
-            (literal.text_range(0..1), literal.text_range(0..2)),
-            (1..2, 1..7)
-        );
-        assert_eq!(
-            (literal.text_range(1..3), literal.text_range(1..1)),
-            (6..9, 6..6)
-        );
-        assert_eq!(
-            (literal.text_range(3..3), literal.text_range(9..12)),
-            (9..9, 9..9)
-        );
-        let places = literal.offset_map();
-        for lo in 0..5 {
-            for hi in 0..5 {
-                assert_eq!(
-                    places.text_range(lo..hi),
-                    literal.text_range(lo..hi),
-                    "{lo}..{hi}"
-                );
-            }
         }
     }
 }
