@@ -211,7 +211,7 @@ pub enum ValueFlaw {
 }
 
 /// Whether the type has negative numbers.
-fn is_signed(ty: IntegerType) -> bool {
+pub fn is_signed(ty: IntegerType) -> bool {
     match ty {
         IntegerType::U8
         | IntegerType::U16
