@@ -32,7 +32,6 @@ pub enum IntegerType {
 
 impl IntegerType {
     /// Returns the integer type that `suffix` names, or `None` for every other suffix.
-    #[cfg(feature = "flaws")]
     #[inline]
     pub fn named(suffix: &str) -> Option<IntegerType> {
         match suffix {
