@@ -259,20 +259,6 @@ impl OffsetMap {
     }
 }
 
-/// Returns the byte offset in the value of the byte of the text at the offset `at`, by walking over the segments.
-#[inline]
-pub(crate) fn value_offset(mut segments: Segments<'_>, at: usize) -> usize {
-    match segments.find(|segment| at < segment.range.end) {
-        Some(Segment {
-            range,
-            value_range,
-            value: SegmentValue::Text(_),
-        }) => value_range.start + at.saturating_sub(range.start),
-        Some(segment) => segment.value_range.start,
-        None => segments.value_offset,
-    }
-}
-
 /// Writes the methods of a quoted literal's struct that return segments and offsets. The struct needs a `KIND` and the method
 /// `parts`. `$text` is a literal for the examples. The first byte of its value comes from the range `$range` of the text, and the
 /// second one from the offset `$place`.
@@ -314,7 +300,7 @@ macro_rules! quoted_type {
             #[inline]
             #[must_use]
             pub fn value_offset(&self, at: usize) -> usize {
-                $crate::segments::value_offset(self.segments(), at)
+                self.cursor().value_offset(at)
             }
 
             /// Returns the byte range of the literal's text that gives the byte range `bytes` of the value. If `bytes` begins or
@@ -443,7 +429,13 @@ mod tests {
             let by_places: Vec<usize> =
                 (0..=text.len()).map(|at| places.value_offset(at)).collect();
             assert_eq!(by_places, *values, "{text}");
-            let by_walks = (0..=text.len()).map(|at| super::value_offset(segments(), at));
+            let by_walks = (0..=text.len()).map(|at| match &literal {
+                Lit::Str(it) => it.value_offset(at),
+                Lit::CStr(it) => it.value_offset(at),
+                Lit::Byte(it) => it.value_offset(at),
+                Lit::Char(it) => it.value_offset(at),
+                other => panic!("{other}"),
+            });
             assert_eq!(by_walks.collect::<Vec<_>>(), *values, "{text}");
             let joined: Vec<_> = segments().map(|it| it.value_range).collect();
             let ends = joined.iter().map(|it| it.end);
