@@ -3,6 +3,7 @@
 use crate::macro_error::MacroError;
 use crate::meta::Meta;
 use crate::proc_macros::LitOfKind;
+use crate::similar::similar;
 use crate::value::Number;
 use alloc::string::String;
 use alloc::vec::{self, Vec};
@@ -204,9 +205,13 @@ impl Attrs {
             .entries
             .iter()
             .filter(|meta| !known.contains(&meta.name()));
-        MacroError::combine_all(unknown.map(|meta| match similar(meta.name(), known) {
-            Some(name) => meta.error(format_args!("{}: did you mean `{name}`?", meta.unknown())),
-            None => meta.unknown(),
+        MacroError::combine_all(unknown.map(|meta| {
+            match similar(meta.name(), known.iter().copied()) {
+                Some(name) => {
+                    meta.error(format_args!("{}: did you mean `{name}`?", meta.unknown()))
+                }
+                None => meta.unknown(),
+            }
         }))
     }
 
@@ -340,28 +345,6 @@ impl Attrs {
     }
 }
 
-/// Returns the known name that is most like `name`, if at most a third of its characters differ.
-fn similar<'k>(name: &str, known: &[&'k str]) -> Option<&'k str> {
-    let near = known.iter().map(|&it| (changes(name, it), it));
-    let (least, near) = near.min_by_key(|it| it.0)?;
-    (least * 3 <= near.chars().count()).then_some(near)
-}
-
-/// Returns the least number of characters to insert, remove or replace that changes one name to the other.
-fn changes(one: &str, other: &str) -> usize {
-    let mut row: Vec<usize> = (0..=other.chars().count()).collect();
-    for (above, c) in one.chars().enumerate() {
-        let mut before = above;
-        row[0] = above + 1;
-        for (at, d) in other.chars().enumerate() {
-            let replaced = before + usize::from(c != d);
-            before = row[at + 1];
-            row[at + 1] = replaced.min(before + 1).min(row[at] + 1);
-        }
-    }
-    row[row.len() - 1]
-}
-
 impl<'a> IntoIterator for &'a Attrs {
     type Item = &'a Meta;
     type IntoIter = slice::Iter<'a, Meta>;
@@ -379,20 +362,5 @@ impl IntoIterator for Attrs {
     #[inline]
     fn into_iter(self) -> Self::IntoIter {
         self.entries.into_iter()
-    }
-}
-
-#[cfg(test)]
-mod tests {
-    use super::similar;
-
-    #[test]
-    fn names_with_few_other_letters_are_similar() {
-        let of = |name| similar(name, &["name", "size", "rename_all", "a"]);
-        assert_eq!(of("nme"), Some("name"));
-        assert_eq!(of("sizes"), Some("size"));
-        assert_eq!(of("renameAll"), Some("rename_all"));
-        assert_eq!((of("nm"), of("b"), of("verbose")), (None, None, None));
-        assert_eq!(similar("name", &[]), None);
     }
 }

@@ -94,6 +94,8 @@ mod setting;
 #[cfg(feature = "settings")]
 mod settings;
 mod simd;
+#[cfg(any(feature = "proc-macro", feature = "settings"))]
+mod similar;
 mod slices;
 #[cfg(feature = "sources")]
 mod source;
@@ -169,7 +171,12 @@ pub use proc_macros::{next_literal, next_literal_of, only_literal_of, LitOfKind}
 pub use restyle::{rewrite_source, Edit, Edits};
 #[cfg(feature = "style")]
 pub use rewrite::{rewrite, rewrite_in_context};
-/// The reason why a literal has no type in Rust. [`Lit::type_error`] returns it.
+/// The reason why a literal has no type in Rust. [`Lit::type_error`] returns it. Later versions may have more reasons:
+///
+/// ```compile_fail,E0004
+/// use navyspindle::TypeError::*;
+/// let all = |error| match error { BasedFloat | FloatSuffix | OutOfRange | QuotedSuffix | UnknownSuffix => () };
+/// ```
 ///
 /// ```
 /// use navyspindle::{Lit, TypeError};

@@ -1,5 +1,6 @@
 //! Conversion of byte offsets to lines and columns, and back.
 
+use crate::rl_syntax::lines::after_first_line_feed;
 use alloc::vec::Vec;
 
 /// A position in a text as compilers print it: a line and a column, both from 1.
@@ -72,11 +73,9 @@ impl<'t> LineIndex<'t> {
     /// ```
     #[must_use]
     pub fn new(text: &'t str) -> Self {
-        let front = text.len() - text.strip_prefix('\u{feff}').unwrap_or(text).len();
-        let ends = text.bytes().enumerate().filter(|&(_, byte)| byte == b'\n');
-        let starts = core::iter::once(front)
-            .chain(ends.map(|(at, _)| at + 1))
-            .collect();
+        let first = text.strip_prefix('\u{feff}').unwrap_or(text);
+        let lines = core::iter::successors(Some(first), |line| after_first_line_feed(line));
+        let starts = lines.map(|line| text.len() - line.len()).collect();
         let mut characters = Vec::new();
         if !text.is_ascii() {
             let mut before = 0;

@@ -8,8 +8,9 @@ use crate::kind::Kind;
 use crate::lit::Lit;
 use crate::parse_error::ParseError;
 use crate::rl_lenient::number_forms::float_suffix;
-use crate::rl_lenient::{float_parts, integer_parts, FloatParts};
+use crate::rl_lenient::{float_parts, integer_parts, is_signed, FloatParts};
 use crate::rl_syntax::scan::{len_before_near_mark, Marks};
+use crate::rl_syntax::IntegerType;
 use alloc::borrow::Cow;
 use alloc::format;
 use alloc::string::String;
@@ -83,7 +84,7 @@ impl Base {
 }
 
 macro_rules! number_types {
-    ($($variant:ident $name:literal)*) => {
+    ($($integer:ident $name:literal)*) => {
         /// A primitive number type that a literal's suffix may name, such as `u8` in `1u8`.
         ///
         /// ```
@@ -101,28 +102,30 @@ macro_rules! number_types {
         #[derive(Clone, Copy, Debug, PartialEq, Eq, PartialOrd, Ord, Hash)]
         #[non_exhaustive]
         pub enum NumberType {
-            $(#[doc = concat!("`", $name, "`.")] $variant,)*
+            $(#[doc = concat!("`", $name, "`.")] $integer,)*
+            /// `f32`.
+            F32,
+            /// `f64`.
+            F64,
         }
 
         impl NumberType {
-            /// Returns the type's name.
-            ///
-            /// ```
-            /// assert_eq!(navyspindle::NumberType::Usize.as_str(), "usize");
-            /// ```
+            /// Returns the integer type, or `None` for `f32` and `f64`.
             #[inline]
-            #[must_use]
-            pub fn as_str(self) -> &'static str {
+            const fn integer(self) -> Option<IntegerType> {
                 match self {
-                    $(NumberType::$variant => $name,)*
+                    $(NumberType::$integer => Some(IntegerType::$integer),)*
+                    NumberType::F32 | NumberType::F64 => None,
                 }
             }
 
             #[inline]
             pub(crate) fn named(name: &str) -> Option<NumberType> {
-                match name {
-                    $($name => Some(NumberType::$variant),)*
-                    _ => None,
+                match (IntegerType::named(name), name) {
+                    $((Some(IntegerType::$integer), _) => Some(NumberType::$integer),)*
+                    (None, "f32") => Some(NumberType::F32),
+                    (None, "f64") => Some(NumberType::F64),
+                    (None, _) => None,
                 }
             }
         }
@@ -132,10 +135,24 @@ macro_rules! number_types {
 number_types! {
     U8 "u8" U16 "u16" U32 "u32" U64 "u64" U128 "u128" Usize "usize"
     I8 "i8" I16 "i16" I32 "i32" I64 "i64" I128 "i128" Isize "isize"
-    F32 "f32" F64 "f64"
 }
 
 impl NumberType {
+    /// Returns the type's name.
+    ///
+    /// ```
+    /// assert_eq!(navyspindle::NumberType::Usize.as_str(), "usize");
+    /// ```
+    #[inline]
+    #[must_use]
+    pub fn as_str(self) -> &'static str {
+        match self.integer() {
+            Some(integer) => integer.name(),
+            None if self == NumberType::F32 => "f32",
+            None => "f64",
+        }
+    }
+
     /// Returns `true` for `f32` and `f64`.
     ///
     /// ```
@@ -144,7 +161,7 @@ impl NumberType {
     #[inline]
     #[must_use]
     pub const fn is_float(self) -> bool {
-        matches!(self, NumberType::F32 | NumberType::F64)
+        self.integer().is_none()
     }
 
     /// Returns `true` for the integer types without negative numbers.
@@ -155,8 +172,7 @@ impl NumberType {
     #[inline]
     #[must_use]
     pub fn is_unsigned(self) -> bool {
-        use NumberType::{Usize, U128, U16, U32, U64, U8};
-        matches!(self, U8 | U16 | U32 | U64 | U128 | Usize)
+        self.integer().is_some_and(|integer| !is_signed(integer))
     }
 }
 

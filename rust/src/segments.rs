@@ -259,20 +259,6 @@ impl OffsetMap {
     }
 }
 
-/// Returns the byte offset in the value of the byte of the text at the offset `at`, by walking over the segments.
-#[inline]
-pub(crate) fn value_offset(mut segments: Segments<'_>, at: usize) -> usize {
-    match segments.find(|segment| at < segment.range.end) {
-        Some(Segment {
-            range,
-            value_range,
-            value: SegmentValue::Text(_),
-        }) => value_range.start + at.saturating_sub(range.start),
-        Some(segment) => segment.value_range.start,
-        None => segments.value_offset,
-    }
-}
-
 /// Writes the methods of a quoted literal's struct that return segments and offsets. The struct needs a `KIND` and the method
 /// `parts`. `$text` is a literal for the examples. The first byte of its value comes from the range `$range` of the text, and the
 /// second one from the offset `$place`.
@@ -314,7 +300,7 @@ macro_rules! quoted_type {
             #[inline]
             #[must_use]
             pub fn value_offset(&self, at: usize) -> usize {
-                $crate::segments::value_offset(self.segments(), at)
+                self.cursor().value_offset(at)
             }
 
             /// Returns the byte range of the literal's text that gives the byte range `bytes` of the value. If `bytes` begins or
@@ -341,7 +327,7 @@ pub(crate) use quoted_type;
 
 #[cfg(test)]
 mod tests {
-    use crate::{Lit, LitStr, SegmentValue};
+    use crate::{Lit, SegmentValue};
     use std::string::String;
     use std::vec::Vec;
 
@@ -443,7 +429,13 @@ mod tests {
             let by_places: Vec<usize> =
                 (0..=text.len()).map(|at| places.value_offset(at)).collect();
             assert_eq!(by_places, *values, "{text}");
-            let by_walks = (0..=text.len()).map(|at| super::value_offset(segments(), at));
+            let by_walks = (0..=text.len()).map(|at| match &literal {
+                Lit::Str(it) => it.value_offset(at),
+                Lit::CStr(it) => it.value_offset(at),
+                Lit::Byte(it) => it.value_offset(at),
+                Lit::Char(it) => it.value_offset(at),
+                other => panic!("{other}"),
+            });
             assert_eq!(by_walks.collect::<Vec<_>>(), *values, "{text}");
             let joined: Vec<_> = segments().map(|it| it.value_range).collect();
             let ends = joined.iter().map(|it| it.end);
@@ -452,33 +444,6 @@ mod tests {
                 .iter()
                 .map(|it| it.start)
                 .eq(starts.take(joined.len())));
-        }
-    }
-
-    #[test]
-    fn ranges() {
-        let literal = LitStr::parse("\"a\\\n  b\\n\"").unwrap();
-        assert_eq!(
-            (literal.text_range(0..1), literal.text_range(0..2)),
-            (1..2, 1..7)
-        );
-        assert_eq!(
-            (literal.text_range(1..3), literal.text_range(1..1)),
-            (6..9, 6..6)
-        );
-        assert_eq!(
-            (literal.text_range(3..3), literal.text_range(9..12)),
-            (9..9, 9..9)
-        );
-        let places = literal.offset_map();
-        for lo in 0..5 {
-            for hi in 0..5 {
-                assert_eq!(
-                    places.text_range(lo..hi),
-                    literal.text_range(lo..hi),
-                    "{lo}..{hi}"
-                );
-            }
         }
     }
 }

@@ -6,6 +6,7 @@ use crate::help::STRING;
 use crate::lit::Lit;
 use crate::parse_error::ParseError;
 use crate::settings::{parse_settings, Entry};
+use crate::similar::similar;
 use crate::value::{Number, ValueError};
 use alloc::borrow::Cow;
 use alloc::string::{String, ToString};
@@ -131,6 +132,8 @@ pub struct SettingError {
     kind: SettingErrorKind,
     range: Range<usize>,
     help: Option<&'static str>,
+    // The known name that is most like an unknown one.
+    similar: Option<&'static str>,
 }
 
 impl SettingError {
@@ -140,7 +143,12 @@ impl SettingError {
         range: Range<usize>,
         help: Option<&'static str>,
     ) -> SettingError {
-        SettingError { kind, range, help }
+        SettingError {
+            kind,
+            range,
+            help,
+            similar: None,
+        }
     }
 
     /// Returns the kind of the error.
@@ -265,6 +273,9 @@ impl SettingError {
 impl fmt::Display for SettingError {
     fn fmt(&self, f: &mut fmt::Formatter<'_>) -> fmt::Result {
         write!(f, "{} at byte {}", self.kind, self.range.start)?;
+        if let Some(name) = self.similar {
+            return write!(f, ": did you mean `{name}`?");
+        }
         self.help.map_or(Ok(()), |help| write!(f, ": {help}"))
     }
 }
@@ -370,7 +381,7 @@ impl<'t> Settings<'t> {
     ///
     /// let port = Key::new("port", "an integer");
     /// let error = Settings::read("port = 1, prt = 2")?.check(&[port]).unwrap_err();
-    /// assert_eq!(error.to_string(), "unknown name `prt` at byte 10");
+    /// assert_eq!(error.to_string(), "unknown name `prt` at byte 10: did you mean `port`?");
     /// # Ok::<(), navyspindle::SettingError>(())
     /// ```
     #[inline]
@@ -378,7 +389,8 @@ impl<'t> Settings<'t> {
         self.unknown(known).next().map_or(Ok(()), Err)
     }
 
-    /// Iterates over the errors for settings whose names aren't in `known`. Each error is of kind `Unknown`, at the name.
+    /// Iterates over the errors for settings whose names aren't in `known`. Each error is of kind `Unknown`, at the name. The printed
+    /// error ends with the name in `known` that is most like the unknown one, if at most a third of its characters differ.
     ///
     /// ```
     /// use navyspindle::{Key, Settings};
@@ -386,7 +398,7 @@ impl<'t> Settings<'t> {
     /// const PORT: Key = Key::new("port", "an integer");
     /// let read = Settings::read("prt = 1, port = 2, hst = 3")?;
     /// let errors: Vec<String> = read.unknown(&[PORT]).map(|error| error.to_string()).collect();
-    /// assert_eq!(errors, ["unknown name `prt` at byte 0", "unknown name `hst` at byte 19"]);
+    /// assert_eq!(errors, ["unknown name `prt` at byte 0: did you mean `port`?", "unknown name `hst` at byte 19"]);
     /// # Ok::<(), navyspindle::SettingError>(())
     /// ```
     #[inline]
@@ -396,10 +408,12 @@ impl<'t> Settings<'t> {
     ) -> impl Iterator<Item = SettingError> + Clone + 's {
         let is_unknown = move |entry: &&Entry<'_>| known.iter().all(|key| key.name != entry.name);
         let unknown = self.entries.iter().filter(is_unknown);
-        unknown.map(|entry| SettingError {
-            kind: SettingErrorKind::Unknown(entry.name.to_string()),
-            range: entry.name_range.clone(),
-            help: None,
+        unknown.map(move |entry| {
+            let kind = SettingErrorKind::Unknown(entry.name.to_string());
+            SettingError {
+                similar: similar(entry.name, known.iter().map(|key| key.name)),
+                ..SettingError::of(kind, entry.name_range.clone(), None)
+            }
         })
     }
 
@@ -426,10 +440,9 @@ impl<'t> Settings<'t> {
             _ => Err(no_such(key, entry)),
         })
         .map_err(|error| match self.get(key.name) {
-            Some(entry) if matches!(entry.value, Lit::Char(_)) => SettingError {
-                help: Some(STRING),
-                ..error
-            },
+            Some(entry) if matches!(entry.value, Lit::Char(_)) => {
+                SettingError::of(error.kind, error.range, Some(STRING))
+            }
             _ => error,
         })
     }
@@ -512,11 +525,7 @@ impl<'t> Settings<'t> {
     #[must_use]
     pub fn missing_error(&self, key: Key) -> SettingError {
         let end = self.text.len();
-        SettingError {
-            kind: SettingErrorKind::Missing(key),
-            range: end..end,
-            help: None,
-        }
+        SettingError::of(SettingErrorKind::Missing(key), end..end, None)
     }
 
     /// Returns the result of `take` for the setting of `key`, or `None` if it isn't set. A value that Rust rejects is an error,
@@ -539,11 +548,7 @@ impl<'t> Settings<'t> {
         };
         match taken {
             Ok(value) => Ok(Some(value)),
-            Err((kind, range)) => Err(SettingError {
-                kind,
-                range,
-                help: None,
-            }),
+            Err((kind, range)) => Err(SettingError::of(kind, range, None)),
         }
     }
 }

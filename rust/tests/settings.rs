@@ -86,6 +86,32 @@ fn the_first_unknown_name_is_reported() {
     assert_eq!(read.check(&known), Ok(()));
 }
 
+/// An unknown name is compared with the known ones: at most a third of the letters of a similar one differ.
+#[test]
+fn a_similar_known_name_is_printed() {
+    let known = ["name", "size", "rename_all", "a"].map(|name| Key::new(name, ""));
+    for (unknown, similar) in [
+        ("nme", Some("name")),
+        ("sizes", Some("size")),
+        ("renameAll", Some("rename_all")),
+        ("nm", None),
+        ("b", None),
+        ("verbose", None),
+    ] {
+        let text = format!("a = 1, {unknown} = 2");
+        let read = Settings::read(&text).expect("settings");
+        let error = read.check(&known).expect_err("an unknown name");
+        let hint = similar.map_or(String::new(), |name| format!(": did you mean `{name}`?"));
+        let words = format!("unknown name `{unknown}` at byte 107{hint}");
+        assert_eq!(error.shifted(100).to_string(), words);
+        assert!(!read
+            .check(&[])
+            .expect_err("an unknown name")
+            .to_string()
+            .contains("mean"));
+    }
+}
+
 #[test]
 fn values_of_any_length() {
     for len in [0, 1, 7, 8, 63, 64, 1000] {

@@ -2,7 +2,7 @@
 
 use navyspindle::{
     parse_list, parse_settings, source, write_integer, write_raw_str, Base, DigitGroups, Key, Kind,
-    LineColumn, LineIndex, Lit, LitFloat, LitInt, Settings, Style, SyntaxErrorKind,
+    LineColumn, LineIndex, Lit, LitFloat, LitInt, LitStr, Settings, Style, SyntaxErrorKind,
 };
 
 #[test]
@@ -182,4 +182,31 @@ fn a_name_in_another_case_is_missing() {
     assert!(read.get("port").is_none());
     let error = read.missing_error(Key::new("port", "an integer"));
     assert_eq!(error.range(), 10..10);
+}
+
+#[test]
+fn ranges_of_values_in_texts() {
+    let literal = LitStr::parse("\"a\\\n  b\\n\"").unwrap();
+    assert_eq!(
+        (literal.text_range(0..1), literal.text_range(0..2)),
+        (1..2, 1..7)
+    );
+    assert_eq!(
+        (literal.text_range(1..3), literal.text_range(1..1)),
+        (6..9, 6..6)
+    );
+    assert_eq!(
+        (literal.text_range(3..3), literal.text_range(9..12)),
+        (9..9, 9..9)
+    );
+    let places = literal.offset_map();
+    for lo in 0..5 {
+        for hi in 0..5 {
+            assert_eq!(
+                places.text_range(lo..hi),
+                literal.text_range(lo..hi),
+                "{lo}..{hi}"
+            );
+        }
+    }
 }

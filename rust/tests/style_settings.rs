@@ -72,7 +72,11 @@ fn a_configuration_says_a_style() {
 #[test]
 fn what_says_no_style_is_an_error_at_its_place() {
     for (text, range, message) in [
-        ("drop_row = true", 0..8, "unknown name `drop_row` at byte 0"),
+        (
+            "drop_row = true",
+            0..8,
+            "unknown name `drop_row` at byte 0: did you mean `drop_raw`?",
+        ),
         (
             r#"hex_digits = "Lower""#,
             13..20,

@@ -16,3 +16,4 @@ pub mod RecoverySteps
 pub mod GroupLemmas
 pub mod SettingLemmas
 pub mod EntryLemmas
+pub mod ValueOffsetLemmas

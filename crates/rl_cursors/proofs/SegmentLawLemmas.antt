@@ -27,7 +27,7 @@ use Rattle.rl_lenient.proofs.UnitLemmas.{backslash_not_plain, quote_and_return, 
 
 -- ---- the values of characters and escapes
 
-values_bytes : (kind : Kind) (us : List QuotedUnit) → in_bytes kind (values kind us) ≡ units_bytes kind us
+pub values_bytes : (kind : Kind) (us : List QuotedUnit) → in_bytes kind (values kind us) ≡ units_bytes kind us
 values_bytes kind [] = nothing_in_bytes kind
 values_bytes kind (u ∷ us) = in_bytes_append kind (unit_value kind u) (values kind us)
     ∙ ap (λ z. unit_bytes kind u ++ z) (values_bytes kind us)

@@ -1,5 +1,6 @@
 -- The laws of src/laws.rt, as lemmas that callers can cite.
-use Rattle.rl_cursors.specs.Laws.{SegmentsMakeTheLiteral, ASegmentHasOneValue, ThePlacesOfBytesAreInOrder, TheOffsetsOfBytesAreInTheBody, ATakenLiteralIsRead}
+use Rattle.rl_cursors.specs.Laws.{OffsetsInvertThePlaces, SegmentsMakeTheLiteral, ASegmentHasOneValue, ThePlacesOfBytesAreInOrder, TheOffsetsOfBytesAreInTheBody, ATakenLiteralIsRead}
+use Rattle.rl_cursors.proofs.ValueOffsetLemmas.{inverted}
 use Rattle.rl_cursors.proofs.SegmentLawLemmas.{all_make, keep_order, stands_in}
 use Rattle.rl_cursors.proofs.SegmentValues.{one_segment}
 use Rattle.rl_cursors.proofs.NextValueLemmas.{taken_read}
@@ -9,6 +10,9 @@ segments_make_the_literal = all_make
 
 pub a_segment_has_one_value : ASegmentHasOneValue
 a_segment_has_one_value = one_segment
+
+pub offsets_invert_the_places : OffsetsInvertThePlaces
+offsets_invert_the_places = inverted
 
 pub the_places_of_bytes_are_in_order : ThePlacesOfBytesAreInOrder
 the_places_of_bytes_are_in_order = keep_order

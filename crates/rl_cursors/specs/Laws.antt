@@ -8,6 +8,7 @@ use Rattle.rl_lenient.specs.declared.found.Body.{Body}
 use Rattle.rl_lenient.specs.Founds.{IsQuotedAt}
 use Rattle.rl_cursors.specs.declared.next_literals.NextLiteral.{NextLiteral}
 use Rattle.rl_cursors.specs.NextLiterals.{TakesNextLiteral, IsReadLiteral}
+use Rattle.rl_cursors.specs.ValueOffsets.{OffsetsInvertPlaces}
 use Rattle.rl_cursors.specs.SegmentLaws.{AllMakeTheLiteral, AreOneSegment, PlacesKeepTheOrder, OffsetsAreIn}
 
 -- The segments that `Segments` returns for a literal fill the text between its quotes. Each segment begins where the
@@ -37,6 +38,12 @@ abbrev pub TheOffsetsOfBytesAreInTheBody : Type 0
 TheOffsetsOfBytesAreInTheBody =
     (kind : Kind) (text : List ℕ) (body : Body) → IsUtf8 text
     → IsQuotedAt kind text body → OffsetsAreIn kind text body
+
+-- The offsets in the value and in the text are inverse: the byte of the value that belongs to the place of a byte has the
+-- same place. It is this byte, or the first one of the same escape.
+abbrev pub OffsetsInvertThePlaces : Type 0
+OffsetsInvertThePlaces =
+    (kind : Kind) (units : List QuotedUnit) → OffsetsInvertPlaces kind units
 
 -- The parse result of a literal that was consumed from tokens is that of the literal's text.
 abbrev pub ATakenLiteralIsRead : Type 0

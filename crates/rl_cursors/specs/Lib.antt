@@ -1,5 +1,6 @@
 pub mod Segments
 pub mod SegmentLaws
+pub mod ValueOffsets
 pub mod Ranges
 pub mod NextLiterals
 pub mod Lists

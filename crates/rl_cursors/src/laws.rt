@@ -1,6 +1,6 @@
 //! Laws of the segments of literals, and of the literals of lists. Each function does nothing, and its contract is the law.
 
-ghost use Rattle.rl_cursors.specs.Laws.{SegmentsMakeTheLiteral, ASegmentHasOneValue, ThePlacesOfBytesAreInOrder, TheOffsetsOfBytesAreInTheBody, ATakenLiteralIsRead};
+ghost use Rattle.rl_cursors.specs.Laws.{OffsetsInvertThePlaces, SegmentsMakeTheLiteral, ASegmentHasOneValue, ThePlacesOfBytesAreInOrder, TheOffsetsOfBytesAreInTheBody, ATakenLiteralIsRead};
 
 /// The segments that [`Segments`](crate::Segments) returns for a literal fill the text between its quotes. Each segment
 /// begins where the one before it ends. The values of all segments, joined, are the literal's value.
@@ -27,6 +27,12 @@ pub fn text_offsets_keep_the_order_of_bytes()
 /// body encodes the value's byte at the same offset.
 pub fn text_offsets_are_in_the_body()
     ensures { TheOffsetsOfBytesAreInTheBody }
+{}
+
+/// The offsets in the value and in the text are inverse: [`value_offset`](crate::Segments::value_offset) of the place of a byte
+/// is this byte, or the first byte of the same escape. So it has the same place.
+pub fn value_offsets_invert_text_offsets()
+    ensures { OffsetsInvertThePlaces }
 {}
 
 /// The parse result of a literal that [`next_literal`](crate::next_literal) returns is that of the literal's text.

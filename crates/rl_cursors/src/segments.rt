@@ -165,7 +165,8 @@ pub fn split_segment(kind: Kind, plain: bool, text: &str) -> (SegmentValue<'_>, 
 }
 
 impl<'t> Segment<'t> {
-    ghost use Rattle.rl_cursors.specs.Segments.{segment_end, segment_place};
+    ghost use Rattle.std.specs.Prelude.{◌-◌};
+    ghost use Rattle.rl_cursors.specs.Segments.{segment_end, segment_place, value_place};
 
     /// Returns the start of the range of the literal's text that encodes the byte `at` of the segment's value. In a
     /// segment of plain characters, each byte encodes itself. Any other segment encodes its value as a whole.
@@ -192,11 +193,24 @@ impl<'t> Segment<'t> {
             _ => self.hi,
         }
     }
+
+    /// Returns the offset in the segment's value of the byte of the literal's text at the byte offset `at`. In a segment
+    /// of plain characters, each byte encodes itself. For any other segment, the result is 0.
+    #[inline(always)]
+    pub fn value_offset(self, at: usize) -> usize
+        ensures { result ≡ value_place self.entry.value (at - self.entry.lo) }
+    {
+        match self.value {
+            SegmentValue::Text(_) => at.saturating_sub(self.lo),
+            _ => 0,
+        }
+    }
 }
 
 impl<'t> Segments<'t> {
     ghost use Rattle.rl_lenient.specs.Founds.{IsQuotedAt};
     ghost use Rattle.rl_cursors.specs.Segments.{GivesByte, IsEndLeft, IsPastLeft, IsPlaceLeft, TakesSegment};
+    ghost use Rattle.rl_cursors.specs.ValueOffsets.{IsOffsetLeft};
 
     /// Returns the segments of the quoted literal `text` of the kind, where `body` contains the byte offsets of its
     /// parts, as [`parse_literal`] returns them. The text isn't parsed again.
@@ -302,6 +316,25 @@ impl<'t> Segments<'t> {
             Some((segment, within)) => segment.text_offset_after(within),
             None => end,
         }
+    }
+
+    /// Returns the byte offset in the literal's value of the byte of the literal's text at the byte offset `at`. It is the
+    /// inverse of [`text_offset`](Segments::text_offset). In an escape, the result is the offset of the first byte of the
+    /// escape's value. In an escaped line end, it is the offset of the byte after it.
+    ///
+    /// The result counts from the start of the next segment's value. Before the next segment it is 0. At the closing quote,
+    /// and beyond it, it is the length of the value.
+    pub fn value_offset(mut self, at: usize) -> usize
+        ensures { IsOffsetLeft self.entry at result }
+    {
+        let mut offset = 0;
+        while let Some(segment) = self.next() {
+            if at < segment.hi {
+                return offset + segment.value_offset(at);
+            }
+            offset += segment.value.len();
+        }
+        offset
     }
 }
 

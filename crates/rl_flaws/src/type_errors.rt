@@ -18,6 +18,7 @@ use rl_syntax::text::{before, begins};
 
 /// The reason why Rust has no type for a literal.
 #[derive(Clone, Copy, PartialEq, Eq, Debug)]
+#[non_exhaustive]
 pub enum TypeError {
     /// A string, a character or a byte has a suffix. Rust allows suffixes only for numbers.
     QuotedSuffix,

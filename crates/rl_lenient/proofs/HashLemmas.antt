@@ -1,5 +1,5 @@
 -- Lemmas about the hashes of raw literals.
-use Rattle.rl_syntax.proofs.Common.{List, arith, chars, inl, length, refl, true, ℕ, ◌+◌, ◌-◌, ◌<◌, ◌≡◌}
+use Rattle.rl_syntax.proofs.Common.{List, arith, chars, inl, length, refl, true, ℕ, ◌-◌, ◌<◌, ◌≡◌}
 use Rattle.rl_lenient.proofs.Names.{Byte, ByteStr, CStr, Char, Float, Int, Kind, Str, is_string, opener}
 use Rattle.rl_syntax.specs.declared.kind.Kind.TheVariants.{Bool as BoolKind}
 use Rattle.rl_syntax.specs.Quoted.{raw_opener}

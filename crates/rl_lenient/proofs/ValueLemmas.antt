@@ -1,5 +1,5 @@
 -- The value of a parsed integer literal.
-use Rattle.rl_syntax.proofs.Common.{◌≡◌, ℕ, ◌<◌, ◌≤◌, ◌^◌, ◌-◌, ◌⊎◌, inl, inr, Bool, true, false, List, [], ◌∷◌, ◌++◌, length, refl, sym, ap, subst, ◌∙◌, arith, chars, chars-nil, encodes-chars, encode_utf8_all, both_ways, eqb, eqb-true, not, ◌≢◌, IsUtf8, IsTrue}
+use Rattle.rl_syntax.proofs.Common.{◌≡◌, ℕ, ◌<◌, ◌≤◌, ◌^◌, ◌⊎◌, inl, inr, Bool, true, false, List, [], ◌∷◌, ◌++◌, length, refl, sym, ap, subst, ◌∙◌, arith, chars, chars-nil, encodes-chars, encode_utf8_all, both_ways, eqb, eqb-true, not, ◌≢◌, IsUtf8, IsTrue}
 use Rattle.std.proofs.Common.{Option, Some, None, ℤ}
 use Rattle.std.specs.Prelude.{IfSome, IfNone, MatchBool}
 use Rattle.std.proofs.lemmas.Bool.{cases_lt}

@@ -1,5 +1,5 @@
 -- The ranges of Rust's integer types, and the reasons why an integer literal isn't a value of one.
-use Rattle.std.specs.Prelude.{◌≡◌, ◌≢◌, ◌⊎◌, ℕ, ◌^◌, ◌≤◌, ◌<◌, Bool, false, true, List, []}
+use Rattle.std.specs.Prelude.{◌≡◌, ◌≢◌, ◌⊎◌, ℕ, ◌^◌, ◌≤◌, ◌<◌, Bool, false, true, List, [], IsFalse, IsTrue, ⊤}
 use Rattle.std.specs.Str.{chars}
 use Rattle.rl_syntax.specs.Numbers.{Sign, NoSign, Minus, IntReads}
 use Rattle.rl_syntax.specs.Words.{type_name}
@@ -48,13 +48,24 @@ is_signed I64 = true
 is_signed I128 = true
 is_signed Isize = true
 
+-- The type allows the sign: a type without negative numbers allows no minus, not even that of `-0`.
+abbrev pub AllowsSign : IntegerType → Sign → Type 0
+AllowsSign ty NoSign = ⊤
+AllowsSign ty Minus = IsTrue (is_signed ty)
+
+-- The type allows the sign of the integer literal.
+abbrev pub AllowsSignOf : IntegerType → List ℕ → List ℕ → Type 0
+AllowsSignOf ty text suffix = (sign : Sign) (m : ℕ) → IntReads text sign m suffix → AllowsSign ty sign
+
 -- A literal with the suffix may be of the type with the name: there is no suffix, or it is the name.
 abbrev pub FitsSuffix : List ℕ → List ℕ → Type 0
 FitsSuffix name suffix = (suffix ≡ []) ⊎ (suffix ≡ name)
 
--- The integer literal isn't a value of the type, for the reason.
+-- The integer literal isn't a value of the type, for the reason. A reason holds only if those before it don't.
 abbrev pub RejectsInteger : IntegerType → List ℕ → List ℕ → ValueFlaw → Type 0
 RejectsInteger ty text suffix Suffix = FitsSuffix (type_name ty) suffix → ⊥
-RejectsInteger ty text suffix MinusFlaw = (is_signed ty ≡ false) × (m : ℕ) × IntReads (chars text) Minus m (chars suffix)
+RejectsInteger ty text suffix MinusFlaw =
+    FitsSuffix (type_name ty) suffix × IsFalse (is_signed ty) × (m : ℕ) × IntReads (chars text) Minus m (chars suffix)
 RejectsInteger ty text suffix OutOfRange =
-    (sign : Sign) × (m : ℕ) × IntReads (chars text) sign m (chars suffix) × IsOutOfRange ty sign m
+    FitsSuffix (type_name ty) suffix × (sign : Sign) × (m : ℕ) × IntReads (chars text) sign m (chars suffix)
+    × AllowsSign ty sign × IsOutOfRange ty sign m

@@ -8,7 +8,7 @@ ghost use Rattle.rl_syntax.specs.declared.integer_type.IntegerType.{IntegerType 
 ghost use Rattle.rl_syntax.specs.declared.integer_type.IntegerType.TheVariants.{I8, I16, I32, I64, I128, Isize, U8, U16, U32, U64, U128, Usize};
 ghost use Rattle.rl_lenient.specs.NumberShapes.{HasMagnitude};
 ghost use Rattle.rl_lenient.specs.Values.{HasIntegerValue, signed};
-ghost use Rattle.rl_lenient.specs.Ranges.{FitsSuffix, IsOutOfRange, RejectsInteger, is_signed};
+ghost use Rattle.rl_lenient.specs.Ranges.{AllowsSignOf, FitsSuffix, IsOutOfRange, RejectsInteger, is_signed};
 
 use crate::digit_runs::is_negative;
 use rl_syntax::IntegerType;
@@ -274,7 +274,7 @@ pub enum ValueFlaw {
 }
 
 /// Whether the type has negative numbers.
-fn is_signed(ty: IntegerType) -> bool
+pub fn is_signed(ty: IntegerType) -> bool
     ensures { result ≡ is_signed ty }
 {
     match ty {
@@ -312,6 +312,7 @@ pub fn integer_value<N: Integer>(
     requires magnitude { HasMagnitude (chars text.now) magnitude (chars (drop suffix_at text.now)) }
     ensures value { IfOk result (λ n. HasIntegerValue (chars text.now) (chars (drop suffix_at text.now)) (N.is n)) }
     ensures suffix { IfOk result (λ n. FitsSuffix (type_name N.TYPE) (drop suffix_at text.now)) }
+    ensures sign { IfOk result (λ n. AllowsSignOf N.TYPE (chars text.now) (chars (drop suffix_at text.now))) }
     ensures err { IfErr result (RejectsInteger N.TYPE text.now (drop suffix_at text.now)) }
 {
     if !allows_suffix(&text[suffix_at..], N::TYPE.name()) {

@@ -46,6 +46,6 @@ pub use crate::found::{
     Body, Found, Parts, bool_of, parse_float_literal, parse_int_literal, parse_literal,
     parse_with_added_minus, shape,
 };
-pub use crate::integers::{Integer, ValueFlaw, integer_value};
+pub use crate::integers::{Integer, ValueFlaw, integer_value, is_signed};
 pub use crate::number_forms::{float_shape, int_shape, shape_negative};
 pub use crate::numbers::{FloatParts, IntegerParts, float_parts, integer_parts};

@@ -28,7 +28,7 @@ pub use crate::rl_lenient::found::{Body, Found, bool_of, parse_literal};
 pub use crate::rl_lenient::found::{Parts, parse_float_literal, parse_int_literal, shape};
 #[cfg(any(feature = "sources", feature = "settings"))]
 pub use crate::rl_lenient::found::parse_with_added_minus;
-pub use crate::rl_lenient::integers::{Integer, ValueFlaw, integer_value};
+pub use crate::rl_lenient::integers::{Integer, ValueFlaw, integer_value, is_signed};
 #[cfg(feature = "__rendered")]
 pub use crate::rl_lenient::number_forms::{float_shape, int_shape, shape_negative};
 pub use crate::rl_lenient::numbers::{FloatParts, IntegerParts, float_parts, integer_parts};
