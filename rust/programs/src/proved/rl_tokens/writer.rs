@@ -50,6 +50,30 @@ pub fn push_str_literal<A: Allocator>(out: &mut String<A>, value: &str) -> Resul
     }
 }
 
+/// Appends to `out` the string literal that represents the text `value`, and an LF.
+fn push_str_line<A: Allocator>(out: &mut String<A>, value: &str) -> Result<(), AllocError> {
+    push_str_literal(out, value)?;
+    out.push('\n')?;
+    Ok(())
+}
+
+/// Returns the text of a list of strings: the string literal that represents each string, and an LF after it. The text is
+/// a list of literals, which `read_all` of `rust_literals` reads back as the same strings.
+///
+/// # Errors
+///
+/// Returns an error if an allocation fails.
+pub fn write_str_list<A: Allocator, B: Allocator>(
+    alloc: A,
+    values: &[String<B>],
+) -> Result<String<A>, AllocError> {
+    let mut text = String::new(alloc);
+    for value in values {
+        push_str_line(&mut text, value.as_str())?;
+    }
+    Ok(text)
+}
+
 /// Returns the text of a literal of the kind `kind` that represents the characters `value`.
 fn text_of_characters<A: Allocator>(
     alloc: A,
