@@ -52,9 +52,9 @@ state_same : (old a b : CursorState) (u v : List ℕ) → u ≡ v → Skipped u 
     → IsTail old.rest a.rest → IsTail old.rest b.rest → a.text ≡ old.text → b.text ≡ old.text → a ≡ b
 state_same old a b u v e x y s t p q =
     let c : chars a.rest ≡ chars b.rest =
-        one_rest u (chars a.rest) (chars b.rest) x (subst (λ (z : List ℕ). Skipped z (chars b.rest)) (sym e) y) in
+    one_rest u (chars a.rest) (chars b.rest) x (subst (λ (z : List ℕ). Skipped z (chars b.rest)) (sym e) y) in
     let rests : a.rest ≡ b.rest =
-        sym (encodes-chars a.rest s.is_text) ∙ ap encode_utf8_all c ∙ encodes-chars b.rest t.is_text in
+    sym (encodes-chars a.rest s.is_text) ∙ ap encode_utf8_all c ∙ encodes-chars b.rest t.is_text in
     let texts : a.text ≡ b.text = p ∙ sym q in
     ap (λ z. let st : CursorState = record { text = z; rest = a.rest } in st) texts
     ∙ ap (λ z. let st : CursorState = record { text = b.text; rest = z } in st) rests
@@ -78,17 +78,18 @@ one_next old a b l m x y =
     let u = lexeme_text y.cut.lexeme in
     let e : t ++ x.after ≡ u ++ y.after = sym x.begins ∙ y.begins in
     let p = same_pair (form_of x.cut.lexeme) (form_of y.cut.lexeme) x.after y.after
-        (sym (lexeme_at-past x.cut.lexeme x.after x.is_lexeme) ∙ ap lexeme_at e
-        ∙ lexeme_at-past y.cut.lexeme y.after y.is_lexeme) in
+    (sym (lexeme_at-past x.cut.lexeme x.after x.is_lexeme) ∙ ap lexeme_at e
+    ∙ lexeme_at-past y.cut.lexeme y.after y.is_lexeme) in
     let text : t ≡ u = append_cancel_right t u x.after (e ∙ ap (λ z. u ++ z) (sym p.1)) in
     let form : l.form ≡ m.form = sym (form_is l.form) ∙ ap form_back (sym x.is_cut.form_is ∙ p.0 ∙ y.is_cut.form_is)
-        ∙ form_is m.form in
+    ∙ form_is m.form in
     let bytes : l.text.now ≡ m.text.now = sym x.is_cut.bytes_are ∙ ap encode_utf8_all text ∙ y.is_cut.bytes_are in
     let lo : l.lo ≡ m.lo = omega (arith, x.place, y.place) in
     let hi : l.hi ≡ m.hi = end_same l.lo l.hi x.cut.at m.hi m.lo t u y.cut.at x.is_cut.hi_is y.is_cut.hi_is x.is_cut.lo_is
-        y.is_cut.lo_is lo text in
-    (same_parts l.form m.form l.text.now m.text.now l.lo m.lo l.hi m.hi form bytes lo hi,
-    state_same old a b x.after y.after p.1 x.skipped y.skipped x.following y.following x.same y.same)
+    y.is_cut.lo_is lo text in (
+      same_parts l.form m.form l.text.now m.text.now l.lo m.lo l.hi m.hi form bytes lo hi,
+      state_same old a b x.after y.after p.1 x.skipped y.skipped x.following y.following x.same y.same,
+    )
 
 pub takes_some : (old a : CursorState) (l : Borrowed) → TakesNext old l a → BeginsNoLexeme (chars old.rest) → ⊥
 takes_some old a l t none = none t.after (lexeme_text t.cut.lexeme, (t.cut.lexeme, t.is_lexeme, refl), t.begins)
@@ -111,13 +112,14 @@ one_next_source old a b l m x y =
     let p = one_token x.cut.token y.cut.token x.after y.after x.is_source y.is_source e in
     let text : t ≡ u = append_cancel_right t u x.after (e ∙ ap (λ z. u ++ z) (sym p.rest)) in
     let form : l.form ≡ m.form = sym (source_is l.form)
-        ∙ ap source_back (sym x.is_cut.kind_is ∙ p.kind ∙ y.is_cut.kind_is) ∙ source_is m.form in
+    ∙ ap source_back (sym x.is_cut.kind_is ∙ p.kind ∙ y.is_cut.kind_is) ∙ source_is m.form in
     let bytes : l.text.now ≡ m.text.now = sym x.is_cut.bytes_are ∙ ap encode_utf8_all text ∙ y.is_cut.bytes_are in
     let lo : l.lo ≡ m.lo = omega (arith, x.place, y.place) in
     let hi : l.hi ≡ m.hi = end_same l.lo l.hi x.cut.at m.hi m.lo t u y.cut.at x.is_cut.hi_is y.is_cut.hi_is x.is_cut.lo_is
-        y.is_cut.lo_is lo text in
-    (same_parts l.form m.form l.text.now m.text.now l.lo m.lo l.hi m.hi form bytes lo hi,
-    state_same old a b x.after y.after p.rest x.skipped y.skipped x.following y.following x.same y.same)
+    y.is_cut.lo_is lo text in (
+      same_parts l.form m.form l.text.now m.text.now l.lo m.lo l.hi m.hi form bytes lo hi,
+      state_same old a b x.after y.after p.rest x.skipped y.skipped x.following y.following x.same y.same,
+    )
 
 pub takes_source_some : (old a : CursorState) (l : SourceToken) → TakesSource old l a → BeginsNoSource (chars old.rest) → ⊥
 takes_source_some old a l t none = none (source_kind t.cut.token) t.after

@@ -19,8 +19,11 @@ mark_here ch (LiteralTree l ∷ ts) h = absurd (cc)
 
 pub peeked_mark : (ch : ℕ) (trees : List Tree)
     → IsTrue (begins_mark ch trees) ↔ ((rest : List Tree) × IsAfterMark ch trees rest)
-peeked_mark ch trees = (mark_here ch trees, λ (rest, m).
-    subst (λ (z : List Tree). begins_mark ch z ≡ true) (sym m.trees_are) (eq-eqb m.mark.ch ch m.is))
+peeked_mark ch trees = (
+  mark_here ch trees,
+  λ (rest, m).
+      subst (λ (z : List Tree). begins_mark ch z ≡ true) (sym m.trees_are) (eq-eqb m.mark.ch ch m.is),
+)
 
 one_inside : (a b : List Tree) → inside_of a ≡ inside_of b → a ≡ b
 one_inside [] [] e = refl
@@ -35,7 +38,7 @@ pub one_group : (d e : Delimiter) (trees a b r s : List Tree) → IsAfterGroup d
     → (d ≡ e) × (a ≡ b) × (r ≡ s)
 one_group d e trees a b r s x y =
     let same : GroupTree d (inside_of a) x.span ∷ r ≡ GroupTree e (inside_of b) y.span ∷ s =
-        sym x.trees_are ∙ y.trees_are in
+    sym x.trees_are ∙ y.trees_are in
     let delimiters : d ≡ e = cc in
     let insides : inside_of a ≡ inside_of b = cc in
     let rests : r ≡ s = cc in
@@ -87,6 +90,6 @@ inside_lighter d trees inside rest g =
     let t = GroupTree d (inside_of inside) g.span in
     let a : length (flat_trees trees) ≡ length (flat t ++ flat_trees rest) = ap (λ z. length (flat_trees z)) g.trees_are in
     let b : length (flat t ++ flat_trees rest) ≡ length (flat t) + length (flat_trees rest) =
-        length-append (flat t) (flat_trees rest) in
+    length-append (flat t) (flat_trees rest) in
     let c : length (flat t) ≡ suc (length (flat_trees inside) + 1) = ap suc (length-append (flat_trees inside) _) in
     (omega (arith, a, b, c), omega (arith, a, b, c))

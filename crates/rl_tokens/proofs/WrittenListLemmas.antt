@@ -60,7 +60,7 @@ pub line_more : (old mid new w : List ℕ) (c : ℕ) → mid ≡ old ++ encode_u
     → new ≡ old ++ encode_utf8_all (w ++ (c ∷ []))
 line_more old mid new w c e f =
     let last : encode_utf8_all (w ++ (c ∷ [])) ≡ encode_utf8_all w ++ encode_utf8 c =
-        encodes-append w (c ∷ []) ∙ ap (λ z. encode_utf8_all w ++ z) (append-nil (encode_utf8 c)) in
+    encodes-append w (c ∷ []) ∙ ap (λ z. encode_utf8_all w ++ z) (append-nil (encode_utf8 c)) in
     f ∙ ap (λ z. z ++ encode_utf8 c) e ∙ append_assoc old (encode_utf8_all w) (encode_utf8 c)
     ∙ ap (λ z. old ++ z) (sym last)
 

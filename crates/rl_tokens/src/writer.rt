@@ -98,12 +98,14 @@ fn push_str_line<A: Allocator>(out: &mut String<A>, value: &str) -> Result<(), A
 ///
 /// ```
 /// use rl_tokens::write_str_list;
-/// use std::alloc::{AllocError, Global};
+/// use std::alloc::Global;
 ///
-/// pub fn text_of_names(alloc: Global, names: &[String]) -> Result<String, AllocError> {
-///     write_str_list(alloc, names)
+/// pub fn list_of_one_name(alloc: Global, name: &str) -> Option<String> {
+///     let mut names = Vec::new(alloc);
+///     names.push(String::from_str(alloc, name).ok()?).ok()?;
+///     write_str_list(alloc, names.as_slice()).ok()
 /// }
-/// // text_of_names(alloc, ["a", "b\"c"]) == Ok("\"a\"\n\"b\\\"c\"\n")
+/// // list_of_one_name(alloc, "a\"b") == Some("\"a\\\"b\"\n")
 /// ```
 pub fn write_str_list<A: Allocator, B: Allocator>(
     alloc: A,

@@ -14,8 +14,8 @@ loop-value-preserved g c =
     let new = string_bytes c.push_str_line.new.out in
     let old = string_bytes c.loop-value.text in
     let line : new ≡ old ++ encode_utf8_all (written_text Str (chars (string_bytes v)) ++ (10 ∷ [])) =
-        subst (λ (z : List ℕ). new ≡ old ++ encode_utf8_all (written_text Str (chars z) ++ (10 ∷ [])))
-        c.as_str.ensures.value c.in_ok-push_str_line.ensures in
+    subst (λ (z : List ℕ). new ≡ old ++ encode_utf8_all (written_text Str (chars z) ++ (10 ∷ [])))
+    c.as_str.ensures.value c.in_ok-push_str_line.ensures in
     rw grown (lines_more old new (take i values) v c.loop-value.invariant line)
 
 pub returns : goal.returns
