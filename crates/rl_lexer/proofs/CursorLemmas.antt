@@ -89,7 +89,6 @@ takes text rest following next l is in_rest in_tail skips at =
       after = chars following;
       begins = at.front.text_is;
       is_lexeme = at.front.is_lexeme;
-      skipped = skips;
       place = at.lo_place;
       goes_on = λ done cuts. cuts_more 0 (chars text) done (chars rest) w (chars following) (chars next) cuts
           at.front.text_is at.front.is_lexeme (omega (arith, rest_len, text_len, at.lo_place)) skips;

@@ -125,7 +125,6 @@ takes text rest following next l is in_rest in_tail skips at =
       after = chars following;
       begins = at.front.text_is;
       is_source = at.front.is_source;
-      skipped = skips;
       place = at.lo_place;
       goes_on = λ done cuts. cut_more (chars text) done (chars rest) w (chars following) (chars next) cuts
           at.front.text_is at.front.is_source (omega (arith, rest_len, text_len, at.lo_place)) skips;

@@ -2,7 +2,6 @@
 use Rattle.std.specs.Prelude.{◌≡◌, ℕ, ◌+◌, List, [], ◌∷◌, ◌++◌, length, encode_utf8_all, Option, Some, MatchOption}
 use Rattle.std.specs.Str.{chars, IsUtf8}
 use Rattle.rl_syntax.specs.Texts.{IsTail}
-use Rattle.rl_lexer.specs.Skipping.{Skipped}
 use Rattle.rl_lexer.specs.Lexemes.{lexeme_text, IsLexeme, form_of, LexemeForm, LiteralForm, IdentifierForm, DelimiterForm, MarkForm}
 use Rattle.rl_lexer.specs.Cuts.{LexedToken, end_of, LexesUpTo, OpenGroup, open_groups, HasFirstError, BeginsNoLexeme}
 use Rattle.rl_lexer.specs.declared.cursor.Lexeme.{Lexeme}
@@ -35,8 +34,7 @@ pub record IsBorrowedToken (l : Lexeme) (w : LexedToken) : Type 0 where
   pub lo_is : w.at ≡ l.lo
   pub hi_is : end_of w ≡ l.hi
 
--- The cursor consumes the token `l` and returns it. The text that remained before, `old.rest`, begins with the token. The
--- white space and comments after the token are dropped.
+-- The cursor consumes the token `l` and returns it. The text that remained before, `old.rest`, begins with the token.
 -- If the text before the token is lexed into some tokens, the text before `new.rest` is lexed into these tokens and
 -- `l`.
 pub record TakesNext (old : CursorState) (l : Lexeme) (new : CursorState) : Type 0 where
@@ -45,7 +43,6 @@ pub record TakesNext (old : CursorState) (l : Lexeme) (new : CursorState) : Type
   pub after : List ℕ
   pub begins : chars old.rest ≡ lexeme_text cut.lexeme ++ after
   pub is_lexeme : IsLexeme cut.lexeme after
-  pub skipped : Skipped after (chars new.rest)
   pub place : l.lo + length old.rest ≡ length old.text
   pub goes_on : (done : List LexedToken) → LexesUpTo 0 (chars old.text) done (chars old.rest)
       → LexesUpTo 0 (chars old.text) (done ++ cut ∷ []) (chars new.rest)

@@ -195,7 +195,6 @@ pub record IsBorrowedSource (l : SourceToken) (w : CutSource) : Type 0 where
   pub hi_is : source_end w ≡ l.hi
 
 -- The cursor consumes the token `l` and returns it. The source that remained before, `old.rest`, begins with the token.
--- The white space and comments after the token are dropped.
 -- If the source before the token is lexed into some tokens, the source before `new.rest` is lexed into these tokens and
 -- `l`.
 pub record TakesSource (old : CursorState) (l : SourceToken) (new : CursorState) : Type 0 where
@@ -204,7 +203,6 @@ pub record TakesSource (old : CursorState) (l : SourceToken) (new : CursorState)
   pub after : List ℕ
   pub begins : chars old.rest ≡ source_text cut.token ++ after
   pub is_source : IsSource cut.token after
-  pub skipped : Skipped after (chars new.rest)
   pub place : l.lo + length old.rest ≡ length old.text
   pub goes_on : (done : List CutSource) → IsCutUpTo (chars old.text) done (chars old.rest)
       → IsCutUpTo (chars old.text) (done ++ cut ∷ []) (chars new.rest)
