@@ -1,4 +1,4 @@
--- What follows a punctuation character or a group is unique, and has fewer tokens.
+-- One list of token trees follows a punctuation character or a group, and it has fewer tokens.
 use Rattle.rl_syntax.proofs.Common.{◌≡◌, ◌<◌, ◌+◌, ℕ, suc, true, false, eqb, eq-eqb, eqb-true, List, [], ◌∷◌, ◌++◌, refl, sym, ap, subst, ◌∙◌, length, length-append, append_assoc, arith}
 use Rattle.std.specs.Prelude.{◌↔◌, IsTrue}
 use Rattle.rl_syntax.specs.declared.span.Span.{Span}
