@@ -12,6 +12,9 @@ pub mod PrintedLaws
 pub mod NestedTrees
 pub mod PrintedAnswers
 pub mod TreeRests
+pub mod WholeLemmas
 pub mod MarkLemmas
+pub mod TreeLaws
+pub mod WrittenListLemmas
 pub mod BorrowedTokens
 pub mod Theorems

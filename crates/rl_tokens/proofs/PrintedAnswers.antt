@@ -1,6 +1,6 @@
 -- For a printed list of literals the lexer returns the token trees of the list's items, or an allocation fails.
 use Rattle.rl_syntax.proofs.Common.{◌≡◌, ℕ, List, Result, Ok, Err, refl, chars, IfOk}
-use Rattle.std.specs.Result.{IfErr}
+use Rattle.std.specs.Result.{IfErr, MatchResult}
 use Rattle.rl_tokens.specs.declared.token.TokenStream.{TokenStream}
 use Rattle.rl_lexer.specs.declared.lex_error.LexKind.{LexKind}
 use Rattle.rl_lexer.specs.declared.lex_error.LexKind.TheVariants.{DocComment, UnclosedComment, UnclosedQuote, Lifetime, RawIdentifier, StrayCharacter, UnmatchedClose, UnclosedGroup, TooDeep, Memory}
@@ -15,7 +15,7 @@ use Rattle.rl_tokens.proofs.LexLaws.{one_list, never_both}
 use Rattle.rl_tokens.proofs.PrintedLaws.{printed_literals_lex_to_their_trees, reprinted_literals_lex_to_themselves}
 
 -- If a text has no first error, the lexer rejects it only for an allocation failure.
-rejects_memory : (t : List ℕ) (kind : LexKind) (at : ℕ) → (HasFirstError t kind at → ⊥) → Rejects t kind at → kind
+pub rejects_memory : (t : List ℕ) (kind : LexKind) (at : ℕ) → (HasFirstError t kind at → ⊥) → Rejects t kind at → kind
     ≡ Memory
 rejects_memory t Memory at none h = refl
 rejects_memory t DocComment at none h = absurd (none h)
@@ -43,6 +43,12 @@ answers_trees : {A : Type 0} (t : List ℕ) (file : ℕ) (r : Result (TokenStrea
     → Answers r trees
 answers_trees t file (Ok s) trees lexes found rejected = (one_list t file (stream_view s) trees found lexes, tt)
 answers_trees t file (Err e) trees lexes found rejected = (tt, only_memory t file trees e lexes rejected)
+
+pub exact_answer : {A : Type 0} (t : List ℕ) (file : ℕ) (r : Result (TokenStream A) LexError)
+    → IfOk r (λ s. Lexes t file (stream_view s)) → IfErr r (λ e. Rejects t e.kind e.at) → (trees : List Tree)
+    → Lexes t file trees → MatchResult r (λ s. stream_view s ≡ trees) (λ e. e.kind ≡ Memory)
+exact_answer t file (Ok s) found rejected trees lexes = one_list t file (stream_view s) trees found lexes
+exact_answer t file (Err e) found rejected trees lexes = only_memory t file trees e lexes rejected
 
 -- The lexer's result for a printed list of literals is the token trees of its items, or an allocation failure.
 pub printed_answer : {A : Type 0} (text : List ℕ) (file : ℕ) (r : Result (TokenStream A) LexError)

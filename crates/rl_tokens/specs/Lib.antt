@@ -9,6 +9,8 @@ pub mod Lexing
 pub mod Whole
 pub mod PrintedTrees
 pub mod Mirrors
+pub mod Laws
+pub mod WrittenLists
 pub use Rattle.rl_syntax.specs.Texts
 pub use Rattle.rl_syntax.specs.Quoted
 pub use Rattle.rl_syntax.specs.Numbers

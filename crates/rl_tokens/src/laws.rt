@@ -1,6 +1,9 @@
 //! Theorems about lexing. Each function here does nothing when it is called: its contract is a theorem about all texts.
 
-ghost use Rattle.rl_tokens.specs.Lexing.{ATextLexesOrHasAnError};
+ghost use Rattle.rl_lexer.specs.Cuts.{OneError};
+ghost use Rattle.rl_tokens.specs.WrittenLists.{AStrListIsPrinted};
+ghost use Rattle.rl_tokens.specs.Laws.{ARestOfARestIsARest, AMarkHasOneRest, APeekedMarkIsAtTheFront, AGroupHasOneInside, AGroupIsNoMark, AStepIsLighter, AMarkIsLighter, AnInsideIsLighter};
+ghost use Rattle.rl_tokens.specs.Lexing.{ATextLexesOrHasAnError, NeverBoth, OneList};
 ghost use Rattle.rl_tokens.specs.PrintedTrees.{PrintedLiteralsLexToTheirTrees, ReprintedLiteralsLexToThemselves};
 
 pub use rl_lexer::laws::{
@@ -29,4 +32,38 @@ pub fn reprinted_literals_lex_to_themselves()
 /// Proves that each text is lexed into token trees, or has a first error. No memory is needed for this.
 pub fn a_text_lexes_or_has_an_error()
     ensures { ATextLexesOrHasAnError }
+{}
+
+/// Proves that a text is lexed into at most one list of token trees, has at most one first error, and never has both.
+pub fn a_text_is_lexed_in_one_way()
+    ensures one_list { OneList }
+    ensures one_error { OneError }
+    ensures never_both { NeverBoth }
+{}
+
+/// Proves that the token trees after two steps of a parser are the end of the token trees before both steps.
+pub fn steps_join()
+    ensures { ARestOfARestIsARest }
+{}
+
+/// Proves that one list of token trees follows a punctuation character or a group, and one list is inside the group. A group
+/// isn't a punctuation character, and `peek_punct` returns `true` exactly before the character.
+pub fn one_list_follows_a_token()
+    ensures mark { AMarkHasOneRest }
+    ensures peeked { APeekedMarkIsAtTheFront }
+    ensures group { AGroupHasOneInside }
+    ensures other { AGroupIsNoMark }
+{}
+
+/// Proves that each step of a parser leaves fewer tokens, and that fewer tokens are inside a group than with it. So
+/// `weight`, the number of tokens, is a measure of parsers that recurse into groups.
+pub fn tokens_are_a_measure()
+    ensures step { AStepIsLighter }
+    ensures mark { AMarkIsLighter }
+    ensures inside { AnInsideIsLighter }
+{}
+
+/// Proves that the text that [`write_str_list`](crate::write_str_list) returns is a printed list of literals.
+pub fn a_str_list_is_printed()
+    ensures { AStrListIsPrinted }
 {}

@@ -1,6 +1,6 @@
 //! The lexer, which turns a text into token trees.
 
-ghost use Rattle.std.specs.Prelude.{List, ℕ, ◌≡◌, IfOk, IfErr};
+ghost use Rattle.std.specs.Prelude.{List, ℕ, ◌≡◌, IfOk, IfErr, MatchResult};
 ghost use Rattle.std.specs.Str.{chars};
 ghost use Rattle.rl_lexer.specs.declared.lex_error.LexKind.{LexKind};
 ghost use Rattle.rl_tokens.specs.Lexing.{Lexes, OneList, NeverBoth};
@@ -8,7 +8,7 @@ ghost use Rattle.rl_lexer.specs.Cuts.{Rejects, OneError};
 ghost use Rattle.rl_syntax.specs.Printed.{Entry, Printed};
 ghost use Rattle.rl_lexer.specs.PrintedTokens.{Reprinted};
 ghost use Rattle.rl_tokens.specs.PrintedTrees.{printed_trees};
-ghost use Rattle.rl_tokens.specs.Trees.{stream_view};
+ghost use Rattle.rl_tokens.specs.Trees.{Tree, stream_view};
 
 use crate::nest::TreeBuilder;
 use crate::token::TokenStream;
@@ -35,6 +35,9 @@ pub fn lex<A: Allocator + Copy>(alloc: A, text: &str, file: u32) -> Result<Token
     ensures trees { IfOk result (λ trees. Lexes (chars text.now) file (stream_view trees)) }
     // The returned error is the text's first error, or an allocation failure at the start of a token.
     ensures rejected { IfErr result (λ e. Rejects (chars text.now) e.kind e.at) }
+    // If the text is lexed into token trees, these are returned, or an allocation failed.
+    ensures exactly { (trees : List Tree) → Lexes (chars text.now) file trees
+        → MatchResult result (λ s. stream_view s ≡ trees) (λ e. e.kind ≡ LexKind.Memory) }
     // A text is lexed into at most one list of token trees, has at most one first error, and never has both.
     ensures one_list { OneList }
     ensures one_error { OneError }

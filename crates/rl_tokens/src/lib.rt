@@ -48,7 +48,7 @@ pub use crate::punct::Punct;
 pub use crate::rewind::{Rewind, attempt};
 pub use crate::token::{Delimiter, Group, TokenStream, TokenTree};
 pub use crate::whole::{lex_for_parsing, parse_all};
-pub use crate::writer::push_str_literal;
+pub use crate::writer::{push_str_literal, write_str_list};
 pub use rl_lexer::{
     Form, LexError, LexKind, Lexeme, SourceForm, SourceToken, Sources, Tokens, whitespace,
 };

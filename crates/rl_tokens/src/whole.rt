@@ -1,10 +1,11 @@
 //! Functions that lex a whole text, or parse it as one value.
 
-ghost use Rattle.std.specs.Prelude.{[], IfOk, IfErr, Ok};
+ghost use Rattle.std.specs.Prelude.{◌≡◌, ◌⊎◌, List, [], length, IfOk, IfErr, MatchResult, Ok};
 ghost use Rattle.std.specs.Str.{chars};
 ghost use Rattle.rl_tokens.specs.Lexing.{Lexes};
-ghost use Rattle.rl_tokens.specs.Trees.{stream_view};
-ghost use Rattle.rl_tokens.specs.Whole.{RejectsLexing, RejectsParse, ParsesAll, RejectsAll};
+ghost use Rattle.rl_tokens.specs.Trees.{Tree, stream_view};
+ghost use Rattle.rl_tokens.specs.declared.error.ErrorKind.TheVariants.{Memory};
+ghost use Rattle.rl_tokens.specs.Whole.{place_at, RejectsLexing, RejectsParse, ParsesAll, RejectsAll};
 
 use crate::buffer::ParseBuffer;
 use crate::error::{Error, ErrorKind};
@@ -86,6 +87,10 @@ pub fn parse_all<T: Parse<A> + Drop, A: Allocator + Copy>(
 ) -> Result<T, Error<A>>
     ensures parsed { IfOk result (ParsesAll T.runs text.now file) }
     ensures rejected { IfErr result (RejectsAll T.runs text.now file) }
+    // If the text is lexed into token trees, the result is the parser's result for these, or an allocation failed.
+    ensures exactly { (trees : List Tree) → Lexes (chars text.now) file trees
+        → MatchResult result (λ x. T.runs trees (place_at file (length text.now)) (Ok x) [])
+        (λ e. (e.kind ≡ Memory) ⊎ RejectsParse T.runs trees (place_at file (length text.now)) e) }
 {
     let end = Span::new(file, text.len(), text.len());
     match lex_for_parsing(alloc, text, file) {

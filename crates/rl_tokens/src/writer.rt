@@ -6,6 +6,8 @@ ghost use Rattle.rl_syntax.specs.Quoted.{decodes_to_chars, unit_text};
 ghost use Rattle.rl_syntax.specs.Written.{closer, written_text, written_unit, IsWrittenForm};
 ghost use Rattle.rl_syntax.specs.Agreeing.{AreBytesOf, IsQuotedValue};
 ghost use Rattle.rl_tokens.specs.Errors.{memory_at};
+ghost use Rattle.rl_tokens.specs.WrittenLists.{characters_of, str_list_text};
+ghost use Rattle.rl_syntax.specs.Texts.{code};
 ghost use Rattle.rl_syntax.specs.Spans.{nowhere};
 
 use crate::c_string::CString;
@@ -59,6 +61,8 @@ fn push_characters<A: Allocator>(
 pub fn push_str_literal<A: Allocator>(out: &mut String<A>, value: &str) -> Result<(), AllocError>
     ensures text { OnOk result (chars (string_bytes out.new)
         ≡ chars (string_bytes out.old) ++ written_text Kind.Str (chars value.now)) }
+    ensures bytes { OnOk result (string_bytes out.new
+        ≡ string_bytes out.old ++ encode_utf8_all (written_text Kind.Str (chars value.now))) }
     ensures form { OnOk result (IsWrittenForm Kind.Str (chars value.now)
         (written_text Kind.Str (chars value.now))) }
     ensures same { OnErr result (string_bytes out.new ≡ string_bytes out.old) }
@@ -71,6 +75,50 @@ pub fn push_str_literal<A: Allocator>(out: &mut String<A>, value: &str) -> Resul
             Err(error)
         }
     }
+}
+
+/// Appends to `out` the string literal that represents the text `value`, and an LF.
+fn push_str_line<A: Allocator>(out: &mut String<A>, value: &str) -> Result<(), AllocError>
+    ensures { OnOk result (string_bytes out.new ≡ string_bytes out.old
+        ++ encode_utf8_all (written_text Kind.Str (chars value.now) ++ (code "\n" ∷ []))) }
+{
+    push_str_literal(out, value)?;
+    out.push('\n')?;
+    Ok(())
+}
+
+/// Returns the text of a list of strings: the string literal that represents each string, and an LF after it. The text is
+/// a list of literals, which `read_all` of `rust_literals` reads back as the same strings.
+///
+/// # Errors
+///
+/// Returns an error if an allocation fails.
+///
+/// # Example
+///
+/// ```
+/// use rl_tokens::write_str_list;
+/// use std::alloc::Global;
+///
+/// pub fn list_of_one_name(alloc: Global, name: &str) -> Option<String> {
+///     let mut names = Vec::new(alloc);
+///     names.push(String::from_str(alloc, name).ok()?).ok()?;
+///     write_str_list(alloc, names.as_slice()).ok()
+/// }
+/// // list_of_one_name(alloc, "a\"b") == Some("\"a\\\"b\"\n")
+/// ```
+pub fn write_str_list<A: Allocator, B: Allocator>(
+    alloc: A,
+    values: &[String<B>],
+) -> Result<String<A>, AllocError>
+    ensures { IfOk result (λ text.
+        chars (string_bytes text) ≡ str_list_text (characters_of values.now)) }
+{
+    let mut text = String::new(alloc);
+    for value in values {
+        push_str_line(&mut text, value.as_str())?;
+    }
+    Ok(text)
 }
 
 /// Returns the text of a literal of the kind `kind` that represents the characters `value`.

@@ -3,6 +3,7 @@
 use rl_tokens::ident::xid_ok;
 use rl_tokens::{
     Delimiter, LexKind, SourceForm, Sources, Span, TokenTree, Tokens, lex, whitespace,
+    write_str_list,
 };
 use std::alloc::Global;
 
@@ -70,4 +71,11 @@ pub fn first_delimiter(alloc: Global, text: &str) -> Option<Delimiter> {
         TokenTree::Group(group) => Some(group.delimiter()),
         _ => None,
     }
+}
+
+/// Returns the text of a list with the string `name` alone.
+pub fn list_of_one_name(alloc: Global, name: &str) -> Option<String> {
+    let mut names = Vec::new(alloc);
+    names.push(String::from_str(alloc, name).ok()?).ok()?;
+    write_str_list(alloc, names.as_slice()).ok()
 }

@@ -36,7 +36,7 @@ use navyspindle_rows::rl_uses::examples::quoted::{
 };
 use navyspindle_rows::rl_uses::examples::tokens::{
     after_comments, first_delimiter, is_identifier, leading_doc_comment, lex_error_kind,
-    literal_and_error_offsets, second_token, text_at,
+    list_of_one_name, literal_and_error_offsets, second_token, text_at,
 };
 use navyspindle_rows::rl_uses::{
     backslash_in_path, bad_literals, count_literals, evaluate, format as formatted, read_attribute,
@@ -269,6 +269,7 @@ fn examples() {
             parse_port(Global, "8_080");
             parse_port(Global, "1 'a'");
             integer_tree_count(Global, "12");
+            list_of_one_name(Global, "a\"b");
             value_after_equals(Global, "= 80");
             punct_in_string(Global, "\"+\"");
             is_rust_literal("0xFF_u8");

@@ -32,7 +32,7 @@ pub use crate::rl_tokens::punct::Punct;
 pub use crate::rl_tokens::rewind::{Rewind, attempt};
 pub use crate::rl_tokens::token::{Delimiter, Group, TokenStream, TokenTree};
 pub use crate::rl_tokens::whole::{lex_for_parsing, parse_all};
-pub use crate::rl_tokens::writer::push_str_literal;
+pub use crate::rl_tokens::writer::{push_str_literal, write_str_list};
 pub use crate::rl_lexer::{
     Form, LexError, LexKind, Lexeme, SourceForm, SourceToken, Sources, Tokens, whitespace,
 };
