@@ -19,10 +19,10 @@ use std::{fs, io};
 pub const LONGEST: u64 = 1 << 30;
 
 /// The number of bytes that one call of a reader requests. The buffer is filled with zeros for each file.
-const PIECE: usize = 4096;
+pub(crate) const PIECE: usize = 4096;
 
 /// The maximum number of calls of a reader.
-const TURNS: u32 = u32::MAX;
+pub(crate) const TURNS: u32 = u32::MAX;
 
 /// The number of bytes of a text that are tested for UTF-8 first.
 const FIRST_TEST: usize = 16 * 1024;
