@@ -1,5 +1,9 @@
 //! Parses the arguments of a call.
 
+ghost use Rattle.std.specs.Prelude.{◌≡◌};
+ghost use Rattle.std.specs.List.{list_any};
+ghost use Rattle.std.specs.Str.{bytes_eq};
+
 use crate::checks::{check_command_line, check_value};
 use crate::failure::Failure;
 use crate::modes::{Mode, SELECTING};
@@ -44,7 +48,9 @@ enum Next {
     Path,
 }
 
-pub(crate) fn is_among(words: &[&str], word: &str) -> bool {
+pub(crate) fn is_among(words: &[&str], word: &str) -> bool
+    ensures { result ≡ list_any (λ other. bytes_eq other.now word.now) words.now }
+{
     words.contains(&word)
 }
 

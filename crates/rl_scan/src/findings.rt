@@ -1,9 +1,14 @@
 //! Finds what a call prints of a source: its literals, its errors, or its invisible characters.
 
-use crate::errors::{Checks, next_token, report_errors};
+ghost use Rattle.std.specs.Prelude.{◌≡◌, IfOk, IsTrue};
+ghost use Rattle.rl_scan.specs.Accepted.{AreAccepted};
+ghost use Rattle.rl_scan.specs.declared.modes.Mode.TheVariants.{Bad};
+
+use crate::errors::{next_token, report_errors};
 use crate::failure::Failure;
 use crate::finding::{Finding, Place};
 use crate::hidden::report_hidden;
+use crate::job::Job;
 use crate::literal::Literal;
 use crate::modes::Mode;
 use crate::print::Page;
@@ -51,20 +56,26 @@ fn report_literals<A: Allocator + Copy, W: Write>(
     Ok(tokens.error())
 }
 
-/// Reports the findings of a source. Returns the error that ends the source, unless it is a finding.
+/// Reports the findings of a source. Returns whether `--bad` accepts its literals, and the error that ends the source, unless it is a
+/// finding.
 pub(crate) fn report_findings<A: Allocator + Copy, W: Write>(
     page: &mut Page<'_, '_, A, W>,
-) -> Result<Option<LexError>, Failure<A>> {
-    match page.job.mode {
+    job: Job<'_>,
+) -> Result<(bool, Option<LexError>), Failure<A>>
+    ensures { IfOk result (λ r. IsTrue r.0 → job.entry.mode ≡ Bad → AreAccepted job.entry page.old.source.now) }
+{
+    match job.mode {
         Mode::Bad => {
-            let (types, strays) = (!page.job.any_suffix, page.job.strays);
-            report_errors(page, Checks { types, strays })?;
-            Ok(None)
+            let are_accepted = report_errors(page, job)?;
+            Ok((are_accepted, None))
         }
         Mode::Invisible => {
             report_hidden(page)?;
-            Ok(None)
+            Ok((false, None))
         }
-        _ => report_literals(page),
+        _ => {
+            let end = report_literals(page)?;
+            Ok((false, end))
+        }
     }
 }

@@ -1,5 +1,9 @@
 //! The work of a call of `rl_scan` on each file.
 
+ghost use Rattle.std.specs.Prelude.{◌≡◌, IsFalse, IsTrue};
+ghost use Rattle.rl_scan.specs.Accepted.{Allows};
+ghost use Rattle.rl_scan.specs.declared.modes.Mode.TheVariants.{Bad};
+
 use crate::args::{Args, is_among};
 use crate::checks::number_in;
 use crate::context::Around;
@@ -36,7 +40,7 @@ pub(crate) struct Lists<'a> {
     pub kinds: &'a [Option<Kind>],
 }
 
-/// Owns the values of options that may be repeated.
+/// The same values, with their memory.
 #[derive(Drop)]
 pub(crate) struct Values<'a, A: Allocator> {
     finds: Vec<&'a str, A>,
@@ -230,6 +234,13 @@ impl<'a> Job<'a> {
         }
     }
 
+    /// Whether errors with an identifier don't count.
+    pub(crate) fn allows_error(&self, id: &str) -> bool
+        ensures { IsTrue result → Allows self.now id.now }
+    {
+        is_among(self.lists.allowed, id)
+    }
+
     /// Whether a finding doesn't count.
     pub(crate) fn allows(&self, finding: &Finding<'_>) -> bool {
         let allowed = self.lists.allowed;
@@ -250,23 +261,31 @@ impl<'a> Job<'a> {
         !self.has_kinds || self.lists.kinds.iter().any(|wanted| *wanted == kind)
     }
 
-    /// Returns the job for errors of a file, which are lines of text.
+    /// Returns the job for errors of a file, which are lines of text. The types of literals aren't checked, but stray characters
+    /// are errors.
     pub(crate) fn for_errors(&self) -> Job<'a> {
         let mut job = *self;
         job.form = Form::Text;
         job.color = false;
         job.around = None;
         job.shows = self.messages;
+        job.any_suffix = true;
+        job.strays = true;
         job
     }
 
-    /// Returns the exit status of a run without errors.
-    pub(crate) fn status(&self, findings: u64) -> u8 {
-        let fails = match self.mode {
-            Mode::Bad | Mode::Invisible | Mode::Check | Mode::Diff => findings > 0,
-            Mode::Find => findings == 0,
-            _ => false,
-        };
-        if fails && !self.lists_files { 1 } else { 0 }
+    /// Returns the exit status of a run without errors. `are_accepted` tells whether `--bad` accepts all literals.
+    pub(crate) fn status(&self, findings: u64, are_accepted: bool) -> u8
+        ensures { result ≡ 0 → self.now.mode ≡ Bad → IsFalse self.now.lists_files → IsTrue are_accepted }
+    {
+        if self.lists_files {
+            return 0;
+        }
+        match self.mode {
+            Mode::Bad => if findings == 0 && are_accepted { 0 } else { 1 },
+            Mode::Invisible | Mode::Check | Mode::Diff => if findings == 0 { 0 } else { 1 },
+            Mode::Find => if findings == 0 { 1 } else { 0 },
+            _ => 0,
+        }
     }
 }

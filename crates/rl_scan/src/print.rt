@@ -1,5 +1,7 @@
 //! Prints the findings of a source: as lines of text, as JSON objects, or as annotations for GitHub.
 
+ghost use Rattle.std.specs.Prelude.{◌≡◌};
+
 use crate::context::Context;
 use crate::escapes::{Before, Escapes, push_number, push_property, push_text};
 use crate::failure::Failure;
@@ -47,7 +49,9 @@ impl<'p, 'a, A: Allocator + Copy, W: Write> Page<'p, 'a, A, W> {
         path: &'p str,
         source: &'p str,
         stream: &'p mut W,
-    ) -> Page<'p, 'a, A, W> {
+    ) -> Page<'p, 'a, A, W>
+        ensures { result.source.now ≡ source.now }
+    {
         let position = Position::first(source);
         Page {
             alloc,

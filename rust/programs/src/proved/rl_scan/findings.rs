@@ -1,10 +1,11 @@
 // Rendered from crates/rl_scan/src/findings.rt by tools/render, which erases contracts: change that file, and render again.
 //! Finds what a call prints of a source: its literals, its errors, or its invisible characters.
 
-use crate::rl_scan::errors::{Checks, next_token, report_errors};
+use crate::rl_scan::errors::{next_token, report_errors};
 use crate::rl_scan::failure::Failure;
 use crate::rl_scan::finding::{Finding, Place};
 use crate::rl_scan::hidden::report_hidden;
+use crate::rl_scan::job::Job;
 use crate::rl_scan::literal::Literal;
 use crate::rl_scan::modes::Mode;
 use crate::rl_scan::print::Page;
@@ -52,20 +53,24 @@ fn report_literals<A: Allocator + Copy, W: Write>(
     Ok(tokens.error())
 }
 
-/// Reports the findings of a source. Returns the error that ends the source, unless it is a finding.
+/// Reports the findings of a source. Returns whether `--bad` accepts its literals, and the error that ends the source, unless it is a
+/// finding.
 pub(crate) fn report_findings<A: Allocator + Copy, W: Write>(
     page: &mut Page<'_, '_, A, W>,
-) -> Result<Option<LexError>, Failure<A>> {
-    match page.job.mode {
+    job: Job<'_>,
+) -> Result<(bool, Option<LexError>), Failure<A>> {
+    match job.mode {
         Mode::Bad => {
-            let (types, strays) = (!page.job.any_suffix, page.job.strays);
-            report_errors(page, Checks { types, strays })?;
-            Ok(None)
+            let are_accepted = report_errors(page, job)?;
+            Ok((are_accepted, None))
         }
         Mode::Invisible => {
             report_hidden(page)?;
-            Ok(None)
+            Ok((false, None))
         }
-        _ => report_literals(page),
+        _ => {
+            let end = report_literals(page)?;
+            Ok((false, end))
+        }
     }
 }

@@ -12,6 +12,7 @@ mod escapes;
 mod failure;
 mod finding;
 mod findings;
+mod follower;
 mod generated;
 mod hidden;
 mod host;
