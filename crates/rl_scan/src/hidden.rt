@@ -1,6 +1,6 @@
 //! Finds the invisible and bidirectional characters of a source.
 
-use crate::failure::Failure;
+use crate::failure::{Done, Failure};
 use crate::finding::{Finding, Place};
 use crate::print::Page;
 use crate::widths::{is_variation_selector, takes_variation_selector};
@@ -93,7 +93,7 @@ fn report_in<A: Allocator + Copy, W: Write>(
 /// Reports the invisible and bidirectional characters of a source.
 pub(crate) fn report_hidden<A: Allocator + Copy, W: Write>(
     page: &mut Page<'_, '_, A, W>,
-) -> Result<(), Failure<A>> {
+) -> Done<A> {
     let source = page.source;
     let mut at = if source.starts_with('\u{feff}') { 3 } else { 0 };
     let mut previous = '\0';

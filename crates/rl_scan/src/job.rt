@@ -7,17 +7,16 @@ ghost use Rattle.rl_scan.specs.declared.modes.Mode.TheVariants.{Bad};
 use crate::args::{Args, is_among};
 use crate::checks::number_in;
 use crate::context::Around;
+use crate::failure::Appended;
 use crate::finding::Finding;
 use crate::ids::character_of;
-use crate::literal::integers_of;
 use crate::modes::{Mode, REWRITING};
 use crate::position::Position;
-use crate::style::kinds_of;
 use rl_flaws::Edition;
 use rl_restyle::{Choice, Macros};
 use rl_style::Style;
 use rl_syntax::Kind;
-use std::alloc::{AllocError, Allocator};
+use std::alloc::Allocator;
 
 /// The format of findings.
 #[derive(Clone, Copy)]
@@ -38,36 +37,6 @@ pub(crate) struct Lists<'a> {
     pub allowed: &'a [&'a str],
     /// The kinds of the literals that count if `--only` is passed. `None` is a literal without a value.
     pub kinds: &'a [Option<Kind>],
-}
-
-/// The same values, with their memory.
-#[derive(Drop)]
-pub(crate) struct Values<'a, A: Allocator> {
-    finds: Vec<&'a str, A>,
-    numbers: Vec<u128, A>,
-    allowed: Vec<&'a str, A>,
-    kinds: Vec<Option<Kind>, A>,
-}
-
-impl<'a, A: Allocator + Copy> Values<'a, A> {
-    pub(crate) fn of(alloc: A, args: &Args<'a, A>) -> Result<Values<'a, A>, AllocError> {
-        let numbers = args.all(alloc, "--number")?;
-        Ok(Values {
-            finds: args.all(alloc, "--find")?,
-            numbers: integers_of(alloc, numbers.as_slice())?,
-            allowed: args.all(alloc, "--allow")?,
-            kinds: kinds_of(alloc, args.last("--only").unwrap_or(""))?,
-        })
-    }
-
-    pub(crate) fn lists(&self) -> Lists<'_> {
-        Lists {
-            finds: self.finds.as_slice(),
-            numbers: self.numbers.as_slice(),
-            allowed: self.allowed.as_slice(),
-            kinds: self.kinds.as_slice(),
-        }
-    }
 }
 
 /// The work of a call of `rl_scan` on each file.
@@ -222,11 +191,7 @@ impl<'a> Job<'a> {
     }
 
     /// Appends the code of a colour, if the output has colours.
-    pub(crate) fn push_color<A: Allocator>(
-        &self,
-        out: &mut String<A>,
-        code: &str,
-    ) -> Result<(), AllocError> {
+    pub(crate) fn push_color<A: Allocator>(&self, out: &mut String<A>, code: &str) -> Appended {
         if self.color {
             out.push_str(code)
         } else {

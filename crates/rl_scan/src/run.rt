@@ -11,19 +11,20 @@ ghost use Rattle.rl_scan.specs.declared.modes.Mode.TheVariants.{Bad};
 use crate::args::{Args, without_mark};
 use crate::errors::{both, report_end};
 use crate::escapes::{Before, Escapes, push_text};
-use crate::failure::Failure;
+use crate::failure::{Appended, Done, Failure};
 use crate::findings::report_findings;
-use crate::job::{Job, Values};
+use crate::job::{Job, Lists};
+use crate::literal::integers_of;
 use crate::modes::Mode;
 use crate::options::row_named;
 use crate::pages::page_of;
 use crate::paths::{extensions_of, paths_of};
 use crate::print::Page;
 use crate::stats::Tally;
-use crate::style::style_of;
+use crate::style::{kinds_of, style_of};
 use rl_files::{PathError, Replace, Selection, Tree, Visit, Walk, WalkError};
 use rl_program::{Ending, write_bytes};
-use std::alloc::{AllocError, Allocator};
+use std::alloc::Allocator;
 use std::io::Write;
 
 /// The standard streams, and the properties of them that a call depends on.
@@ -53,7 +54,7 @@ impl<'o, 'e, 'a, A: Allocator + Copy, W: Write, E: Write> Call<'o, 'e, 'a, A, W,
     // ---- errors of paths
 
     /// Prints a line about a file on standard error, after the program's name and the file's path.
-    pub(crate) fn complain(&mut self, path: &str, words: &str) -> Result<(), Failure<A>> {
+    pub(crate) fn complain(&mut self, path: &str, words: &str) -> Done<A> {
         if !self.job.messages {
             return Ok(());
         }
@@ -67,7 +68,7 @@ impl<'o, 'e, 'a, A: Allocator + Copy, W: Write, E: Write> Call<'o, 'e, 'a, A, W,
     }
 
     /// Prints that a path can't be read or written.
-    pub(crate) fn complain_why(&mut self, path: &str, why: PathError) -> Result<(), Failure<A>> {
+    pub(crate) fn complain_why(&mut self, path: &str, why: PathError) -> Done<A> {
         let mut words = format!(in self.alloc; "{why}")?;
         if matches!(why, PathError::NotFound) && !path.is_empty() {
             let option = format!(in self.alloc; "--{path}")?;
@@ -96,7 +97,7 @@ impl<'o, 'e, 'a, A: Allocator + Copy, W: Write, E: Write> Call<'o, 'e, 'a, A, W,
     // ---- sources
 
     /// Appends a path of `--files`, `-l` or `-c`, with a mark after it.
-    fn push_file(&self, out: &mut String<A>, path: &str, mark: char) -> Result<(), AllocError> {
+    fn push_file(&self, out: &mut String<A>, path: &str, mark: char) -> Appended {
         self.job.push_color(out, "\x1b[35m")?;
         if self.job.nul {
             out.push_str(path)?;
@@ -108,7 +109,7 @@ impl<'o, 'e, 'a, A: Allocator + Copy, W: Write, E: Write> Call<'o, 'e, 'a, A, W,
     }
 
     /// Prints the path of a file, or the number of its findings.
-    fn print_count(&mut self, path: &str, count: u64) -> Result<(), Failure<A>> {
+    fn print_count(&mut self, path: &str, count: u64) -> Done<A> {
         let mut line = String::new(self.alloc);
         let is_input = path == "-";
         let is_fix = self.job.mode == Mode::Fix && !is_input && !self.job.quiet;
@@ -150,7 +151,7 @@ impl<'o, 'e, 'a, A: Allocator + Copy, W: Write, E: Write> Call<'o, 'e, 'a, A, W,
     }
 
     /// Counts the findings of a source, and prints their number or the path.
-    fn add_findings(&mut self, path: &str, count: u64) -> Result<(), Failure<A>> {
+    fn add_findings(&mut self, path: &str, count: u64) -> Done<A> {
         if count == 0 {
             return Ok(());
         }
@@ -265,19 +266,6 @@ impl<'o, 'e, 'a, A: Allocator + Copy, W: Write, E: Write> Call<'o, 'e, 'a, A, W,
 
 // ---- calls
 
-/// Returns the description of the files that a walk visits.
-fn selection_of<'x>(
-    all: bool,
-    extensions: &'x [&'x str],
-    excludes: &'x [&'x str],
-) -> Selection<'x> {
-    Selection {
-        all,
-        extensions,
-        excludes,
-    }
-}
-
 /// Prints the findings of the selected files at `paths`, and the totals. Returns the exit status.
 fn run_walk<A: Allocator + Copy, T: Tree, W: Write, E: Write, F: Replace>(
     call: &mut Call<'_, '_, '_, A, W, E>,
@@ -322,8 +310,11 @@ fn run_call<A: Allocator + Copy, T: Tree, W: Write, E: Write, F: Replace>(
 {
     let extensions = extensions_of(call.alloc, args)?;
     let excludes = args.all(call.alloc, "--exclude")?;
-    let all = args.has("--all");
-    let selection = selection_of(all, extensions.as_slice(), excludes.as_slice());
+    let selection = Selection {
+        all: args.has("--all"),
+        extensions: extensions.as_slice(),
+        excludes: excludes.as_slice(),
+    };
     run_walk(call, selection, tree, files, paths)
 }
 
@@ -338,14 +329,22 @@ fn run_options<A: Allocator + Copy, T: Tree, W: Write, E: Write, F: Replace>(
     ensures fixes { Fixes (T.holds tree.now) (F.handed files.old) (F.handed files.new) }
 {
     let style = style_of(alloc, args, tree)?;
-    let values = Values::of(alloc, args)?;
+    let (finds, allowed) = (args.all(alloc, "--find")?, args.all(alloc, "--allow")?);
+    let numbers = integers_of(alloc, args.all(alloc, "--number")?.as_slice())?;
+    let kinds = kinds_of(alloc, args.last("--only").unwrap_or(""))?;
+    let lists = Lists {
+        finds: finds.as_slice(),
+        numbers: numbers.as_slice(),
+        allowed: allowed.as_slice(),
+        kinds: kinds.as_slice(),
+    };
     let Console {
         lacks_input,
         has_colors,
         out,
         err,
     } = console;
-    let job = Job::of(args, values.lists(), style, has_colors);
+    let job = Job::of(args, lists, style, has_colors);
     let mut paths = paths_of(alloc, args, tree, lacks_input || job.lists_files)?;
     let mut call = Call {
         alloc,

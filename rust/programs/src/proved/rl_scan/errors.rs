@@ -90,10 +90,8 @@ fn is_of_word(c: char) -> bool {
 /// Whether a reserved prefix may end at the byte offset `at` of a source: after a word or a hash. Most literals follow neither.
 #[inline(always)]
 fn may_end_prefix(source: &str, at: usize) -> bool {
-    match source.as_bytes().get(at.wrapping_sub(1)) {
-        Some(byte) => *byte == b'#' || is_of_word(char::from(*byte)),
-        None => false,
-    }
+    let last = source.as_bytes().get(at.wrapping_sub(1));
+    last.is_some_and(|byte| *byte == b'#' || is_of_word(char::from(*byte)))
 }
 
 /// Returns the byte offset where the reserved prefix of a literal begins. `before` is the text before the literal.

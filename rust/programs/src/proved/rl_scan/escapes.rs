@@ -2,6 +2,7 @@
 //! Writes characters, texts and numbers into the output: with escapes for invisible characters, for JSON, and for annotations.
 
 use crate::rattle_std::prelude::{String};
+use crate::rl_scan::failure::Appended;
 use crate::rl_files::is_control_invisible_or_bidi;
 use crate::rl_program::need_no_escapes;
 use crate::rattle_std::alloc::{AllocError, Allocator};
@@ -56,7 +57,7 @@ pub(crate) enum Escapes {
 }
 
 /// Appends the escape of a character in a JSON string, as one or two code units of UTF-16.
-fn push_json_number<A: Allocator>(out: &mut String<A>, c: char) -> Result<(), AllocError> {
+fn push_json_number<A: Allocator>(out: &mut String<A>, c: char) -> Appended {
     let code = c as u32;
     if code < 0x1_0000 {
         return write!(out, "\\u{code:04x}");
@@ -67,11 +68,7 @@ fn push_json_number<A: Allocator>(out: &mut String<A>, c: char) -> Result<(), Al
 }
 
 /// Appends a character as an escape.
-fn push_hidden<A: Allocator>(
-    out: &mut String<A>,
-    escapes: Escapes,
-    c: char,
-) -> Result<(), AllocError> {
+fn push_hidden<A: Allocator>(out: &mut String<A>, escapes: Escapes, c: char) -> Appended {
     let code = c as u32;
     match (escapes, c) {
         (Escapes::Line, '\t') => out.push(c),
@@ -126,7 +123,7 @@ pub(crate) fn push_text<A: Allocator>(
     escapes: Escapes,
     before: Before,
     text: &str,
-) -> Result<(), AllocError> {
+) -> Appended {
     let needs_none = match escapes {
         Escapes::Json => need_no_escapes(text.as_bytes()),
         _ => match before {
@@ -145,10 +142,7 @@ pub(crate) fn push_text<A: Allocator>(
     Ok(())
 }
 
-pub(crate) fn push_number<A: Allocator>(
-    out: &mut String<A>,
-    number: usize,
-) -> Result<(), AllocError> {
+pub(crate) fn push_number<A: Allocator>(out: &mut String<A>, number: usize) -> Appended {
     let mut digits = [b'0'; 20];
     let mut left = number;
     let mut start = digits.len();
@@ -169,10 +163,7 @@ pub(crate) fn push_number<A: Allocator>(
 }
 
 /// Appends a path as the value of a property of an annotation.
-pub(crate) fn push_property<A: Allocator>(
-    out: &mut String<A>,
-    path: &str,
-) -> Result<(), AllocError> {
+pub(crate) fn push_property<A: Allocator>(out: &mut String<A>, path: &str) -> Appended {
     for c in path.chars() {
         match c {
             ':' => out.push_str("%3A")?,

@@ -1,7 +1,7 @@
 // Rendered from crates/rl_scan/src/hidden.rt by tools/render, which erases contracts: change that file, and render again.
 //! Finds the invisible and bidirectional characters of a source.
 
-use crate::rl_scan::failure::Failure;
+use crate::rl_scan::failure::{Done, Failure};
 use crate::rl_scan::finding::{Finding, Place};
 use crate::rl_scan::print::Page;
 use crate::rl_scan::widths::{is_variation_selector, takes_variation_selector};
@@ -94,7 +94,7 @@ fn report_in<A: Allocator + Copy, W: Write>(
 /// Reports the invisible and bidirectional characters of a source.
 pub(crate) fn report_hidden<A: Allocator + Copy, W: Write>(
     page: &mut Page<'_, '_, A, W>,
-) -> Result<(), Failure<A>> {
+) -> Done<A> {
     let source = page.source;
     let mut at = if source.starts_with('\u{feff}') { 3 } else { 0 };
     let mut previous = '\0';

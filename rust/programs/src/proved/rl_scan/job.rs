@@ -1,21 +1,20 @@
 // Rendered from crates/rl_scan/src/job.rt by tools/render, which erases contracts: change that file, and render again.
 //! The work of a call of `rl_scan` on each file.
 
-use crate::rattle_std::prelude::{String, Vec};
+use crate::rattle_std::prelude::{String};
 use crate::rl_scan::args::{Args, is_among};
 use crate::rl_scan::checks::number_in;
 use crate::rl_scan::context::Around;
+use crate::rl_scan::failure::Appended;
 use crate::rl_scan::finding::Finding;
 use crate::rl_scan::ids::character_of;
-use crate::rl_scan::literal::integers_of;
 use crate::rl_scan::modes::{Mode, REWRITING};
 use crate::rl_scan::position::Position;
-use crate::rl_scan::style::kinds_of;
 use crate::rl_flaws::Edition;
 use crate::rl_restyle::{Choice, Macros};
 use crate::rl_style::Style;
 use crate::rl_syntax::Kind;
-use crate::rattle_std::alloc::{AllocError, Allocator};
+use crate::rattle_std::alloc::Allocator;
 
 /// The format of findings.
 #[derive(Clone, Copy)]
@@ -36,35 +35,6 @@ pub(crate) struct Lists<'a> {
     pub allowed: &'a [&'a str],
     /// The kinds of the literals that count if `--only` is passed. `None` is a literal without a value.
     pub kinds: &'a [Option<Kind>],
-}
-
-/// The same values, with their memory.
-pub(crate) struct Values<'a, A: Allocator> {
-    finds: Vec<&'a str, A>,
-    numbers: Vec<u128, A>,
-    allowed: Vec<&'a str, A>,
-    kinds: Vec<Option<Kind>, A>,
-}
-
-impl<'a, A: Allocator + Copy> Values<'a, A> {
-    pub(crate) fn of(alloc: A, args: &Args<'a, A>) -> Result<Values<'a, A>, AllocError> {
-        let numbers = args.all(alloc, "--number")?;
-        Ok(Values {
-            finds: args.all(alloc, "--find")?,
-            numbers: integers_of(alloc, numbers.as_slice())?,
-            allowed: args.all(alloc, "--allow")?,
-            kinds: kinds_of(alloc, args.last("--only").unwrap_or(""))?,
-        })
-    }
-
-    pub(crate) fn lists(&self) -> Lists<'_> {
-        Lists {
-            finds: self.finds.as_slice(),
-            numbers: self.numbers.as_slice(),
-            allowed: self.allowed.as_slice(),
-            kinds: self.kinds.as_slice(),
-        }
-    }
 }
 
 /// The work of a call of `rl_scan` on each file.
@@ -219,11 +189,7 @@ impl<'a> Job<'a> {
     }
 
     /// Appends the code of a colour, if the output has colours.
-    pub(crate) fn push_color<A: Allocator>(
-        &self,
-        out: &mut String<A>,
-        code: &str,
-    ) -> Result<(), AllocError> {
+    pub(crate) fn push_color<A: Allocator>(&self, out: &mut String<A>, code: &str) -> Appended {
         if self.color {
             out.push_str(code)
         } else {

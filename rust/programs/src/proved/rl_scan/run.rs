@@ -5,19 +5,20 @@ use crate::rattle_std::prelude::{String, Vec, format};
 use crate::rl_scan::args::{Args, without_mark};
 use crate::rl_scan::errors::{both, report_end};
 use crate::rl_scan::escapes::{Before, Escapes, push_text};
-use crate::rl_scan::failure::Failure;
+use crate::rl_scan::failure::{Appended, Done, Failure};
 use crate::rl_scan::findings::report_findings;
-use crate::rl_scan::job::{Job, Values};
+use crate::rl_scan::job::{Job, Lists};
+use crate::rl_scan::literal::integers_of;
 use crate::rl_scan::modes::Mode;
 use crate::rl_scan::options::row_named;
 use crate::rl_scan::pages::page_of;
 use crate::rl_scan::paths::{extensions_of, paths_of};
 use crate::rl_scan::print::Page;
 use crate::rl_scan::stats::Tally;
-use crate::rl_scan::style::style_of;
+use crate::rl_scan::style::{kinds_of, style_of};
 use crate::rl_files::{PathError, Replace, Selection, Tree, Visit, Walk, WalkError};
 use crate::rl_program::{Ending, write_bytes};
-use crate::rattle_std::alloc::{AllocError, Allocator};
+use crate::rattle_std::alloc::Allocator;
 use crate::rattle_std::io::Write;
 
 /// The standard streams, and the properties of them that a call depends on.
@@ -45,7 +46,7 @@ impl<'o, 'e, 'a, A: Allocator + Copy, W: Write, E: Write> Call<'o, 'e, 'a, A, W,
     // ---- errors of paths
 
     /// Prints a line about a file on standard error, after the program's name and the file's path.
-    pub(crate) fn complain(&mut self, path: &str, words: &str) -> Result<(), Failure<A>> {
+    pub(crate) fn complain(&mut self, path: &str, words: &str) -> Done<A> {
         if !self.job.messages {
             return Ok(());
         }
@@ -59,7 +60,7 @@ impl<'o, 'e, 'a, A: Allocator + Copy, W: Write, E: Write> Call<'o, 'e, 'a, A, W,
     }
 
     /// Prints that a path can't be read or written.
-    pub(crate) fn complain_why(&mut self, path: &str, why: PathError) -> Result<(), Failure<A>> {
+    pub(crate) fn complain_why(&mut self, path: &str, why: PathError) -> Done<A> {
         let mut words = format!(in self.alloc; "{why}")?;
         if matches!(why, PathError::NotFound) && !path.is_empty() {
             let option = format!(in self.alloc; "--{path}")?;
@@ -86,7 +87,7 @@ impl<'o, 'e, 'a, A: Allocator + Copy, W: Write, E: Write> Call<'o, 'e, 'a, A, W,
     // ---- sources
 
     /// Appends a path of `--files`, `-l` or `-c`, with a mark after it.
-    fn push_file(&self, out: &mut String<A>, path: &str, mark: char) -> Result<(), AllocError> {
+    fn push_file(&self, out: &mut String<A>, path: &str, mark: char) -> Appended {
         self.job.push_color(out, "\x1b[35m")?;
         if self.job.nul {
             out.push_str(path)?;
@@ -98,7 +99,7 @@ impl<'o, 'e, 'a, A: Allocator + Copy, W: Write, E: Write> Call<'o, 'e, 'a, A, W,
     }
 
     /// Prints the path of a file, or the number of its findings.
-    fn print_count(&mut self, path: &str, count: u64) -> Result<(), Failure<A>> {
+    fn print_count(&mut self, path: &str, count: u64) -> Done<A> {
         let mut line = String::new(self.alloc);
         let is_input = path == "-";
         let is_fix = self.job.mode == Mode::Fix && !is_input && !self.job.quiet;
@@ -138,7 +139,7 @@ impl<'o, 'e, 'a, A: Allocator + Copy, W: Write, E: Write> Call<'o, 'e, 'a, A, W,
     }
 
     /// Counts the findings of a source, and prints their number or the path.
-    fn add_findings(&mut self, path: &str, count: u64) -> Result<(), Failure<A>> {
+    fn add_findings(&mut self, path: &str, count: u64) -> Done<A> {
         if count == 0 {
             return Ok(());
         }
@@ -237,19 +238,6 @@ impl<'o, 'e, 'a, A: Allocator + Copy, W: Write, E: Write> Call<'o, 'e, 'a, A, W,
 
 // ---- calls
 
-/// Returns the description of the files that a walk visits.
-fn selection_of<'x>(
-    all: bool,
-    extensions: &'x [&'x str],
-    excludes: &'x [&'x str],
-) -> Selection<'x> {
-    Selection {
-        all,
-        extensions,
-        excludes,
-    }
-}
-
 /// Prints the findings of the selected files at `paths`, and the totals. Returns the exit status.
 fn run_walk<A: Allocator + Copy, T: Tree, W: Write, E: Write, F: Replace>(
     call: &mut Call<'_, '_, '_, A, W, E>,
@@ -287,8 +275,11 @@ fn run_call<A: Allocator + Copy, T: Tree, W: Write, E: Write, F: Replace>(
 ) -> Result<u8, Failure<A>> {
     let extensions = extensions_of(call.alloc, args)?;
     let excludes = args.all(call.alloc, "--exclude")?;
-    let all = args.has("--all");
-    let selection = selection_of(all, extensions.as_slice(), excludes.as_slice());
+    let selection = Selection {
+        all: args.has("--all"),
+        extensions: extensions.as_slice(),
+        excludes: excludes.as_slice(),
+    };
     run_walk(call, selection, tree, files, paths)
 }
 
@@ -301,14 +292,22 @@ fn run_options<A: Allocator + Copy, T: Tree, W: Write, E: Write, F: Replace>(
     files: &mut F,
 ) -> Result<u8, Failure<A>> {
     let style = style_of(alloc, args, tree)?;
-    let values = Values::of(alloc, args)?;
+    let (finds, allowed) = (args.all(alloc, "--find")?, args.all(alloc, "--allow")?);
+    let numbers = integers_of(alloc, args.all(alloc, "--number")?.as_slice())?;
+    let kinds = kinds_of(alloc, args.last("--only").unwrap_or(""))?;
+    let lists = Lists {
+        finds: finds.as_slice(),
+        numbers: numbers.as_slice(),
+        allowed: allowed.as_slice(),
+        kinds: kinds.as_slice(),
+    };
     let Console {
         lacks_input,
         has_colors,
         out,
         err,
     } = console;
-    let job = Job::of(args, values.lists(), style, has_colors);
+    let job = Job::of(args, lists, style, has_colors);
     let mut paths = paths_of(alloc, args, tree, lacks_input || job.lists_files)?;
     let mut call = Call {
         alloc,

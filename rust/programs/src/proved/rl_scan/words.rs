@@ -3,25 +3,21 @@
 
 use crate::rattle_std::prelude::{String};
 use crate::rl_scan::escapes::Escapes;
-use crate::rl_scan::failure::Failure;
+use crate::rl_scan::failure::{Appended, Done};
 use crate::rl_scan::finding::{Fault, Finding};
 use crate::rl_scan::literal::Literal;
 use crate::rl_scan::print::Page;
 use crate::rl_program::label_of;
 use crate::rl_restyle::Rule;
 use crate::rl_syntax::Kind;
-use crate::rattle_std::alloc::{AllocError, Allocator};
+use crate::rattle_std::alloc::Allocator;
 use crate::rattle_std::io::Write;
 
 /// The maximum length, in bytes, of the text of an invalid literal in JSON.
 const LONGEST: usize = 1024;
 
 /// Appends the names of rules with a separator between them.
-fn push_names<A: Allocator>(
-    out: &mut String<A>,
-    separator: &str,
-    rules: &[Rule],
-) -> Result<(), AllocError> {
+fn push_names<A: Allocator>(out: &mut String<A>, separator: &str, rules: &[Rule]) -> Appended {
     let mut is_first = true;
     for rule in rules {
         if !is_first {
@@ -42,7 +38,7 @@ fn digits_in(line: &str) -> &str {
 
 impl<'p, 'a, A: Allocator + Copy, W: Write> Page<'p, 'a, A, W> {
     /// Prints the words of a finding in a line.
-    pub(crate) fn print_words(&mut self, finding: &Finding<'_>) -> Result<(), Failure<A>> {
+    pub(crate) fn print_words(&mut self, finding: &Finding<'_>) -> Done<A> {
         let (within, escapes) = (self.within(), Escapes::Literal);
         match finding {
             Finding::Literal(literal) if self.job.as_written => {
@@ -81,7 +77,7 @@ impl<'p, 'a, A: Allocator + Copy, W: Write> Page<'p, 'a, A, W> {
     }
 
     /// Prints the value of a literal as JSON.
-    fn print_value(&mut self, literal: &Literal<'_>) -> Result<(), Failure<A>> {
+    fn print_value(&mut self, literal: &Literal<'_>) -> Done<A> {
         if let (Some(Kind::Str), Some((_, value))) = (literal.kind(), literal.plain_value()) {
             return self.output.print_json("", value);
         }
@@ -107,7 +103,7 @@ impl<'p, 'a, A: Allocator + Copy, W: Write> Page<'p, 'a, A, W> {
     }
 
     /// Prints the members of an error.
-    fn print_fault(&mut self, fault: &Fault<'_>) -> Result<(), Failure<A>> {
+    fn print_fault(&mut self, fault: &Fault<'_>) -> Done<A> {
         match fault.literal {
             Some(text) if text.len() > LONGEST => self.output.text.push_str(",\"text\":null")?,
             Some(text) => self.output.print_json(",\"text\":", text)?,
@@ -122,7 +118,7 @@ impl<'p, 'a, A: Allocator + Copy, W: Write> Page<'p, 'a, A, W> {
     }
 
     /// Prints the members of a finding in a JSON object.
-    pub(crate) fn print_members(&mut self, finding: &Finding<'_>) -> Result<(), Failure<A>> {
+    pub(crate) fn print_members(&mut self, finding: &Finding<'_>) -> Done<A> {
         match finding {
             Finding::Literal(literal) => {
                 self.output
