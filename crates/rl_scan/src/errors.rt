@@ -1,11 +1,9 @@
 //! Finds the literals of a source that Rust rejects, and what ends the source early.
 
-ghost use Rattle.std.specs.Prelude.{◌≡◌, ◌⊎◌, ◌<◌, Bool, codes, drop, length, IfNone, IfOk, IfSome, IsTrue, OnOk};
+ghost use Rattle.std.specs.Prelude.{◌≡◌, ◌⊎◌, ◌<◌, codes, drop, length, IfNone, IfOk, IfSome, IsTrue, OnOk};
 ghost use Rattle.std.specs.Str.{chars};
 ghost use Rattle.rl_lexer.specs.Sources.{BeginsNoSource, IsLiteralText, PassesTo, TakesLiteralAfter, TakesSource, source_view};
 ghost use Rattle.rl_strict.specs.FlawWords.{flaw_id};
-ghost use Rattle.rl_strict.specs.Readings.{IsReadingOf};
-ghost use Rattle.rl_strict.specs.declared.line_ends.LineEnds.TheVariants.{File as InFile};
 ghost use Rattle.rl_flaws.specs.Before.{may_negate};
 ghost use Rattle.rl_flaws.specs.TypeErrors.{HasType};
 ghost use Rattle.rl_scan.specs.Accepted.{Allows, AreAccepted, HasTypeBy, IsAcceptedLiteral, IsIdOfTypeError, IsTyped, IsUnderLimit, end_id, is_since_2021};
@@ -116,7 +114,7 @@ fn is_of_word(c: char) -> bool {
 #[inline(always)]
 fn may_end_prefix(source: &str, at: usize) -> bool {
     let last = source.as_bytes().get(at.wrapping_sub(1));
-    last.is_some_and(|byte| *byte == b'#' || is_of_word(char::from(*byte)))
+    last.is_some_and(|byte| matches!(*byte, b'#' | b'_') || byte.is_ascii_alphanumeric())
 }
 
 /// Returns the byte offset where the reserved prefix of a literal begins. `before` is the text before the literal.

@@ -122,13 +122,11 @@ pub(crate) fn push_text<A: Allocator>(
     before: Before,
     text: &str,
 ) -> Appended {
-    let needs_none = match escapes {
-        Escapes::Json => need_no_escapes(text.as_bytes()),
-        _ => match before {
-            Before::Annotation => false,
-            Before::Space => is_plain(text) && !text.contains("::"),
-            _ => is_plain(text),
-        },
+    let needs_none = match (escapes, before) {
+        (Escapes::Json, _) => need_no_escapes(text.as_bytes()),
+        (_, Before::Annotation) => false,
+        (_, Before::Space) => is_plain(text) && !text.contains("::"),
+        _ => is_plain(text),
     };
     if needs_none {
         return out.push_str(text);

@@ -60,17 +60,11 @@ pub(crate) fn report_findings<A: Allocator + Copy, W: Write>(
     ensures { IfOk result (λ r. IsTrue r.0 → job.entry.mode ≡ Bad → AreAccepted job.entry page.old.source.now) }
 {
     match job.mode {
-        Mode::Bad => {
-            let are_accepted = report_errors(page, job)?;
-            Ok((are_accepted, None))
-        }
+        Mode::Bad => Ok((report_errors(page, job)?, None)),
         Mode::Invisible => {
             report_hidden(page)?;
             Ok((false, None))
         }
-        _ => {
-            let end = page.report_literals()?;
-            Ok((false, end))
-        }
+        _ => Ok((false, page.report_literals()?)),
     }
 }

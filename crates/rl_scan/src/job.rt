@@ -35,7 +35,7 @@ pub(crate) struct Lists<'a> {
     pub numbers: &'a [u128],
     /// The identifiers of findings that don't count.
     pub allowed: &'a [&'a str],
-    /// The kinds of the literals that count if `--only` is passed. `None` is a literal without a value.
+    /// The kinds of the literals that count, or none if all count. `None` is a literal without a value.
     pub kinds: &'a [Option<Kind>],
 }
 
@@ -44,8 +44,6 @@ pub(crate) struct Lists<'a> {
 pub(crate) struct Job<'a> {
     pub mode: Mode,
     pub lists: Lists<'a>,
-    /// Whether only literals of some kinds count.
-    pub has_kinds: bool,
     /// Whether any suffix and any value is accepted.
     pub any_suffix: bool,
     /// Whether stray characters are errors.
@@ -90,18 +88,16 @@ fn edition_of(year: Option<&str>) -> Edition {
     }
 }
 
-fn lines_of(value: Option<&str>, other: Option<usize>) -> Option<usize> {
-    match value {
-        Some(value) => number_in(value),
-        None => other,
-    }
+/// Returns the number of lines that an option requests.
+fn lines_of<A: Allocator + Copy>(args: &Args<'_, A>, name: &str) -> Option<usize> {
+    number_in(args.last(name)?)
 }
 
 /// Returns the numbers of lines around findings that a call requests.
 fn around_of<A: Allocator + Copy>(args: &Args<'_, A>) -> Option<Around> {
-    let both = lines_of(args.last("--context"), None);
-    let before = lines_of(args.last("--before-context"), both);
-    let after = lines_of(args.last("--after-context"), both);
+    let both = lines_of(args, "--context");
+    let before = lines_of(args, "--before-context").or(both);
+    let after = lines_of(args, "--after-context").or(both);
     if before.is_none() && after.is_none() {
         return None;
     }
@@ -120,14 +116,12 @@ impl<'a> Job<'a> {
         let mode = args.mode();
         let all = args.last("--macros") == Some("all");
         let macros = if all { Macros::All } else { Macros::Skip };
-        let any_suffix = args.has("--any-suffix");
         let (quiet, counts) = (args.has("--quiet"), args.has("--count"));
         let names = args.has("--files-with-matches");
         Job {
             mode,
             lists,
-            has_kinds: args.has("--only"),
-            any_suffix,
+            any_suffix: args.has("--any-suffix"),
             strays: args.has("--no-stray"),
             follows: mode == Mode::Bad && !all,
             edition: edition_of(args.last("--edition")),
@@ -169,11 +163,9 @@ impl<'a> Job<'a> {
 
     /// Returns the choice of the literals that are rewritten.
     pub(crate) fn choice(&self) -> Choice<'a> {
-        let kinds = self.lists.kinds;
-        Choice {
-            macros: self.macros,
-            kinds: if self.has_kinds { Some(kinds) } else { None },
-        }
+        let (macros, kinds) = (self.macros, self.lists.kinds);
+        let kinds = if kinds.is_empty() { None } else { Some(kinds) };
+        Choice { macros, kinds }
     }
 
     /// Whether the positions in a file, or else in standard input, are lines and columns.
@@ -216,14 +208,15 @@ impl<'a> Job<'a> {
             return true;
         }
         match finding {
-            Finding::Hidden { c, .. } => allowed.iter().any(|id| character_of(id) == Some(*c)),
+            Finding::Hidden(c) => allowed.iter().any(|id| character_of(id) == Some(*c)),
             _ => false,
         }
     }
 
     /// Whether literals of a kind count.
     pub(crate) fn wants(&self, kind: Option<Kind>) -> bool {
-        !self.has_kinds || self.lists.kinds.iter().any(|wanted| *wanted == kind)
+        let kinds = self.lists.kinds;
+        kinds.is_empty() || kinds.iter().any(|wanted| *wanted == kind)
     }
 
     /// Returns the job for errors of a file, which are lines of text. The types of literals aren't checked, but stray characters

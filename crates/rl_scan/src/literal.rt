@@ -1,9 +1,6 @@
 //! A literal of a source with its parse result: its printed line, and its value.
 
-ghost use Rattle.std.specs.Prelude.{IfNone, IfSome};
-ghost use Rattle.std.specs.Str.{chars};
 ghost use Rattle.rl_lenient.specs.Founds.{IsFound};
-ghost use Rattle.rl_syntax.specs.Reading.{HasNoReading};
 
 use crate::failure::Appended;
 use rl_fronts::{bytes_of_body, str_of_body};

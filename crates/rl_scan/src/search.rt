@@ -4,7 +4,6 @@ use crate::finding::Place;
 use crate::job::Job;
 use crate::literal::Literal;
 use rl_cursors::Segments;
-use rl_syntax::Kind;
 use std::alloc::{AllocError, Allocator};
 
 fn is_word_byte(byte: Option<&u8>) -> bool {
@@ -61,12 +60,6 @@ fn text_match<A: Allocator + Copy>(
     job: &Job<'_>,
     literal: &Literal<'_>,
 ) -> Result<Option<Place>, AllocError> {
-    if matches!(
-        literal.kind(),
-        None | Some(Kind::Int | Kind::Float | Kind::Bool)
-    ) {
-        return Ok(None);
-    }
     if let Some((start, value)) = literal.plain_value() {
         return Ok(match_in(value.as_bytes(), job).map(|place| place.after(start)));
     }

@@ -62,12 +62,6 @@ pub(crate) fn is_near(word: &str, meant: &str) -> bool {
     true
 }
 
-/// Returns the part of an argument before the first `=`, or the whole argument.
-pub(crate) fn option_part(word: &str) -> &str {
-    let (option, _) = word.split_once('=').unwrap_or((word, ""));
-    option
-}
-
 // ---- the rules of a style
 
 /// Whether a value of `--rule` is a string without quotes: it consists of ASCII letters and `_`, and isn't `true` or `false`.

@@ -3,6 +3,7 @@
 use crate::escapes::Escapes;
 use crate::failure::{Appended, Done};
 use crate::finding::{Fault, Finding};
+use crate::hidden::bidi_name;
 use crate::literal::Literal;
 use crate::print::Page;
 use rl_program::label_of;
@@ -57,8 +58,8 @@ impl<'p, 'a, A: Allocator + Copy, W: Write> Page<'p, 'a, A, W> {
                 self.output.text.push_str(": ")?;
                 self.output.print(escapes, within, fault.piece)
             }
-            Finding::Hidden { c, name, .. } => {
-                let code = *c as u32;
+            Finding::Hidden(c) => {
+                let (code, name) = (*c as u32, bidi_name(*c));
                 write!(self.output.text, "U+{code:04X}{name}")?;
                 Ok(())
             }
@@ -127,8 +128,8 @@ impl<'p, 'a, A: Allocator + Copy, W: Write> Page<'p, 'a, A, W> {
                 self.output.print_json(",\"suffix\":", literal.suffix())
             }
             Finding::Error(fault) => self.print_fault(fault),
-            Finding::Hidden { id, c, name } => {
-                let code = *c as u32;
+            Finding::Hidden(c) => {
+                let (id, code, name) = (finding.id(), *c as u32, bidi_name(*c));
                 write!(
                     self.output.text,
                     ",\"id\":\"{id}\",\"hidden\":\"U+{code:04X}{name}\""

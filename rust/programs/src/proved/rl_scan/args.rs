@@ -6,7 +6,7 @@ use crate::rl_scan::checks::{check_command_line, check_value};
 use crate::rl_scan::failure::{Done, Failure};
 use crate::rl_scan::modes::{Mode, SELECTING};
 use crate::rl_scan::options::{OPTIONS, OptionRow, row_lettered, row_named};
-use crate::rl_scan::style::{is_near, option_part};
+use crate::rl_scan::style::is_near;
 use crate::rl_files::visible_text;
 use crate::rattle_std::alloc::{AllocError, Allocator, Global};
 
@@ -59,16 +59,14 @@ pub(crate) fn without_mark(text: &str) -> &str {
 
 /// Returns the option that a word resembles. Names that are at most one byte longer come first.
 fn near_option(word: &str) -> Option<&'static str> {
-    let part = option_part(word);
+    let (part, _) = word.split_once('=').unwrap_or((word, ""));
     let mut near: Option<&'static str> = None;
     for row in &OPTIONS {
         if row.name != "--" && is_near(part, row.name) {
             if row.name.len().saturating_sub(1) <= part.len() {
                 return Some(row.name);
             }
-            if near.is_none() {
-                near = Some(row.name);
-            }
+            near = near.or(Some(row.name));
         }
     }
     near
@@ -178,12 +176,8 @@ impl<'a, A: Allocator + Copy> Args<'a, A> {
     }
 
     pub(crate) fn mode(&self) -> Mode {
-        for row in &SELECTING {
-            if self.has(row.0) {
-                return row.1;
-            }
-        }
-        Mode::List
+        let row = SELECTING.iter().find(|row| self.has(row.0));
+        row.map(|row| row.1).unwrap_or(Mode::List)
     }
 
     /// Returns the error if an option contradicts earlier ones.

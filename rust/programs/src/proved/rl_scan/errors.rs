@@ -91,7 +91,7 @@ fn is_of_word(c: char) -> bool {
 #[inline(always)]
 fn may_end_prefix(source: &str, at: usize) -> bool {
     let last = source.as_bytes().get(at.wrapping_sub(1));
-    last.is_some_and(|byte| *byte == b'#' || is_of_word(char::from(*byte)))
+    last.is_some_and(|byte| matches!(*byte, b'#' | b'_') || byte.is_ascii_alphanumeric())
 }
 
 /// Returns the byte offset where the reserved prefix of a literal begins. `before` is the text before the literal.

@@ -55,17 +55,11 @@ pub(crate) fn report_findings<A: Allocator + Copy, W: Write>(
     job: Job<'_>,
 ) -> Result<(bool, Option<LexError>), Failure<A>> {
     match job.mode {
-        Mode::Bad => {
-            let are_accepted = report_errors(page, job)?;
-            Ok((are_accepted, None))
-        }
+        Mode::Bad => Ok((report_errors(page, job)?, None)),
         Mode::Invisible => {
             report_hidden(page)?;
             Ok((false, None))
         }
-        _ => {
-            let end = page.report_literals()?;
-            Ok((false, end))
-        }
+        _ => Ok((false, page.report_literals()?)),
     }
 }

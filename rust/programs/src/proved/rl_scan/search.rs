@@ -5,7 +5,6 @@ use crate::rl_scan::finding::Place;
 use crate::rl_scan::job::Job;
 use crate::rl_scan::literal::Literal;
 use crate::rl_cursors::Segments;
-use crate::rl_syntax::Kind;
 use crate::rattle_std::alloc::{AllocError, Allocator};
 
 fn is_word_byte(byte: Option<&u8>) -> bool {
@@ -62,12 +61,6 @@ fn text_match<A: Allocator + Copy>(
     job: &Job<'_>,
     literal: &Literal<'_>,
 ) -> Result<Option<Place>, AllocError> {
-    if matches!(
-        literal.kind(),
-        None | Some(Kind::Int | Kind::Float | Kind::Bool)
-    ) {
-        return Ok(None);
-    }
     if let Some((start, value)) = literal.plain_value() {
         return Ok(match_in(value.as_bytes(), job).map(|place| place.after(start)));
     }

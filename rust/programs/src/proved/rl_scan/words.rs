@@ -5,6 +5,7 @@ use crate::rattle_std::prelude::{String};
 use crate::rl_scan::escapes::Escapes;
 use crate::rl_scan::failure::{Appended, Done};
 use crate::rl_scan::finding::{Fault, Finding};
+use crate::rl_scan::hidden::bidi_name;
 use crate::rl_scan::literal::Literal;
 use crate::rl_scan::print::Page;
 use crate::rl_program::label_of;
@@ -59,8 +60,8 @@ impl<'p, 'a, A: Allocator + Copy, W: Write> Page<'p, 'a, A, W> {
                 self.output.text.push_str(": ")?;
                 self.output.print(escapes, within, fault.piece)
             }
-            Finding::Hidden { c, name, .. } => {
-                let code = *c as u32;
+            Finding::Hidden(c) => {
+                let (code, name) = (*c as u32, bidi_name(*c));
                 write!(self.output.text, "U+{code:04X}{name}")?;
                 Ok(())
             }
@@ -129,8 +130,8 @@ impl<'p, 'a, A: Allocator + Copy, W: Write> Page<'p, 'a, A, W> {
                 self.output.print_json(",\"suffix\":", literal.suffix())
             }
             Finding::Error(fault) => self.print_fault(fault),
-            Finding::Hidden { id, c, name } => {
-                let code = *c as u32;
+            Finding::Hidden(c) => {
+                let (id, code, name) = (finding.id(), *c as u32, bidi_name(*c));
                 write!(
                     self.output.text,
                     ",\"id\":\"{id}\",\"hidden\":\"U+{code:04X}{name}\""
