@@ -10,7 +10,7 @@ use Rattle.rl_restyle.specs.declared.edit.Choice.{Choice}
 use Rattle.rl_style.specs.declared.style.Style.{Style}
 
 -- The text `new` is the source `old`, rewritten by `rewrite_source` in a style.
-pub record IsRewritten (old new : List ℕ) : Type 0 where
+pub record IsFixedText (old new : List ℕ) : Type 0 where
   pub style : Style
   pub choice : Choice
   pub edits : List (ℕ × ℕ × List ℕ)
@@ -20,11 +20,11 @@ pub record IsRewritten (old new : List ℕ) : Type 0 where
 -- replacements of files.
 abbrev pub FixesSource : List ℕ → List ℕ → Option (List Replacement) → Option (List Replacement) → Type 0
 FixesSource path old before after =
-    (after ≡ before) ⊎ ((new : List ℕ) × IsRewritten old new × (after ≡ handed_too (replacing path old new) before))
+    (after ≡ before) ⊎ ((new : List ℕ) × IsFixedText old new × (after ≡ handed_too (replacing path old new) before))
 
 -- The old bytes of a replacement are those of the file at its path, and the new bytes are their rewritten text.
 abbrev pub IsFix : Option World → Replacement → Type 0
-IsFix holds r = IfSome holds (λ w. w.bytes r.path ≡ Ok r.old) × IsRewritten r.old r.new
+IsFix holds r = IfSome holds (λ w. w.bytes r.path ≡ Ok r.old) × IsFixedText r.old r.new
 
 -- Each file that is replaced after `before` is replaced by its rewritten text.
 abbrev pub Fixes : Option World → Option (List Replacement) → Option (List Replacement) → Type 0

@@ -87,13 +87,6 @@ fn is_of_word(c: char) -> bool {
     c.is_ascii_alphanumeric() || c == '_'
 }
 
-/// Whether a reserved prefix may end at the byte offset `at` of a source: after a word or a hash. Most literals follow neither.
-#[inline(always)]
-fn may_end_prefix(source: &str, at: usize) -> bool {
-    let last = source.as_bytes().get(at.wrapping_sub(1));
-    last.is_some_and(|byte| matches!(*byte, b'#' | b'_') || byte.is_ascii_alphanumeric())
-}
-
 /// Returns the byte offset where the reserved prefix of a literal begins. `before` is the text before the literal.
 fn prefix_start(before: &str, text: &str) -> usize {
     let front = before.trim_end_matches('#');
@@ -120,6 +113,15 @@ fn type_error_at(
     }
     let suffix = &text[suffix_at..];
     type_error_of(kind, text, magnitude, suffix, may_be_negated(before))
+}
+
+/// Whether a literal with the given parse result is quoted and has no suffix. Then it has a type.
+#[inline(always)]
+fn is_bare(text: &str, reading: &Reading) -> bool {
+    match reading {
+        Reading::Text(kind, body) => body.suffix_at == text.len() && !matches!(kind, Kind::Float),
+        _ => false,
+    }
 }
 
 /// Returns the reason why Rust has no type for a literal. `before` is the text before the literal.
@@ -208,7 +210,10 @@ fn report_prefix<A: Allocator + Copy, W: Write>(
 ) -> Result<Option<bool>, Failure<A>> {
     let source = page.source;
     let before = source.get(..token.lo).unwrap_or("");
-    if !may_end_prefix(source, token.lo) || !job.edition.reserves(before, token.text) {
+    // A reserved prefix ends with a word or a hash. Most literals follow neither.
+    let last = source.as_bytes().get(token.lo.wrapping_sub(1));
+    let is_joined = last.is_some_and(|b| matches!(*b, b'#' | b'_') || b.is_ascii_alphanumeric());
+    if !is_joined || !job.edition.reserves(before, token.text) {
         return Ok(None);
     }
     let (lo, hi) = (prefix_start(before, token.text), token.hi);
@@ -296,6 +301,9 @@ fn report_literal<'t, A: Allocator + Copy, W: Write>(
             if job.any_suffix {
                 return Ok(true);
             }
+            if is_bare(token.text, &reading) {
+                return Ok(true);
+            }
             report_type(page, follower, job, token, &reading)
         }
         Err(flaw) => {
@@ -313,20 +321,15 @@ fn report_token<'t, A: Allocator + Copy, W: Write>(
     job: Job<'_>,
     token: SourceToken<'t>,
 ) -> Result<bool, Failure<A>> {
-    if token.is_literal() {
-        return report_literal(page, follower, job, token);
-    }
-    if job.strays && matches!(token.form, SourceForm::Stray) {
+    // Without `strays`, every token is a literal.
+    if job.strays && !token.is_literal() {
+        if !matches!(token.form, SourceForm::Stray) {
+            return Ok(true);
+        }
         let (lo, hi) = (token.lo, token.hi);
-        return report_lex_error(
-            page,
-            job,
-            LexKind::StrayCharacter,
-            Place { lo, hi },
-            token.text,
-        );
+        return report_lex_error(page, job, LexKind::StrayCharacter, Place { lo, hi }, token.text);
     }
-    Ok(true)
+    report_literal(page, follower, job, token)
 }
 
 /// Reports the errors of a source. Returns whether all its literals are accepted.
