@@ -6,7 +6,6 @@ pub mod KindLemmas
 pub mod CleanLemmas
 pub mod Drafts
 pub mod KeptCuts
-pub mod EditPlaces
 pub mod OneText
 pub mod Theorems
 pub mod ChangingLemmas

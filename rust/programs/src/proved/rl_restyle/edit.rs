@@ -1,7 +1,7 @@
 // Rendered from crates/rl_restyle/src/edit.rt by tools/render, which erases contracts: change that file, and render again.
-//! The edits that rewrite a source, and the reasons why a source isn't rewritten.
+//! A rewritten source, the choice of its literals, and the reasons why a source isn't rewritten.
 
-use crate::rattle_std::prelude::{String, Vec};
+use crate::rattle_std::prelude::{String};
 use crate::rl_lexer::LexError;
 use crate::rl_syntax::Kind;
 use crate::rattle_std::alloc::{Allocator, Global};
@@ -26,22 +26,10 @@ pub struct Choice<'a> {
     pub kinds: Option<&'a [Option<Kind>]>,
 }
 
-/// The change of one literal in a source.
-pub struct Edit<A: Allocator = Global> {
-    /// The byte offset in the old text where the literal begins.
-    pub lo: usize,
-    /// The byte offset in the old text after the literal.
-    pub hi: usize,
-    /// The new text of the literal.
-    pub text: String<A>,
-}
-
-/// A rewritten source: its new text, and the edits.
+/// A rewritten source.
 pub struct Restyled<A: Allocator = Global> {
     /// The new text of the whole source.
     pub text: String<A>,
-    /// The changes of literals, with byte offsets in the old text, in ascending order.
-    pub edits: Vec<Edit<A>, A>,
     /// `true` if the old text has none of these: a stray character, which begins no token (for example `€`), a literal that Rust's
     /// grammar doesn't accept, and a literal directly after an ASCII letter, an ASCII digit, `_` or `#`, such as `f"x"`. Some of
     /// these are errors from Rust 2021 on.
