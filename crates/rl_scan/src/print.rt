@@ -200,8 +200,7 @@ impl<'p, 'a, A: Allocator + Copy, W: Write> Page<'p, 'a, A, W> {
         let start = self.position.moved(self.source, place.lo);
         let end = start.moved(self.source, place.hi);
         self.position = start;
-        let is_notice = matches!(finding, Finding::Literal(_));
-        let lead = if is_notice { "::notice " } else { "::error " };
+        let lead = if matches!(finding, Finding::Literal(_)) { "::notice " } else { "::error " };
         self.output.text.push_str(lead)?;
         self.output.text.push_str(self.head.as_str())?;
         for (name, number) in [

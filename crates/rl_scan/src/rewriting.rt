@@ -64,8 +64,7 @@ fn report_changes<A: Allocator + Copy, W: Write>(
 impl<'o, 'e, 'a, A: Allocator + Copy, W: Write, E: Write> Call<'o, 'e, 'a, A, W, E> {
     /// Prints the errors because of which a source isn't rewritten. Returns whether there are any.
     fn explains<'t>(&mut self, path: &'t str, source: &'t str) -> Result<bool, Failure<A>> {
-        let job = self.job;
-        let job = job.for_errors();
+        let job = self.job.for_errors();
         let mut page = Page::new(self.alloc, &job, path, source, self.err);
         report_errors(&mut page, job)?;
         page.close()?;

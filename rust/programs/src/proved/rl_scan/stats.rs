@@ -81,8 +81,7 @@ impl<'o, 'e, 'a, A: Allocator + Copy, W: Write, E: Write> Call<'o, 'e, 'a, A, W,
                 "files: {read}\nfiles with findings: {with_findings}\nfindings: {findings}\nfiles with an error: {errors}"
             )?;
         }
-        let job = self.job;
-        if job.rewrites() {
+        if self.job.rewrites() {
             push_rule_counts(&mut text, is_json, &self.tally.rules)?;
         }
         if is_json {
