@@ -90,10 +90,11 @@ fn push_marked<A: Allocator>(
         let start = out.len();
         last = push_char(out, Escapes::Line, last, c)?;
         let len = out.len().saturating_sub(start);
+        let is_unchanged = len == c.len_utf8();
         if c == '\t' {
             marks.push(if mark == ' ' { '\t' } else { mark })?;
         } else {
-            let width = if len == c.len_utf8() { width_of(c) } else { len };
+            let width = if is_unchanged { width_of(c) } else { len };
             for _ in 0..width {
                 marks.push(mark)?;
             }

@@ -382,8 +382,8 @@ fn report_token<'t, A: Allocator + Copy, W: Write>(
         if !matches!(token.form, SourceForm::Stray) {
             return Ok(true);
         }
-        let (lo, hi) = (token.lo, token.hi);
-        return report_lex_error(page, job, LexKind::StrayCharacter, Place { lo, hi }, token.text);
+        let (kind, lo, hi) = (LexKind::StrayCharacter, token.lo, token.hi);
+        return report_lex_error(page, job, kind, Place { lo, hi }, token.text);
     }
     report_literal(page, follower, job, token)
 }

@@ -63,7 +63,7 @@ impl<'p, 'a, A: Allocator + Copy, W: Write> Page<'p, 'a, A, W> {
             path: if path == "-" { None } else { Some(path) },
             head: String::new(alloc),
             position,
-            context: job.around.map(|around| Context::new(source, position.at, around)),
+            context: job.around.map(|it| Context::new(source, position.at, it)),
         }
     }
 
@@ -200,7 +200,8 @@ impl<'p, 'a, A: Allocator + Copy, W: Write> Page<'p, 'a, A, W> {
         let start = self.position.moved(self.source, place.lo);
         let end = start.moved(self.source, place.hi);
         self.position = start;
-        let lead = if matches!(finding, Finding::Literal(_)) { "::notice " } else { "::error " };
+        let is_notice = matches!(finding, Finding::Literal(_));
+        let lead = if is_notice { "::notice " } else { "::error " };
         self.output.text.push_str(lead)?;
         self.output.text.push_str(self.head.as_str())?;
         for (name, number) in [

@@ -132,8 +132,8 @@ fn is_word_of_letters(word: &str) -> bool {
 impl<'a, A: Allocator + Copy> Args<'a, A> {
     /// Returns the last passed option of these.
     fn last_of(&self, names: &[&str]) -> Option<Given<'a>> {
-        let given = self.given.as_slice();
-        given.iter().rev().find(|given| is_among(names, given.name)).copied()
+        let mut last_first = self.given.as_slice().iter().rev();
+        last_first.find(|it| is_among(names, it.name)).copied()
     }
 
     /// Returns the last value of an option.
