@@ -1,5 +1,6 @@
 //! Writes characters, texts and numbers into the output: with escapes for invisible characters, for JSON, and for annotations.
 
+use crate::failure::Appended;
 use rl_files::is_control_invisible_or_bidi;
 use rl_program::need_no_escapes;
 use std::alloc::{AllocError, Allocator};
@@ -54,7 +55,7 @@ pub(crate) enum Escapes {
 }
 
 /// Appends the escape of a character in a JSON string, as one or two code units of UTF-16.
-fn push_json_number<A: Allocator>(out: &mut String<A>, c: char) -> Result<(), AllocError> {
+fn push_json_number<A: Allocator>(out: &mut String<A>, c: char) -> Appended {
     let code = c as u32;
     if code < 0x1_0000 {
         return write!(out, "\\u{code:04x}");
@@ -65,11 +66,7 @@ fn push_json_number<A: Allocator>(out: &mut String<A>, c: char) -> Result<(), Al
 }
 
 /// Appends a character as an escape.
-fn push_hidden<A: Allocator>(
-    out: &mut String<A>,
-    escapes: Escapes,
-    c: char,
-) -> Result<(), AllocError> {
+fn push_hidden<A: Allocator>(out: &mut String<A>, escapes: Escapes, c: char) -> Appended {
     let code = c as u32;
     match (escapes, c) {
         (Escapes::Line, '\t') => out.push(c),
@@ -124,14 +121,12 @@ pub(crate) fn push_text<A: Allocator>(
     escapes: Escapes,
     before: Before,
     text: &str,
-) -> Result<(), AllocError> {
-    let needs_none = match escapes {
-        Escapes::Json => need_no_escapes(text.as_bytes()),
-        _ => match before {
-            Before::Annotation => false,
-            Before::Space => is_plain(text) && !text.contains("::"),
-            _ => is_plain(text),
-        },
+) -> Appended {
+    let needs_none = match (escapes, before) {
+        (Escapes::Json, _) => need_no_escapes(text.as_bytes()),
+        (_, Before::Annotation) => false,
+        (_, Before::Space) => is_plain(text) && !text.contains("::"),
+        _ => is_plain(text),
     };
     if needs_none {
         return out.push_str(text);
@@ -143,10 +138,7 @@ pub(crate) fn push_text<A: Allocator>(
     Ok(())
 }
 
-pub(crate) fn push_number<A: Allocator>(
-    out: &mut String<A>,
-    number: usize,
-) -> Result<(), AllocError> {
+pub(crate) fn push_number<A: Allocator>(out: &mut String<A>, number: usize) -> Appended {
     let mut digits = [b'0'; 20];
     let mut left = number;
     let mut start = digits.len();
@@ -167,10 +159,7 @@ pub(crate) fn push_number<A: Allocator>(
 }
 
 /// Appends a path as the value of a property of an annotation.
-pub(crate) fn push_property<A: Allocator>(
-    out: &mut String<A>,
-    path: &str,
-) -> Result<(), AllocError> {
+pub(crate) fn push_property<A: Allocator>(out: &mut String<A>, path: &str) -> Appended {
     for c in path.chars() {
         match c {
             ':' => out.push_str("%3A")?,

@@ -3,13 +3,14 @@
 
 use crate::rattle_std::prelude::{String, Vec, format};
 use crate::rl_scan::checks::{check_command_line, check_value};
-use crate::rl_scan::failure::Failure;
+use crate::rl_scan::failure::{Done, Failure};
 use crate::rl_scan::modes::{Mode, SELECTING};
 use crate::rl_scan::options::{OPTIONS, OptionRow, row_lettered, row_named};
-use crate::rl_scan::style::{is_near, option_part};
-use crate::rl_files::{push_visible, visible_text};
+use crate::rl_scan::style::is_near;
+use crate::rl_files::visible_text;
 use crate::rattle_std::alloc::{AllocError, Allocator, Global};
 
+/// Groups of options, of which the last passed option counts.
 const RIVALS: [&[&str]; 4] = [
     &["--count", "--files-with-matches", "--quiet"],
     &["--lines", "--bytes"],
@@ -17,23 +18,33 @@ const RIVALS: [&[&str]; 4] = [
     &["--help", "--version", "--rules", "--generate", "--files"],
 ];
 
+/// The options that select the format of findings.
 const FORMS: [&str; 2] = ["--json", "--format"];
 
+/// The end of the message about a word that resembles no option.
+const ALL_OPTIONS: &str = "rl_scan --help lists all options";
+
+/// A passed option and its value, which is empty if the option has none.
 #[derive(Clone, Copy)]
 pub(crate) struct Given<'a> {
     pub name: &'static str,
     pub value: &'a str,
 }
 
+/// The options and paths of a command line.
 pub(crate) struct Args<'a, A: Allocator = Global> {
     pub given: Vec<Given<'a>, A>,
     pub paths: Vec<&'a str, A>,
 }
 
+/// The meaning of the next argument.
 #[derive(Clone, Copy)]
 enum Next {
+    /// An option or a path.
     Word,
+    /// The value of this option.
     Value(OptionRow),
+    /// A path, as all later arguments.
     Path,
 }
 
@@ -41,64 +52,63 @@ pub(crate) fn is_among(words: &[&str], word: &str) -> bool {
     words.contains(&word)
 }
 
+/// Returns the text without the NUL that marks it as a path that isn't UTF-8.
 pub(crate) fn without_mark(text: &str) -> &str {
     text.strip_suffix('\0').unwrap_or(text)
 }
 
+/// Returns the option that a word resembles. Names that are at most one byte longer come first.
 fn near_option(word: &str) -> Option<&'static str> {
-    let part = option_part(word);
+    let (part, _) = word.split_once('=').unwrap_or((word, ""));
     let mut near: Option<&'static str> = None;
     for row in &OPTIONS {
         if row.name != "--" && is_near(part, row.name) {
             if row.name.len().saturating_sub(1) <= part.len() {
                 return Some(row.name);
             }
-            if near.is_none() {
-                near = Some(row.name);
-            }
+            near = near.or(Some(row.name));
         }
     }
     near
 }
 
+/// Returns the end of the message about an unknown option.
 fn meant<A: Allocator + Copy>(alloc: A, word: &str) -> Result<String<A>, AllocError> {
     match near_option(word) {
         Some(name) => format!(in alloc; "did you mean '{name}'?"),
-        None => String::from_str(alloc, "rl_scan --help lists all options"),
+        None => String::from_str(alloc, ALL_OPTIONS),
     }
 }
 
+/// Returns the error for a letter that isn't a short option, in a word of short options.
 fn unknown_letter<A: Allocator + Copy>(
     alloc: A,
     word: &str,
     letter: char,
 ) -> Result<Failure<A>, AllocError> {
-    let mut line = String::from_str(alloc, "unknown option '-")?;
-    let shown = format!(in alloc; "{letter}")?;
-    push_visible(&mut line, shown.as_str())?;
-    line.push_str("'")?;
-    if word.len() > 1usize.saturating_add(letter.len_utf8()) {
-        line.push_str(" in '")?;
-        push_visible(&mut line, word)?;
-        line.push_str("'")?;
-    }
-    line.push_str(": ")?;
-    if word.len() > 2 {
-        let doubled = format!(in alloc; "-{word}")?;
-        line.push_str(meant(alloc, doubled.as_str())?.as_str())?;
+    let hint = if word.len() > 2 {
+        meant(alloc, format!(in alloc; "-{word}")?.as_str())?
     } else {
-        line.push_str("rl_scan --help lists all options")?;
+        String::from_str(alloc, ALL_OPTIONS)?
+    };
+    let text = format!(in alloc; "{letter}")?;
+    let shown = visible_text(alloc, text.as_str())?;
+    if word.len() == text.len().saturating_add(1) {
+        return Ok(Failure::Said(format!(in alloc; "unknown option '-{shown}': {hint}")?));
     }
-    Ok(Failure::Said(line))
+    let inside = visible_text(alloc, word)?;
+    Ok(Failure::Said(format!(in alloc; "unknown option '-{shown}' in '{inside}': {hint}")?))
 }
 
+/// Returns the error for a word that begins with a minus and isn't an option.
 fn unknown_word<A: Allocator + Copy>(alloc: A, word: &str) -> Result<Failure<A>, AllocError> {
     let shown = visible_text(alloc, word)?;
     let hint = meant(alloc, word)?;
     Ok(Failure::Said(format!(in alloc; "unknown option '{shown}': {hint}")?))
 }
 
-fn check_text<A: Allocator + Copy>(alloc: A, word: &str) -> Result<(), Failure<A>> {
+/// Checks that an argument which isn't a path is UTF-8.
+fn check_text<A: Allocator + Copy>(alloc: A, word: &str) -> Done<A> {
     if word.ends_with('\0') {
         let shown = visible_text(alloc, without_mark(word))?;
         return Err(Failure::Said(format!(in alloc;
@@ -108,32 +118,25 @@ fn check_text<A: Allocator + Copy>(alloc: A, word: &str) -> Result<(), Failure<A
     Ok(())
 }
 
+/// Whether a word that begins with a minus consists of short options.
 fn is_word_of_letters(word: &str) -> bool {
     if !word.starts_with("--") && !word.contains('=') {
         return true;
     }
-    let mut letters = word.chars();
-    let _minus = letters.next();
-    match letters.next() {
-        Some(letter) => match row_lettered(letter) {
-            Some(row) => row.has_value(),
-            None => false,
-        },
-        None => false,
-    }
+    let Some(letter) = word.get(1..).unwrap_or("").chars().next() else {
+        return false;
+    };
+    row_lettered(letter).is_some_and(|row| row.has_value())
 }
 
 impl<'a, A: Allocator + Copy> Args<'a, A> {
+    /// Returns the last passed option of these.
     fn last_of(&self, names: &[&str]) -> Option<Given<'a>> {
-        let mut found = None;
-        for given in self.given.as_slice() {
-            if is_among(names, given.name) {
-                found = Some(*given);
-            }
-        }
-        found
+        let mut last_first = self.given.as_slice().iter().rev();
+        last_first.find(|it| is_among(names, it.name)).copied()
     }
 
+    /// Returns the last value of an option.
     pub(crate) fn last(&self, name: &str) -> Option<&'a str> {
         Some(self.last_of(&[name])?.value)
     }
@@ -142,18 +145,17 @@ impl<'a, A: Allocator + Copy> Args<'a, A> {
         self.last_of(names).is_some()
     }
 
+    /// Whether the option was passed, and no later option overrides it.
     pub(crate) fn has(&self, name: &str) -> bool {
         for rivals in &RIVALS {
             if is_among(rivals, name) {
-                return match self.last_of(rivals) {
-                    Some(given) => given.name == name,
-                    None => false,
-                };
+                return self.last_of(rivals).is_some_and(|given| given.name == name);
             }
         }
         self.has_any(&[name])
     }
 
+    /// Returns all values of an option.
     pub(crate) fn all(&self, alloc: A, name: &str) -> Result<Vec<&'a str, A>, AllocError> {
         let mut values = Vec::new(alloc);
         for given in self.given.as_slice() {
@@ -164,6 +166,7 @@ impl<'a, A: Allocator + Copy> Args<'a, A> {
         Ok(values)
     }
 
+    /// Returns the format of findings, as `--format` names it.
     pub(crate) fn form(&self) -> &'a str {
         match self.last_of(&FORMS) {
             Some(given) if given.name == "--json" => "json",
@@ -173,14 +176,11 @@ impl<'a, A: Allocator + Copy> Args<'a, A> {
     }
 
     pub(crate) fn mode(&self) -> Mode {
-        for row in &SELECTING {
-            if self.has(row.0) {
-                return row.1;
-            }
-        }
-        Mode::List
+        let row = SELECTING.iter().find(|row| self.has(row.0));
+        row.map(|row| row.1).unwrap_or(Mode::List)
     }
 
+    /// Returns the error if an option contradicts earlier ones.
     fn conflict(&self, name: &str) -> Option<&'static str> {
         let exclusive = ["--bad", "--invisible", "--only"];
         let rewriting = ["--fix", "--check", "--diff"];
@@ -198,7 +198,8 @@ impl<'a, A: Allocator + Copy> Args<'a, A> {
         None
     }
 
-    fn add(&mut self, alloc: A, row: &OptionRow, value: &'a str) -> Result<(), Failure<A>> {
+    /// Adds an option, unless it contradicts earlier ones or doesn't accept the value.
+    fn add(&mut self, alloc: A, row: &OptionRow, value: &'a str) -> Done<A> {
         if let Some(words) = self.conflict(row.name) {
             return Err(Failure::said(alloc, words));
         }
@@ -208,6 +209,7 @@ impl<'a, A: Allocator + Copy> Args<'a, A> {
         Ok(())
     }
 
+    /// Adds the options of a word of letters.
     fn add_letters(&mut self, alloc: A, word: &'a str) -> Result<Next, Failure<A>> {
         let mut letters = word.get(1..).unwrap_or("").chars();
         while let Some(letter) = letters.next() {
@@ -227,6 +229,7 @@ impl<'a, A: Allocator + Copy> Args<'a, A> {
         Ok(Next::Word)
     }
 
+    /// Adds a word that begins with a minus.
     fn add_option(&mut self, alloc: A, word: &'a str) -> Result<Next, Failure<A>> {
         check_text(alloc, word)?;
         if word == "--" {
@@ -254,6 +257,11 @@ impl<'a, A: Allocator + Copy> Args<'a, A> {
         Err(unknown_word(alloc, word)?)
     }
 
+    /// Parses the arguments after the program's name, and checks them.
+    ///
+    /// # Errors
+    ///
+    /// Returns an error if an argument is invalid, if the arguments contradict each other, or if an allocation fails.
     pub(crate) fn parse(alloc: A, words: &'a [String<A>]) -> Result<Args<'a, A>, Failure<A>> {
         let mut args = Args {
             given: Vec::new(alloc),

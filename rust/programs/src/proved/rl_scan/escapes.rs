@@ -2,21 +2,30 @@
 //! Writes characters, texts and numbers into the output: with escapes for invisible characters, for JSON, and for annotations.
 
 use crate::rattle_std::prelude::{String};
+use crate::rl_scan::failure::Appended;
 use crate::rl_files::is_control_invisible_or_bidi;
 use crate::rl_program::need_no_escapes;
 use crate::rattle_std::alloc::{AllocError, Allocator};
 
+/// The characters before a character in a line of text. A runner of GitHub takes a line for a command if the line contains `##[`,
+/// or if it begins with `::` after white space. So the last character of `##[` and of such a `::` is printed as an escape.
 #[derive(Clone, Copy)]
 pub(crate) enum Before {
+    /// Only white space.
     Space,
+    /// White space and a colon.
     Colon,
+    /// A `#`.
     Hash,
+    /// Two `#`.
     Hashes,
     Other,
+    /// The start of an annotation, which is a command as it is. A `%` is escaped in it.
     Annotation,
 }
 
 impl Before {
+    /// Returns the description after one more character.
     fn after(self, c: char) -> Before {
         match (self, c) {
             (Before::Annotation, _) => self,
@@ -28,20 +37,27 @@ impl Before {
         }
     }
 
+    /// Whether the character completes the start of a command.
     fn completes_command(self, c: char) -> bool {
         matches!((self, c), (Before::Colon, ':') | (Before::Hashes, '['))
     }
 }
 
+/// How the output shows characters that it doesn't show unchanged.
 #[derive(Clone, Copy)]
 pub(crate) enum Escapes {
+    /// As a literal does: `\n`, `\u{202e}`.
     Literal,
+    /// As a literal does, except that a tab is unchanged.
     Line,
+    /// As numbers: `<U+202E>`. LF, CR and tab are shown as `\n`, `\r` and `\t`.
     Numbers,
+    /// As a string of JSON does.
     Json,
 }
 
-fn push_json_number<A: Allocator>(out: &mut String<A>, c: char) -> Result<(), AllocError> {
+/// Appends the escape of a character in a JSON string, as one or two code units of UTF-16.
+fn push_json_number<A: Allocator>(out: &mut String<A>, c: char) -> Appended {
     let code = c as u32;
     if code < 0x1_0000 {
         return write!(out, "\\u{code:04x}");
@@ -51,11 +67,8 @@ fn push_json_number<A: Allocator>(out: &mut String<A>, c: char) -> Result<(), Al
     write!(out, "\\u{high:04x}\\u{low:04x}")
 }
 
-fn push_hidden<A: Allocator>(
-    out: &mut String<A>,
-    escapes: Escapes,
-    c: char,
-) -> Result<(), AllocError> {
+/// Appends a character as an escape.
+fn push_hidden<A: Allocator>(out: &mut String<A>, escapes: Escapes, c: char) -> Appended {
     let code = c as u32;
     match (escapes, c) {
         (Escapes::Line, '\t') => out.push(c),
@@ -68,6 +81,7 @@ fn push_hidden<A: Allocator>(
     }
 }
 
+/// Appends a character, or its escape. `before` describes the characters before it. Returns the description after it.
 pub(crate) fn push_char<A: Allocator>(
     out: &mut String<A>,
     escapes: Escapes,
@@ -92,6 +106,7 @@ pub(crate) fn push_char<A: Allocator>(
     Ok(before.after(c))
 }
 
+/// Whether a text has only printable ASCII characters, and no `##[`.
 fn is_plain(text: &str) -> bool {
     let mut is_odd = false;
     let mut has_bracket = false;
@@ -102,19 +117,18 @@ fn is_plain(text: &str) -> bool {
     !is_odd && !(has_bracket && text.contains("##["))
 }
 
+/// Appends a text with escapes. `before` describes the characters before it.
 pub(crate) fn push_text<A: Allocator>(
     out: &mut String<A>,
     escapes: Escapes,
     before: Before,
     text: &str,
-) -> Result<(), AllocError> {
-    let needs_none = match escapes {
-        Escapes::Json => need_no_escapes(text.as_bytes()),
-        _ => match before {
-            Before::Annotation => false,
-            Before::Space => is_plain(text) && !text.contains("::"),
-            _ => is_plain(text),
-        },
+) -> Appended {
+    let needs_none = match (escapes, before) {
+        (Escapes::Json, _) => need_no_escapes(text.as_bytes()),
+        (_, Before::Annotation) => false,
+        (_, Before::Space) => is_plain(text) && !text.contains("::"),
+        _ => is_plain(text),
     };
     if needs_none {
         return out.push_str(text);
@@ -126,10 +140,7 @@ pub(crate) fn push_text<A: Allocator>(
     Ok(())
 }
 
-pub(crate) fn push_number<A: Allocator>(
-    out: &mut String<A>,
-    number: usize,
-) -> Result<(), AllocError> {
+pub(crate) fn push_number<A: Allocator>(out: &mut String<A>, number: usize) -> Appended {
     let mut digits = [b'0'; 20];
     let mut left = number;
     let mut start = digits.len();
@@ -149,10 +160,8 @@ pub(crate) fn push_number<A: Allocator>(
     Ok(())
 }
 
-pub(crate) fn push_property<A: Allocator>(
-    out: &mut String<A>,
-    path: &str,
-) -> Result<(), AllocError> {
+/// Appends a path as the value of a property of an annotation.
+pub(crate) fn push_property<A: Allocator>(out: &mut String<A>, path: &str) -> Appended {
     for c in path.chars() {
         match c {
             ':' => out.push_str("%3A")?,

@@ -1,22 +1,22 @@
 // Rendered from crates/rl_scan/src/job.rt by tools/render, which erases contracts: change that file, and render again.
 //! The work of a call of `rl_scan` on each file.
 
-use crate::rattle_std::prelude::{String, Vec};
+use crate::rattle_std::prelude::{String};
 use crate::rl_scan::args::{Args, is_among};
 use crate::rl_scan::checks::number_in;
 use crate::rl_scan::context::Around;
+use crate::rl_scan::failure::Appended;
 use crate::rl_scan::finding::Finding;
 use crate::rl_scan::ids::character_of;
-use crate::rl_scan::literal::integers_of;
 use crate::rl_scan::modes::{Mode, REWRITING};
 use crate::rl_scan::position::Position;
-use crate::rl_scan::style::kinds_of;
 use crate::rl_flaws::Edition;
 use crate::rl_restyle::{Choice, Macros};
 use crate::rl_style::Style;
 use crate::rl_syntax::Kind;
-use crate::rattle_std::alloc::{AllocError, Allocator};
+use crate::rattle_std::alloc::Allocator;
 
+/// The format of findings.
 #[derive(Clone, Copy)]
 pub(crate) enum Form {
     Text,
@@ -24,60 +24,45 @@ pub(crate) enum Form {
     Github,
 }
 
+/// The values of options that may be repeated.
 #[derive(Clone, Copy)]
 pub(crate) struct Lists<'a> {
+    /// The texts to search for.
     pub finds: &'a [&'a str],
+    /// The integers to search for.
     pub numbers: &'a [u128],
+    /// The identifiers of findings that don't count.
     pub allowed: &'a [&'a str],
+    /// The kinds of the literals that count, or none if all count. `None` is a literal without a value.
     pub kinds: &'a [Option<Kind>],
 }
 
-pub(crate) struct Values<'a, A: Allocator> {
-    finds: Vec<&'a str, A>,
-    numbers: Vec<u128, A>,
-    allowed: Vec<&'a str, A>,
-    kinds: Vec<Option<Kind>, A>,
-}
-
-impl<'a, A: Allocator + Copy> Values<'a, A> {
-    pub(crate) fn of(alloc: A, args: &Args<'a, A>) -> Result<Values<'a, A>, AllocError> {
-        let numbers = args.all(alloc, "--number")?;
-        Ok(Values {
-            finds: args.all(alloc, "--find")?,
-            numbers: integers_of(alloc, numbers.as_slice())?,
-            allowed: args.all(alloc, "--allow")?,
-            kinds: kinds_of(alloc, args.last("--only").unwrap_or(""))?,
-        })
-    }
-
-    pub(crate) fn lists(&self) -> Lists<'_> {
-        Lists {
-            finds: self.finds.as_slice(),
-            numbers: self.numbers.as_slice(),
-            allowed: self.allowed.as_slice(),
-            kinds: self.kinds.as_slice(),
-        }
-    }
-}
-
+/// The work of a call of `rl_scan` on each file.
 #[derive(Clone, Copy)]
 pub(crate) struct Job<'a> {
     pub mode: Mode,
     pub lists: Lists<'a>,
-    pub has_kinds: bool,
+    /// Whether any suffix and any value is accepted.
     pub any_suffix: bool,
+    /// Whether stray characters are errors.
     pub strays: bool,
+    /// Whether any suffix and any value is accepted in macro calls.
     pub follows: bool,
     pub edition: Edition,
+    /// Whether a search ignores the case of ASCII letters.
     pub ignores_case: bool,
     pub whole_words: bool,
+    /// Whether literals are printed as written.
     pub as_written: bool,
     pub form: Form,
     pub color: bool,
+    /// The numbers of lines around each finding, if its line is printed.
     pub around: Option<Around>,
     pub lines: bool,
     pub bytes: bool,
+    /// Whether columns are counted in bytes.
     pub byte_columns: bool,
+    /// Whether findings are printed.
     pub shows: bool,
     pub quiet: bool,
     pub counts: bool,
@@ -86,6 +71,7 @@ pub(crate) struct Job<'a> {
     pub lists_files: bool,
     pub messages: bool,
     pub stats: bool,
+    /// Whether a text may have been passed as a path.
     pub may_be_text: bool,
     pub style: Style,
     pub macros: Macros,
@@ -100,17 +86,16 @@ fn edition_of(year: Option<&str>) -> Edition {
     }
 }
 
-fn lines_of(value: Option<&str>, other: Option<usize>) -> Option<usize> {
-    match value {
-        Some(value) => number_in(value),
-        None => other,
-    }
+/// Returns the number of lines that an option requests.
+fn lines_of<A: Allocator + Copy>(args: &Args<'_, A>, name: &str) -> Option<usize> {
+    number_in(args.last(name)?)
 }
 
+/// Returns the numbers of lines around findings that a call requests.
 fn around_of<A: Allocator + Copy>(args: &Args<'_, A>) -> Option<Around> {
-    let both = lines_of(args.last("--context"), None);
-    let before = lines_of(args.last("--before-context"), both);
-    let after = lines_of(args.last("--after-context"), both);
+    let both = lines_of(args, "--context");
+    let before = lines_of(args, "--before-context").or(both);
+    let after = lines_of(args, "--after-context").or(both);
     if before.is_none() && after.is_none() {
         return None;
     }
@@ -119,6 +104,7 @@ fn around_of<A: Allocator + Copy>(args: &Args<'_, A>) -> Option<Around> {
 }
 
 impl<'a> Job<'a> {
+    /// Reads the options of a call.
     pub(crate) fn of<A: Allocator + Copy>(
         args: &Args<'_, A>,
         lists: Lists<'a>,
@@ -128,14 +114,12 @@ impl<'a> Job<'a> {
         let mode = args.mode();
         let all = args.last("--macros") == Some("all");
         let macros = if all { Macros::All } else { Macros::Skip };
-        let any_suffix = args.has("--any-suffix");
         let (quiet, counts) = (args.has("--quiet"), args.has("--count"));
         let names = args.has("--files-with-matches");
         Job {
             mode,
             lists,
-            has_kinds: args.has("--only"),
-            any_suffix,
+            any_suffix: args.has("--any-suffix"),
             strays: args.has("--no-stray"),
             follows: mode == Mode::Bad && !all,
             edition: edition_of(args.last("--edition")),
@@ -170,22 +154,24 @@ impl<'a> Job<'a> {
         }
     }
 
+    /// Whether literals are rewritten.
     pub(crate) fn rewrites(&self) -> bool {
         self.mode.is_among(REWRITING)
     }
 
+    /// Returns the choice of the literals that are rewritten.
     pub(crate) fn choice(&self) -> Choice<'a> {
-        let kinds = self.lists.kinds;
-        Choice {
-            macros: self.macros,
-            kinds: if self.has_kinds { Some(kinds) } else { None },
-        }
+        let (macros, kinds) = (self.macros, self.lists.kinds);
+        let kinds = if kinds.is_empty() { None } else { Some(kinds) };
+        Choice { macros, kinds }
     }
 
+    /// Whether the positions in a file, or else in standard input, are lines and columns.
     pub(crate) fn shows_lines(&self, is_file: bool) -> bool {
         !self.bytes && (self.lines || is_file)
     }
 
+    /// Returns the column of a position, in characters or in bytes.
     pub(crate) fn column(&self, position: Position) -> usize {
         if self.byte_columns {
             position.byte_column()
@@ -194,11 +180,8 @@ impl<'a> Job<'a> {
         }
     }
 
-    pub(crate) fn push_color<A: Allocator>(
-        &self,
-        out: &mut String<A>,
-        code: &str,
-    ) -> Result<(), AllocError> {
+    /// Appends the code of a colour, if the output has colours.
+    pub(crate) fn push_color<A: Allocator>(&self, out: &mut String<A>, code: &str) -> Appended {
         if self.color {
             out.push_str(code)
         } else {
@@ -206,6 +189,12 @@ impl<'a> Job<'a> {
         }
     }
 
+    /// Whether errors with an identifier don't count.
+    pub(crate) fn allows_error(&self, id: &str) -> bool {
+        is_among(self.lists.allowed, id)
+    }
+
+    /// Whether a finding doesn't count.
     pub(crate) fn allows(&self, finding: &Finding<'_>) -> bool {
         let allowed = self.lists.allowed;
         if allowed.is_empty() {
@@ -215,30 +204,40 @@ impl<'a> Job<'a> {
             return true;
         }
         match finding {
-            Finding::Hidden { c, .. } => allowed.iter().any(|id| character_of(id) == Some(*c)),
+            Finding::Hidden(c) => allowed.iter().any(|id| character_of(id) == Some(*c)),
             _ => false,
         }
     }
 
+    /// Whether literals of a kind count.
     pub(crate) fn wants(&self, kind: Option<Kind>) -> bool {
-        !self.has_kinds || self.lists.kinds.iter().any(|wanted| *wanted == kind)
+        let kinds = self.lists.kinds;
+        kinds.is_empty() || kinds.iter().any(|wanted| *wanted == kind)
     }
 
+    /// Returns the job for errors of a file, which are lines of text. The types of literals aren't checked, but stray characters
+    /// are errors.
     pub(crate) fn for_errors(&self) -> Job<'a> {
         let mut job = *self;
         job.form = Form::Text;
         job.color = false;
         job.around = None;
         job.shows = self.messages;
+        job.any_suffix = true;
+        job.strays = true;
         job
     }
 
-    pub(crate) fn status(&self, findings: u64) -> u8 {
-        let fails = match self.mode {
-            Mode::Bad | Mode::Invisible | Mode::Check | Mode::Diff => findings > 0,
-            Mode::Find => findings == 0,
-            _ => false,
-        };
-        if fails && !self.lists_files { 1 } else { 0 }
+    /// Returns the exit status of a run without errors. `are_accepted` tells whether `--bad` accepts all literals.
+    pub(crate) fn status(&self, findings: u64, are_accepted: bool) -> u8 {
+        if self.lists_files {
+            return 0;
+        }
+        match self.mode {
+            Mode::Bad => if findings == 0 && are_accepted { 0 } else { 1 },
+            Mode::Invisible | Mode::Check | Mode::Diff => if findings == 0 { 0 } else { 1 },
+            Mode::Find => if findings == 0 { 1 } else { 0 },
+            _ => 0,
+        }
     }
 }

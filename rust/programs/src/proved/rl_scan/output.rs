@@ -3,13 +3,15 @@
 
 use crate::rattle_std::prelude::{String};
 use crate::rl_scan::escapes::{Before, Escapes, push_char, push_number, push_text};
-use crate::rl_scan::failure::Failure;
+use crate::rl_scan::failure::Done;
 use crate::rl_program::write_bytes;
 use crate::rattle_std::alloc::Allocator;
 use crate::rattle_std::io::Write;
 
+/// The length, in bytes, of output that is written at once.
 const FULL: usize = 65_536;
 
+/// A stream, and the output that isn't written to it yet.
 pub(crate) struct Output<'p, A: Allocator, W> {
     stream: &'p mut W,
     pub text: String<A>,
@@ -23,25 +25,23 @@ impl<'p, A: Allocator + Copy, W: Write> Output<'p, A, W> {
         }
     }
 
-    pub(crate) fn send(&mut self) -> Result<(), Failure<A>> {
+    /// Writes the output.
+    pub(crate) fn send(&mut self) -> Done<A> {
         write_bytes(self.stream, self.text.as_bytes())?;
         self.text.clear();
         Ok(())
     }
 
-    pub(crate) fn send_if_full(&mut self) -> Result<(), Failure<A>> {
+    /// Writes the output if there is enough of it.
+    pub(crate) fn send_if_full(&mut self) -> Done<A> {
         if self.text.len() < FULL {
             return Ok(());
         }
         self.send()
     }
 
-    pub(crate) fn print(
-        &mut self,
-        escapes: Escapes,
-        before: Before,
-        text: &str,
-    ) -> Result<(), Failure<A>> {
+    /// Prints a text with escapes. `before` describes the characters before it.
+    pub(crate) fn print(&mut self, escapes: Escapes, before: Before, text: &str) -> Done<A> {
         if text.len() < FULL {
             push_text(&mut self.text, escapes, before, text)?;
             return Ok(());
@@ -54,7 +54,8 @@ impl<'p, A: Allocator + Copy, W: Write> Output<'p, A, W> {
         Ok(())
     }
 
-    pub(crate) fn print_json(&mut self, name: &str, text: &str) -> Result<(), Failure<A>> {
+    /// Prints a text as a JSON string. `name` precedes it.
+    pub(crate) fn print_json(&mut self, name: &str, text: &str) -> Done<A> {
         self.text.push_str(name)?;
         self.text.push('"')?;
         self.print(Escapes::Json, Before::Other, text)?;
@@ -62,7 +63,8 @@ impl<'p, A: Allocator + Copy, W: Write> Output<'p, A, W> {
         Ok(())
     }
 
-    pub(crate) fn print_array(&mut self, bytes: &[u8]) -> Result<(), Failure<A>> {
+    /// Prints bytes as a JSON array.
+    pub(crate) fn print_array(&mut self, bytes: &[u8]) -> Done<A> {
         let mut is_first = true;
         self.text.push('[')?;
         for byte in bytes {

@@ -4,27 +4,35 @@
 use crate::rattle_std::prelude::{String};
 use crate::rl_scan::context::Context;
 use crate::rl_scan::escapes::{Before, Escapes, push_number, push_property, push_text};
-use crate::rl_scan::failure::Failure;
+use crate::rl_scan::failure::{Appended, Done};
 use crate::rl_scan::finding::{Finding, Place};
 use crate::rl_scan::job::{Form, Job};
 use crate::rl_scan::output::Output;
 use crate::rl_scan::position::Position;
-use crate::rattle_std::alloc::{AllocError, Allocator};
+use crate::rattle_std::alloc::Allocator;
 use crate::rattle_std::io::Write;
 
+/// The findings of a source: their number, and their output.
 pub(crate) struct Page<'p, 'a, A: Allocator, W> {
     pub alloc: A,
     pub job: &'p Job<'a>,
     pub source: &'p str,
+    /// The number of findings.
     pub count: u64,
     pub output: Output<'p, A, W>,
+    /// A buffer for a line.
     pub line: String<A>,
+    /// The path of the source, or `None` for standard input.
     path: Option<&'p str>,
+    /// The start of each finding's output, which has the path. It is empty before the first finding.
     head: String<A>,
+    /// The position of the last finding.
     position: Position,
+    /// The lines around findings, if they are printed.
     context: Option<Context<'p>>,
 }
 
+/// Returns a path without `./` at its start. A path such as `.//a` stays, since the rest of it would be absolute.
 pub(crate) fn without_dot_slash(path: &str) -> &str {
     match path.strip_prefix("./") {
         Some(rest) => if rest.starts_with('/') { path } else { rest },
@@ -33,6 +41,7 @@ pub(crate) fn without_dot_slash(path: &str) -> &str {
 }
 
 impl<'p, 'a, A: Allocator + Copy, W: Write> Page<'p, 'a, A, W> {
+    /// Creates the page of a source. The path `-` is standard input.
     pub(crate) fn new(
         alloc: A,
         job: &'p Job<'a>,
@@ -51,18 +60,12 @@ impl<'p, 'a, A: Allocator + Copy, W: Write> Page<'p, 'a, A, W> {
             path: if path == "-" { None } else { Some(path) },
             head: String::new(alloc),
             position,
-            context: match job.around {
-                Some(around) => Some(Context::new(source, position.at, around)),
-                None => None,
-            },
+            context: job.around.map(|it| Context::new(source, position.at, it)),
         }
     }
 
-    pub(crate) fn report_finding(
-        &mut self,
-        place: Place,
-        finding: Finding<'_>,
-    ) -> Result<(), Failure<A>> {
+    /// Counts a finding and prints it, unless it is allowed.
+    pub(crate) fn report_finding(&mut self, place: Place, finding: Finding<'_>) -> Done<A> {
         if self.job.allows(&finding) {
             return Ok(());
         }
@@ -81,13 +84,15 @@ impl<'p, 'a, A: Allocator + Copy, W: Write> Page<'p, 'a, A, W> {
         self.output.send_if_full()
     }
 
-    pub(crate) fn close(&mut self) -> Result<(), Failure<A>> {
+    /// Writes the output that isn't written yet. It must be called after the last finding.
+    pub(crate) fn close(&mut self) -> Done<A> {
         if let Some(context) = &mut self.context {
-            context.print_end(&mut self.output)?;
+            context.print_owed(&mut self.output, self.source.len())?;
         }
         self.output.send()
     }
 
+    /// Returns the description of the characters before the words of a finding.
     pub(crate) fn within(&self) -> Before {
         match self.job.form {
             Form::Github => Before::Annotation,
@@ -95,7 +100,8 @@ impl<'p, 'a, A: Allocator + Copy, W: Write> Page<'p, 'a, A, W> {
         }
     }
 
-    fn push_head(&mut self) -> Result<(), AllocError> {
+    /// Makes the start of each finding's output.
+    fn push_head(&mut self) -> Appended {
         let Some(path) = self.path else {
             return Ok(());
         };
@@ -119,7 +125,8 @@ impl<'p, 'a, A: Allocator + Copy, W: Write> Page<'p, 'a, A, W> {
         }
     }
 
-    fn push_text_start(&mut self, place: Place) -> Result<(), AllocError> {
+    /// Appends the path and the position of a finding as the start of a line of text.
+    fn push_text_start(&mut self, place: Place) -> Appended {
         let out = &mut self.output.text;
         out.push_str(self.head.as_str())?;
         self.job.push_color(out, "\x1b[32m")?;
@@ -136,7 +143,8 @@ impl<'p, 'a, A: Allocator + Copy, W: Write> Page<'p, 'a, A, W> {
         out.push_str(if self.path.is_some() { ": " } else { " " })
     }
 
-    fn print_text(&mut self, place: Place, finding: &Finding<'_>) -> Result<(), Failure<A>> {
+    /// Prints a finding as a line of text, with the source's lines around it.
+    fn print_text(&mut self, place: Place, finding: &Finding<'_>) -> Done<A> {
         if self.context.is_some() || self.job.shows_lines(self.path.is_some()) {
             self.position = self.position.moved(self.source, place.lo);
         }
@@ -159,7 +167,8 @@ impl<'p, 'a, A: Allocator + Copy, W: Write> Page<'p, 'a, A, W> {
         Ok(())
     }
 
-    fn print_object(&mut self, place: Place, finding: &Finding<'_>) -> Result<(), Failure<A>> {
+    /// Prints a finding as a JSON object.
+    fn print_object(&mut self, place: Place, finding: &Finding<'_>) -> Done<A> {
         let start = self.position.moved(self.source, place.lo);
         let end = start.moved(self.source, place.hi);
         self.position = start;
@@ -183,7 +192,8 @@ impl<'p, 'a, A: Allocator + Copy, W: Write> Page<'p, 'a, A, W> {
         Ok(())
     }
 
-    fn print_annotation(&mut self, place: Place, finding: &Finding<'_>) -> Result<(), Failure<A>> {
+    /// Prints a finding as an annotation.
+    fn print_annotation(&mut self, place: Place, finding: &Finding<'_>) -> Done<A> {
         let start = self.position.moved(self.source, place.lo);
         let end = start.moved(self.source, place.hi);
         self.position = start;

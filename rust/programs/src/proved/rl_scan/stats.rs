@@ -2,22 +2,26 @@
 //! The totals of a run.
 
 use crate::rattle_std::prelude::{String};
-use crate::rl_scan::failure::Failure;
+use crate::rl_scan::failure::{Appended, Done};
 use crate::rl_scan::job::Form;
 use crate::rl_scan::run::Call;
 use crate::rl_program::write_bytes;
 use crate::rl_restyle::{RULES, number_of, settable_rules};
-use crate::rattle_std::alloc::{AllocError, Allocator};
+use crate::rattle_std::alloc::Allocator;
 use crate::rattle_std::io::Write;
 
+/// The counts of a run.
 #[derive(Clone, Copy)]
 pub(crate) struct Tally {
+    /// The number of files that were found, also of those that couldn't be read.
     pub visited: u64,
     pub read: u64,
     pub with_findings: u64,
     pub findings: u64,
     pub errors: u64,
+    /// For each rule, the number of literals that it changes.
     pub rules: [u64; RULES],
+    /// Whether a rewritten source was printed.
     pub prints_source: bool,
 }
 
@@ -35,11 +39,12 @@ impl Tally {
     }
 }
 
+/// Appends the numbers of literals that each rule changes, as lines or as a member of a JSON object.
 fn push_rule_counts<A: Allocator>(
     text: &mut String<A>,
     is_json: bool,
     counts: &[u64; RULES],
-) -> Result<(), AllocError> {
+) -> Appended {
     let mut is_first = true;
     if is_json {
         text.push_str(",\"rules\":{")?;
@@ -59,7 +64,8 @@ fn push_rule_counts<A: Allocator>(
 }
 
 impl<'o, 'e, 'a, A: Allocator + Copy, W: Write, E: Write> Call<'o, 'e, 'a, A, W, E> {
-    pub(crate) fn print_totals(&mut self) -> Result<(), Failure<A>> {
+    /// Prints the totals: after a rewritten source on standard error, and otherwise on standard output.
+    pub(crate) fn print_totals(&mut self) -> Done<A> {
         let mut text = String::new(self.alloc);
         let (read, with_findings) = (self.tally.read, self.tally.with_findings);
         let (findings, errors) = (self.tally.findings, self.tally.errors);
@@ -75,8 +81,7 @@ impl<'o, 'e, 'a, A: Allocator + Copy, W: Write, E: Write> Call<'o, 'e, 'a, A, W,
                 "files: {read}\nfiles with findings: {with_findings}\nfindings: {findings}\nfiles with an error: {errors}"
             )?;
         }
-        let job = self.job;
-        if job.rewrites() {
+        if self.job.rewrites() {
             push_rule_counts(&mut text, is_json, &self.tally.rules)?;
         }
         if is_json {

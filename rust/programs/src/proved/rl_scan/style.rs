@@ -5,6 +5,7 @@ use crate::rattle_std::prelude::{String, Vec, format};
 use crate::rl_scan::args::Args;
 use crate::rl_scan::checks::list_contains;
 use crate::rl_scan::failure::Failure;
+use crate::rl_scan::position::Position;
 use crate::rl_files::{PathError, Tree, push_visible, visible_text};
 use crate::rl_lenient::parse_literal;
 use crate::rl_lexer::{Sources, without_byte_order_mark};
@@ -22,6 +23,7 @@ const KINDS: [Option<Kind>; 9] = [
     Some(Kind::Float), Some(Kind::Bool), None,
 ];
 
+/// Returns the kinds that a list names.
 pub(crate) fn kinds_of<A: Allocator>(
     alloc: A,
     list: &str,
@@ -35,6 +37,10 @@ pub(crate) fn kinds_of<A: Allocator>(
     Ok(kinds)
 }
 
+// ---- misspelled words
+
+/// Whether two words that begin with different bytes differ only by one typing error at their start: a byte too many, a byte too
+/// few, another byte, or two exchanged bytes.
 fn slips_here(said: &[u8], meant: &[u8]) -> bool {
     let less_said = said.get(1..).unwrap_or(said);
     let less_meant = meant.get(1..).unwrap_or(meant);
@@ -45,6 +51,7 @@ fn slips_here(said: &[u8], meant: &[u8]) -> bool {
     less_said == meant || said == less_meant || less_said == less_meant || is_swapped
 }
 
+/// Whether `word` is similar to `meant`: they differ at most by one typing error, or `word` is the start of `meant`.
 pub(crate) fn is_near(word: &str, meant: &str) -> bool {
     let (said, meant) = (word.as_bytes(), meant.as_bytes());
     for at in 0..said.len() {
@@ -57,11 +64,9 @@ pub(crate) fn is_near(word: &str, meant: &str) -> bool {
     true
 }
 
-pub(crate) fn option_part(word: &str) -> &str {
-    let (option, _) = word.split_once('=').unwrap_or((word, ""));
-    option
-}
+// ---- the rules of a style
 
+/// Whether a value of `--rule` is a string without quotes: it consists of ASCII letters and `_`, and isn't `true` or `false`.
 fn is_bare_string(value: &str) -> bool {
     let bytes = value.as_bytes();
     bytes.iter().all(|b| b.is_ascii_alphabetic() || *b == b'_')
@@ -69,6 +74,7 @@ fn is_bare_string(value: &str) -> bool {
         && value != "false"
 }
 
+/// Returns the text of the style file that the values of `--rule` represent. It has a line for each value.
 fn settings_text<A: Allocator>(alloc: A, settings: &[&str]) -> Result<String<A>, AllocError> {
     let mut text = String::new(alloc);
     for setting in settings {
@@ -81,7 +87,8 @@ fn settings_text<A: Allocator>(alloc: A, settings: &[&str]) -> Result<String<A>,
     Ok(text)
 }
 
-pub(crate) fn unread<A: Allocator + Copy>(
+/// Returns the error that a file can't be read.
+pub(crate) fn unread_file<A: Allocator + Copy>(
     alloc: A,
     file: &str,
     why: PathError,
@@ -90,6 +97,7 @@ pub(crate) fn unread<A: Allocator + Copy>(
     Ok(Failure::Said(format!(in alloc; "{shown}: {why}")?))
 }
 
+/// Returns the message of an error in the rules of a style.
 fn message_of(kind: StyleErrorKind) -> &'static str {
     match kind {
         StyleErrorKind::Syntax(kind) => kind.message(),
@@ -102,18 +110,14 @@ fn message_of(kind: StyleErrorKind) -> &'static str {
     }
 }
 
+/// Returns the error in the rules of a style. `name` is the path of their file, or `--rule`.
 fn style_failure<A: Allocator + Copy>(
     alloc: A,
     name: &str,
     text: &str,
     error: &StyleError<'_>,
 ) -> Result<Failure<A>, AllocError> {
-    let mut line = 1_usize;
-    for byte in text.as_bytes().get(..error.lo).unwrap_or(b"".as_slice()) {
-        if *byte == b'\n' {
-            line = line.saturating_add(1);
-        }
-    }
+    let line = Position::first(text).moved(text, error.lo).line;
     let mut words = visible_text(alloc, name)?;
     write!(words, ":{line}: ")?;
     if let Some(entry) = error.name {
@@ -133,6 +137,7 @@ fn style_failure<A: Allocator + Copy>(
     Ok(Failure::Said(words))
 }
 
+/// Returns the error of the first number of digits without an effect: 0, or more digits than an integer of 128 bits has.
 fn size_error(text: &str) -> Option<StyleError<'_>> {
     let mut tokens = Sources::new(text);
     let mut names = (0_usize, 0_usize);
@@ -155,6 +160,7 @@ fn size_error(text: &str) -> Option<StyleError<'_>> {
     None
 }
 
+/// Whether a style has the rule `min_digits`, but no rule for digit groups.
 fn lacks_groups(style: &Style) -> bool {
     let Some(groups) = style.digit_groups else {
         return false;
@@ -162,6 +168,7 @@ fn lacks_groups(style: &Style) -> bool {
     groups.binary == 0 && groups.octal == 0 && groups.decimal == 0 && groups.hexadecimal == 0
 }
 
+/// Parses the rules of a style. Each rule must have an effect.
 fn parsed_style<A: Allocator + Copy>(
     alloc: A,
     name: &str,
@@ -191,11 +198,11 @@ pub(crate) fn style_of<A: Allocator + Copy, T: Tree>(
     if let Some(file) = args.last("--style") {
         let bytes = match tree.bytes(alloc, file) {
             Ok(bytes) => bytes,
-            Err(why) => return Err(unread(alloc, file, why)?),
+            Err(why) => return Err(unread_file(alloc, file, why)?),
         };
         return match crate::rattle_std::str::from_utf8(bytes.as_slice()) {
             Ok(text) => parsed_style(alloc, file, without_byte_order_mark(text)),
-            Err(error) => Err(unread(alloc, file, PathError::NotUtf8(error.valid_up_to()))?),
+            Err(error) => Err(unread_file(alloc, file, PathError::NotUtf8(error.valid_up_to()))?),
         };
     }
     let rules = args.all(alloc, "--rule")?;
