@@ -1,0 +1,569 @@
+"""Calls of the libraries that allocate, executed on the proved code. `ROWS` has a function for each heading of the stored rows in
+rust/programs/rows/tests/calls, and `COMMANDS` one for each command of `rl_rows`. Their results have the form of these rows.
+"""
+import callers
+import proved
+from callers import ALLOC, BYTES, GLOBAL, INPUT, STRING, at, implementation, run
+from proved import Pointer, bytes_of, string, text
+
+KINDS = 'Str ByteStr CStr Byte Char Int Float Bool'.split()
+MODULES = {'Str': 'str', 'ByteStr': 'byte_str', 'CStr': 'c_str', 'Byte': 'byte', 'Char': 'char', 'Int': 'int', 'Float': 'float'}
+# The variants of `Lit` that are numbers.
+NUMBERS = {5: 'Int', 6: 'Float'}
+# Two spans that callers pass, and that no call creates by itself.
+HERE, THERE = (7, 3, 9), (3, 1, 2)
+LIT = 'Named', 'rust_literals::lit::Lit', (GLOBAL,)
+PROGRAM_ERROR = 'Named', 'rl_program::program_error::ProgramError', (GLOBAL,)
+
+
+def literal_type(kind):
+    """Returns the type of the literals of a kind."""
+    if kind == 'Bool':
+        return 'Named', 'rust_literals::lit_bool::LitBool', ()
+    crate, holder = ('rust_literals', 'number::Number') if kind in NUMBERS.values() else ('rl_quoted', 'quoted::Quoted')
+    return 'Named', f'{crate}::{holder}', (('Named', f'{crate}::lit_{MODULES[kind]}::{kind}Kind', ()), GLOBAL)
+
+
+# Values of the libraries.
+
+def written(name, value, types=(GLOBAL,)):
+    """Returns what an implementation of `Display` or `Debug` writes."""
+    out = at(run('core::fmt::formatter::Formatter::new', run('std_alloc::string::String::new', ALLOC), types=(STRING,)))
+    run(name, at(value), out, types=types + (STRING,))
+    return owned(run('core::fmt::formatter::Formatter::into_inner', out.read(), types=(STRING,)))
+
+
+def items(vec, size=8):
+    """Returns the elements of a `Vec`. Those of a list of bytes have the size 1."""
+    pointer, length = vec[:2]
+    return list(pointer.read_array(length * size)[::size])
+
+
+def owned(value):
+    """Returns the text of a `String`."""
+    return bytes(items(value[0], 1)).decode()
+
+
+def vec_of(data):
+    """Returns a list of bytes."""
+    pointer, length = text(data)
+    return pointer, length, length, ALLOC
+
+
+def between(span):
+    return f'{span[1]}..{span[2]}'
+
+
+def place(span):
+    return f'{span[0]}:{between(span)}'
+
+
+def message(error):
+    return written('rl_tokens::error::ErrorDisplay::fmt', error)
+
+
+def error_of(error):
+    return f"{place(error[0])} {written('rl_tokens::error::ErrorKindDebug::fmt', error[1])}: {message(error)}\n"
+
+
+def rejected(error):
+    return f'{between(error[0])} {message(error)}\n'
+
+
+def result(answer, shown):
+    """Shows the value of a `Result`, or its error."""
+    return error_of(answer[1]) if answer[0] else shown(answer[1])
+
+
+def numbers(values):
+    return '[' + ', '.join(map(str, values)) + ']'
+
+
+def bool_word(value):
+    return str(value).lower()
+
+
+def rust_debug(it):
+    """Shows a text as Rust's `Debug` does."""
+    for plain, escaped in zip('\\"\n\r\t\0', ('\\\\', '\\"', '\\n', '\\r', '\\t', '\\0')):
+        it = it.replace(plain, escaped)
+    return f'"{it}"'
+
+
+def token(row, span=HERE):
+    return run('rl_tokens::literal::Literal::from_text', ALLOC, text(row), span)[1]
+
+
+def literal_of(row, span=HERE):
+    return run('rust_literals::lit::Lit::new', ALLOC, token(row, span))[1]
+
+
+def lit(method, literal):
+    return run(f'rust_literals::lit::Lit::{method}', at(literal))
+
+
+def line(literal):
+    return owned(run('rl_program::lit_line::output_line', ALLOC, at(literal))[1])
+
+
+def spanned(literal):
+    return f"{written('rust_literals::lit::copies::LitDebug::fmt', literal)} {place(lit('span', literal))}"
+
+
+def whole(literal):
+    return f'{spanned(literal)} {line(literal)}'
+
+
+def number_call(method, kind, *values, types=()):
+    return run(f'rust_literals::number::Number::{method}', *values, types=literal_type(kind)[2] + types)
+
+
+def number_part(method, number, kind):
+    return string(number_call(method, kind, at(number)))
+
+
+# Rows of the grammar.
+
+def parts(found):
+    if found[0] == 0:
+        return 'None'
+    kind, body, suffix = found[1]
+    return f'{KINDS[kind[0]]} {string(body)}.{string(suffix)}'
+
+
+def form(name):
+    return lambda row: parts(run(f'rl_lenient::{name}', text(row)))
+
+
+def int_shape(row):
+    found = run('rl_lenient::number_forms::int_shape', text(row))
+    return parts(found[1]) if found[0] and found[1][0] else 'past' if found[0] else 'None'
+
+
+def plain(row):
+    name, rest = row.split('\n', 1)
+    return bool_word(run('rl_lenient::contents::is_plain', (KINDS.index(name),), text(rest)))
+
+
+def contents(row):
+    found = run('rl_lenient::found::shape', text(row))
+    kind = KINDS[found[1][0][0]] if found[0] else None
+    if kind == 'Str':
+        return numbers(items(run('rl_fronts::contents::str_of', ALLOC, text(row))[1][0], 1))
+    if kind in ('ByteStr', 'CStr'):
+        return result(run('rl_fronts::contents::bytes_of', ALLOC, text(row)), lambda it: numbers(items(it, 1)))
+    if kind in ('Byte', 'Char'):
+        return str(run(f'rl_lenient::contents::{kind.lower()}_of', text(row)))
+    if kind in NUMBERS.values():
+        return owned(run('rl_fronts::digits::digits_of', ALLOC, found[1][0], text(row))[1])
+    return row if kind else 'None'
+
+
+def segments(row):
+    given, out, size = text(row), '', 0
+    name = 'rl_cursors::segments::Segments::'
+    found = run(f'{name}of', given)
+    if found[0] == 0:
+        return 'None'
+    cursor = at(found[1])
+    while (step := run(f'{name}next', cursor))[0]:
+        lo, hi, value = step[1]
+        count = run('rl_cursors::segments::SegmentValue::len', value)
+        out += f"{lo}..{hi} {'TCBN'[value[0]]}{count if value[0] == 0 else value[1] if value[0] < 3 else ''} "
+        size += count
+    table = run('rl_fronts::span_table::value_byte_spans', ALLOC, found[1], (7, 0, len(row.encode())))
+    each = ((run('rl_cursors::segments::text_offset', given, byte), run(f'{name}text_offset_after', found[1], byte)) for byte in range(size + 2))
+    return f"{out}\n{' '.join(map(between, items(table[1])))}\n{' '.join(f'{lo[1]}..{hi}' for lo, hi in each if lo[0])}"
+
+
+def flaw_line(found):
+    if found[0] == 0:
+        return 'None\n'
+    kind, start, lo, hi = found[1]
+    return f"{written('rl_strict::flaws::FlawKindDebug::fmt', kind, ())} {start} {lo}..{hi}\n"
+
+
+def explain(row):
+    return flaw_line(run('rl_strict::reasons::explain', text(row)))
+
+
+def explain_value(row):
+    return flaw_line(run('rl_strict::reasons::explain_missing_value', text(row), (0,), True))
+
+
+# Rows of tokens.
+
+def tree_form(tree):
+    number, of = tree
+    if number == 0:
+        return ('Parenthesis', 'Brace', 'Bracket')[of[0][0]]
+    return f'Punct {chr(of[0])}' if number == 2 else f"{'Ident' if number == 1 else 'Literal'} {owned(of[0])}"
+
+
+def nested(vec):
+    out = ''
+    for tree in items(vec):
+        out += f"{tree_form(tree)} {between(run('rl_tokens::token::TokenTree::span', at(tree)))} "
+        out += '' if tree[0] else f'< {nested(tree[1][1][0])}> '
+    return out
+
+
+def lex_kind(kind):
+    return written('rl_lexer::lex_error::LexKindDebug::fmt', kind, ())
+
+
+def lexed(row, file):
+    return run('rl_tokens::lexer::lex', ALLOC, text(row), file)
+
+
+def lex(row):
+    answer = lexed(row, 7)
+    return f'{lex_kind(answer[1][0])} {answer[1][1]}' if answer[0] else nested(answer[1][0])
+
+
+def borrowed(row):
+    name, out = 'rl_lexer::cursor::Tokens::', ''
+    tokens = at(run(f'{name}new', text(row)))
+    for _ in row.encode():
+        error = run(f'{name}error', tokens)
+        out += f'{lex_kind(error[1][0])} {error[1][1]}; ' if error[0] else ''
+        step = run(f'{name}next', tokens)
+        if step[0] == 0:
+            break
+        _, it, lo, hi = step[1]
+        out += f'{string(it)} {lo}..{hi}; '
+    return out + string(run(f'{name}rest', tokens))
+
+
+def word(row):
+    if not run('rl_syntax::ident::xid_ok', text(row)):
+        return 'no word'
+    ident = run('rl_tokens::ident::Ident::new', ALLOC, text(row), HERE)[1]
+    moved = at(ident)
+    run('rl_tokens::ident::Ident::set_span', moved, THERE)
+    return f'{owned(moved.read()[0])} {place(ident[1])} {place(moved.read()[1])}\n'
+
+
+def token_line(answer):
+    return result(answer, lambda it: f'{owned(it[0])} {place(it[1])}\n')
+
+
+def made(name, *values):
+    """Shows the token that a constructor of tokens returns."""
+    return token_line(run(f'rl_tokens::literal::Literal::{name}', ALLOC, *values))
+
+
+def quoted_new(kind, value, types=(GLOBAL,)):
+    return run(f'rl_quoted::lit_{MODULES[kind]}::Lit{kind}+A::new', ALLOC, value, HERE, types=types)
+
+
+def quoted_value(kind, literal):
+    return run(f'rl_quoted::lit_{MODULES[kind]}::Lit{kind}+A::value', at(literal), ALLOC)
+
+
+def literal_line(kind, answer):
+    return result(answer, lambda it: whole((KINDS.index(kind), it)))
+
+
+def string_row(row):
+    return made('string', text(row)) + literal_line('Str', quoted_new('Str', text(row)))
+
+
+def byte_string(row):
+    answer = quoted_new('ByteStr', text(row))
+    value = result(answer, lambda it: result(quoted_value('ByteStr', it), lambda it: numbers(items(it, 1)) + ' '))
+    return made('byte_string', text(row)) + value + literal_line('ByteStr', answer)
+
+
+def c_string(row):
+    answer = run('rl_tokens::c_string::CString::new', vec_of(row))
+    if answer[0]:
+        where = run('rl_tokens::c_string::NulError::nul_position', at(answer[1]))
+        return f"zero at {where} of {numbers(items(run('rl_tokens::c_string::NulError::into_vec', answer[1]), 1))}"
+    held = at(answer[1])
+    literal = quoted_new('CStr', held, types=(GLOBAL, GLOBAL))
+    same = result(literal, lambda it: result(quoted_value('CStr', it), lambda it: bool_word(
+        run('rl_tokens::c_string::CStringPartialEq::eq', at(it), held)) + ' '))
+    data = numbers(bytes_of(run('rl_tokens::c_string::CString::as_bytes', held)))
+    return f"{data} {made('c_string', held)}{same}{literal_line('CStr', literal)}"
+
+
+def characters(row):
+    return ''.join(made('character', ord(c)) + literal_line('Char', quoted_new('Char', ord(c))) for c in row)
+
+
+def one_byte(byte):
+    value = result(quoted_new('Byte', byte), lambda it: (
+        f"{run('rl_quoted::lit_byte::LitByte+A::value', at(it))} {place(HERE)} "))
+    return value + made('byte_character', byte).replace('\n', ' ')
+
+
+def bytes_row(row):
+    data = row.encode(errors='surrogateescape')
+    return ''.join(''.join(map(one_byte, data[at_:at_ + 8])) + '\n' for at_ in range(0, len(data), 8))
+
+
+def joined(_):
+    def of(first, second):
+        found = run('rl_syntax::span::Span::join', first, second)
+        return place(found[1]) if found[0] else 'None'
+    pairs_ = (HERE, (7, 1, 4)), ((7, 1, 4), (7, 6, 8)), (HERE, (8, 1, 4))
+    here = ' '.join(str(run(f'rl_syntax::span::Span::{it}', HERE)) for it in ('file', 'lo', 'hi'))
+    return f"{place(run('rl_syntax::span::Span::call_site'))} {here}\n" + '\n'.join(of(*it) for it in pairs_)
+
+
+# Rows of buffers and parsers.
+
+def buffer(method, input_, *values, types=None):
+    return run(f'rl_tokens::buffer::ParseBuffer::{method}', input_, *values, types=types)
+
+
+def buffer_of(row):
+    """Returns a buffer over the trees of a text, and the number of trees, or `None`."""
+    answer, size = lexed(row, 0), len(row.encode())
+    if answer[0]:
+        return None, 0
+    trees = run('rl_tokens::token::TokenStream::trees', at(answer[1]))
+    return at(buffer('new', trees, (0, size, size))), trees[1]
+
+
+def parser(type_):
+    """Returns the function of the rows of a type's parser: its name in messages, its peek, its result, and the position after it."""
+    def shown(row):
+        input_, _ = buffer_of(row)
+        if input_ is None:
+            return 'no trees'
+        name, types, dicts = implementation('rl_tokens::parse::Token', type_)
+        display = string(callers.library.call(f'{name}::display', types=types, dicts=dicts))
+        peeked = bool_word(buffer('peek', input_, types=(GLOBAL, type_)))
+        parsed = result(buffer('parse', input_, ALLOC, types=(GLOBAL, type_)), lambda _: 'ok\n')
+        return f"{display}, {peeked}: {parsed}next {place(buffer('span', input_))}"
+    return shown
+
+
+def taken(input_):
+    """Shows which methods accept the next tree, each on a fork of the buffer, and consumes the tree."""
+    names = [it for it in ('ident', 'punct', 'literal', 'group') if buffer(it, at(buffer('fork', input_)))[0]]
+    head = f"{place(buffer('span', input_))} of {buffer('rest', input_)[1]}:{''.join(' ' + it for it in names)}\n"
+    if not names:
+        return head + 'nothing\n'
+    it = buffer(names[0], input_)[1].read()
+    inside = f'{len(items(it[1][0]))} inside' if names[0] == 'group' else chr(it[0]) if names[0] == 'punct' else owned(it[0])
+    return f'{head}{inside}\n'
+
+
+def takers(row):
+    input_, count = buffer_of(row)
+    out = ''.join(taken(input_) for _ in range(count))
+    return f"{out}{bool_word(buffer('is_empty', input_))} {taken(input_)}"
+
+
+def mark(row):
+    input_, _ = buffer_of(row)
+    group = buffer('group', input_)
+    if group[0]:
+        input_ = at(run('rl_tokens::token::Group::inside', group[1]))
+    peeked = bool_word(buffer('peek_punct', input_, ord('=')))
+    taken_ = result(buffer('take_punct', input_, ord('=')), lambda _: 'ok\n')
+    return f"equals sign, {peeked}: {taken_}next {place(buffer('span', input_))}"
+
+
+# Rows of literals and lists.
+
+def placed(literal):
+    return f"{between(lit('span', literal))} {line(literal)}"
+
+
+def read_all(row, file):
+    return run('rust_literals::read::read_all', ALLOC, text(row), file)
+
+
+def places(row):
+    answer = read_all(row, 0)
+    return rejected(answer[1]) if answer[0] else ''.join(map(placed, items(answer[1])))
+
+
+def texts(row):
+    return result(read_all(row, 7), lambda it: ''.join(spanned(literal) + '\n' for literal in items(it)))
+
+
+def one_by_one(row):
+    literals, out, left = at(run('rust_literals::literals::Literals::new', ALLOC, text(row), 0)), '', 2
+    while left:
+        number, answer = run('rust_literals::literals::Literals::next', literals)
+        is_literal = number == 0 and answer[0] == 1
+        left -= not is_literal or left < 2
+        out += rejected(answer) if number else placed(answer[1]) if is_literal else 'end\n'
+    return out
+
+
+def pairs(row):
+    gap, fronts, backs = row.split('\x1e')
+    agreed, out = 0, ''
+    for first in fronts.split('\x1f'):
+        for second in backs.split('\x1f'):
+            both, lo = first + gap + second, len((first + gap).encode())
+            alone = (first, (0, 0, len(first.encode()))), (second, (0, lo, len(both.encode())))
+            if places(both) == ''.join(placed(literal_of(*it)) for it in alone):
+                agreed += 1
+            else:
+                out += f"{first} and {second} don't\n"
+    return f'{out}{agreed} agree'
+
+
+def value_ref(literal):
+    """Returns the value that a string literal borrows from its text, or `None`."""
+    kind = KINDS[literal[0]] if literal[0] < 3 else None
+    found = run(f'rl_quoted::lit_{MODULES[kind]}::Lit{kind}+A::value_ref', at(literal[1])) if kind else (0,)
+    return bytes_of(found[1]) if found[0] else None
+
+
+def borrows(row):
+    literal = literal_of(row)
+    value = value_ref(literal)
+    try:
+        return 'no string' if literal[0] > 2 else 'nothing' if value is None else rust_debug(value.decode())
+    except UnicodeDecodeError:
+        return 'no text'
+
+
+# Rows of numbers.
+
+def brief(it):
+    return it if len(it) <= 40 else f'{it[:8]}..{it[-8:]} {len(it)}'
+
+
+def long(row):
+    literal = literal_of(''.join(it.split('*', 1)[1] * int(it.split('*', 1)[0]) if '*' in it else it for it in row.split(' ')))
+    kind = NUMBERS.get(literal[0])
+    if kind is None:
+        return f"Verbatim {brief(string(lit('text', literal)))} "
+    digits, suffix = (number_part(it, literal[1], kind) for it in ('base10_digits', 'suffix'))
+    return f'{kind} {brief(digits)} {brief(suffix)}'
+
+
+def moved_number(kind):
+    def moved(number):
+        number = at(number)
+        before = place(number_call('span', kind, number)), string(number_call('text', kind, number))
+        number_call('set_span', kind, number, THERE)
+        after = token_line(number_call('token', kind, number, ALLOC, types=(GLOBAL,)))
+        digits, suffix = (number_part(it, number.read(), kind) for it in ('base10_digits', 'suffix'))
+        return f"{digits} {rust_debug(suffix)} {' '.join(before)} {after}"
+    return lambda row: result(number_call('new', kind, ALLOC, text(row), HERE), moved)
+
+
+def kept(row):
+    first = number_call('from_token', 'Int', ALLOC, token(row))
+    if first[0] == 0:
+        return whole((5, first[1]))
+    value, error = first[1]
+    back = f'{owned(value[0])} {place(value[1])} {error_of(error)}'
+    second = number_call('from_token', 'Float', ALLOC, value)
+    return back + (error_of(second[1][1]) if second[0] else whole((6, second[1])))
+
+
+def all_failing(row):
+    given = token(row)
+    proved.asked, proved.failing = 0, range(1, 1 << 64)
+    try:
+        number, answer = run('rust_literals::lit::Lit::new', ALLOC, given)
+    finally:
+        proved.failing = range(0)
+    if number:
+        value, error = answer
+        return f'{message(error)} {place(error[0])} {owned(value[0])} {place(value[1])}'
+    kind = NUMBERS.get(answer[0])
+    if kind:
+        return f"{kind} {number_part('base10_digits', answer[1], kind)} {number_part('suffix', answer[1], kind)}"
+    return f"{string(lit('text', answer))} {string(lit('suffix', answer))}"
+
+
+# Rows of settings and of `rl_tool`.
+
+def settings_values(row):
+    names, rest = row.split('\x1f', 1)
+
+    def values(attrs):
+        found = (run('rl_attributes::attributes::Attrs::get', at(attrs), text(name)) for name in names.split(','))
+        return ''.join(line(it[1].read()) if it[0] else 'none\n' for it in found)
+    return result(run('rl_attributes::attributes::whole::read', ALLOC, text(rest), 4), values)
+
+
+def called(row):
+    """Runs `rl_tool`. A row has the arguments, one in each line, then U+001F, then standard input."""
+    words, given = row.split('\x1f', 1)
+    cells = [it for word_ in words.split('\n') for it in ((vec_of(word_),), *[None] * 7)]
+    out = at(run('std_alloc::vec::Vec::new', ALLOC, types=(('Int', 8), GLOBAL)))
+    arguments = Pointer(cells, 0), len(cells) // 8
+    ending = run('rl_program::command_line::run_with_arguments', ALLOC, arguments, at(text(given)), out, types=(GLOBAL, INPUT, BYTES))
+    status = run('rl_program::exit::Ending::status', at(ending), types=(PROGRAM_ERROR,))
+    shown = bytes(items(out.read(), 1)).decode()
+    return f"{shown}{status} {written('rl_program::exit::EndingDisplay::fmt', ending, (PROGRAM_ERROR,))}\n"
+
+
+# Commands of `rl_rows`.
+
+def output_lines(name):
+    def shown(row):
+        answer = run(f'rl_program::{name}', ALLOC, text(row))
+        error = answer[0] and written('rl_program::program_error::ProgramErrorDisplay::fmt', answer[1])
+        return (error + '\n' if error else owned(answer[1])) + '.\n'
+    return shown
+
+
+def number_line(kind):
+    def shown(row):
+        answer = number_call('new', kind, ALLOC, text(row), HERE)
+        if answer[0] == 0:
+            return line((KINDS.index(kind), answer[1]))
+        error = written('rl_tokens::error::ErrorKindDebug::fmt', answer[1][1])
+        return f"{'TooLarge' if error == 'TooLarge' else None}\n"
+    return shown
+
+
+def value_line(row):
+    literal = literal_of(row)
+    value, kind = value_ref(literal), NUMBERS.get(literal[0])
+    if kind and run('rl_lenient::contents::is_plain', (literal[0],), text(number_part('text', literal[1], kind))):
+        value = number_part('base10_digits', literal[1], kind).encode()
+    return 'None\n' if value is None else made('byte_string', text(value)).rsplit(' ', 1)[0] + '\n'
+
+
+def spans(row):
+    answer = read_all(row, 0)
+    if answer[0]:
+        return f'error at {between(answer[1][0])}: {message(answer[1])}\n.\n'
+    out = ''
+    for it in items(answer[1]):
+        kind = lit('kind', it)
+        shown = made('string', lit('text', it)).rsplit(' ', 1)[0]
+        out += f"{KINDS[kind[1][0]] if kind[0] else 'Verbatim'} {between(lit('span', it))} {shown}\n"
+    return out + '.\n'
+
+
+COMMANDS = {
+    'text': lambda row: line(literal_of(row)), 'value': value_line, 'int': number_line('Int'), 'float': number_line('Float'),
+    'skip': lambda row: f"{run('rl_lexer::whitespace::skip', text(row))[1]}\n",
+    'strict': lambda row: bool_word(run('rl_grammar::strict::is_token', text(row))) + '\n',
+    'read': output_lines('list::literal_lines'), 'attr': output_lines('attribute_lines::attribute_lines'), 'spans': spans,
+}
+ROWS = {
+    'grammar': {
+        'shape': form('found::shape'), 'int_shape': int_shape, 'float_shape': form('number_forms::float_shape'),
+        'shape_negative': form('number_forms::shape_negative'), 'plain': plain, 'contents': contents,
+        'skipped': lambda row: string(run('rl_lexer::whitespace::skip', text(row))), 'segments': segments,
+    },
+    'flaws': {'explain': explain, 'explain-value': explain_value},
+    'tokens': {
+        'lex': lex, 'borrowed': borrowed, 'word': word, 'joined': joined, 'string': string_row, 'byte_string': byte_string,
+        'c_string': c_string, 'characters': characters, 'bytes': bytes_row, 'takers': takers, 'mark': mark,
+    },
+    'attributes': {'attr_values': settings_values},
+    'failing': {'all_failing': all_failing},
+    'lists': {'places': places, 'texts': texts, 'one_by_one': one_by_one, 'pairs': pairs},
+    'literals': {'borrows': borrows},
+    'numbers': {'long': long, 'integer': moved_number('Int'), 'real': moved_number('Float'), 'kept': kept},
+    'parsers': {'Lit': parser(LIT), **{f'Lit{it}': parser(literal_type(it)) for it in KINDS}},
+    'calls': {'call': called},
+}
