@@ -69,31 +69,10 @@ def sources(row):
     return out + after(SOURCES, cursor, 'error', 'rest', 'following_lines')
 
 
-def source_literals(row):
-    return calls('rl_cursors::source_literals::next_source_literal', new(SOURCES, row), last=(0, 2))
-
-
 def recovery(row):
     given = text(row)
     cursor = at(run(f'{RECOVERY}::resume', given, run(f'{SOURCES}::rest', at(run(f'{SOURCES}::new', given)))))
-    return calls('rl_cursors::recovery::next_recovered_literal', cursor) + after(RECOVERY, cursor, 'rest')
-
-
-def literals(row):
-    return calls('rl_cursors::next_literals::next_literal', new(TOKENS, row))
-
-
-def list_(row):
-    cursor = new(LIST, row)
-    return calls(f'{LIST}::next', cursor, last=(0, 2)) + after(LIST, cursor, 'rest')
-
-
-def settings(row):
-    return calls('rl_cursors::settings::next_setting', new(TOKENS, row), len(row.encode()), last=(0, 2))
-
-
-def entries(row):
-    return calls('rl_cursors::entries::next_config_entry', new(TOKENS, row), text(row), last=(0, 2))
+    return calls('rl_cursors::recovery::next_recovered_literal', cursor)
 
 
 def each_of(*names):
@@ -126,7 +105,8 @@ def segments(row):
 
 def strict(row):
     given = text(row)
-    out = lines(run('rl_strict::reasons::explain', given))
+    flaw = run('rl_strict::reasons::explain', given)
+    out = lines(flaw, some(run('rl_strict::flaws::Flaw::in_span', flaw[1], (7, 3, 9))) if flaw[0] else NONE)
     for ends in ENDS:
         for is_signed in (False, True):
             out += lines(*(run(f'rl_strict::{it}', given, ends, is_signed) for it in (
@@ -134,14 +114,10 @@ def strict(row):
     return out
 
 
-def strict_read(given, ends, is_signed):
-    return run('rl_strict::strict_reading::read', given, ends, is_signed)
-
-
 def flaws(row):
     given, out = text(row), ''
     for ends in ENDS:
-        read = strict_read(given, ends, False)
+        read = run('rl_strict::strict_reading::read', given, ends, False)
         if read[0]:
             first, rest = run('rl_flaws::flaws::Flaws::after', given, ends, read[1])
             out += lines(first) + calls('rl_flaws::flaws::Flaws::next', at(rest))
@@ -193,9 +169,15 @@ def written(row):
     return out
 
 
-LOWER, UPPER, NO_SEPARATOR, UNDERSCORE = some((0,)), some((1,)), some((0,)), some((1,))
-FULL = (LOWER, True, True, UNDERSCORE, some((4, 3, 3, 4, 5)), True, LOWER, True, UPPER, True, True, True, True, True, True, True)
-SPARSE = (UPPER, False, False, NO_SEPARATOR, NONE, False, UPPER, False, LOWER, False, False, False, False, True, False, True)
+LOWER, UPPER, NOTHING, UNDERSCORE = some((0,)), some((1,)), some((0,)), some((1,))
+
+
+def style(letters, escapes, separator, is_full=True):
+    groups = some((4, 3, 3, 4, 5)) if is_full else NONE
+    return letters, is_full, True, separator, groups, True, letters, True, escapes, True, is_full, True, True, True, is_full, True
+
+
+FULL, SPARSE = style(LOWER, UPPER, UNDERSCORE), style(UPPER, LOWER, NOTHING, is_full=False)
 
 
 def restyled(row):
@@ -220,8 +202,12 @@ FOUND = [f'rl_lenient::{it}' for it in (
     'numbers::float_parts', 'found::bool_of')]
 LEADING = [f'rl_cursors::{it}' for it in ('leading::leading_literal', 'leading::leading_signed_literal', 'groups::first_error')]
 COMMANDS = {
-    'tokens': tokens, 'sources': sources, 'source-literals': source_literals, 'recovery': recovery, 'literals': literals, 'list': list_,
-    'settings': settings, 'entries': entries, 'leading': each_of(*LEADING), 'found': each_of(*FOUND), 'segments': segments,
-    'strict': strict, 'flaws': flaws, 'pieces': pieces, 'types': types, 'before': before, 'written': written, 'restyled': restyled,
-    'restylable': restylable,
+    'tokens': tokens, 'sources': sources, 'recovery': recovery, 'leading': each_of(*LEADING), 'found': each_of(*FOUND),
+    'segments': segments, 'strict': strict, 'flaws': flaws, 'pieces': pieces, 'types': types, 'before': before, 'written': written,
+    'restyled': restyled, 'restylable': restylable,
+    'source-literals': lambda row: calls('rl_cursors::source_literals::next_source_literal', new(SOURCES, row), last=(0, 2)),
+    'literals': lambda row: calls('rl_cursors::next_literals::next_literal', new(TOKENS, row)),
+    'list': lambda row: calls(f'{LIST}::next', new(LIST, row), last=(0, 2)),
+    'settings': lambda row: calls('rl_cursors::settings::next_setting', new(TOKENS, row), len(row.encode()), last=(0, 2)),
+    'entries': lambda row: calls('rl_cursors::entries::next_config_entry', new(TOKENS, row), text(row), last=(0, 2)),
 }

@@ -86,9 +86,6 @@ class Pointer:
     def __eq__(self, other):
         return (id(self.cells), self.at, self.path) == (id(other.cells), other.at, other.path)
 
-    def __lt__(self, other):
-        return (id(self.cells), self.at, self.path) < (id(other.cells), other.at, other.path)
-
 
 def with_field(value, path, new):
     """Returns the value with another field. Fields that were never written are `None`."""
@@ -125,15 +122,6 @@ def fit_signed(number, width):
     raise Wrong(f'overflow: {number}')
 
 
-def quotient(first, second):
-    """Returns the quotient of two signed numbers, rounded towards zero."""
-    return abs(first) // abs(second) * (1 if (first < 0) == (second < 0) else -1)
-
-
-def remainder(first, second):
-    return first - second * quotient(first, second)
-
-
 def inverted(value, width):
     return not value if isinstance(value, bool) else value ^ (1 << width) - 1
 
@@ -141,15 +129,13 @@ def inverted(value, width):
 # The operations, as Python. `%1` and `%2` are the operands, `%w` is the width, and `%m` the largest number.
 OPERATIONS = {
     'Eq': '(%1 == %2)', 'Ne': '(%1 != %2)', 'And': '(%1 & %2)', 'Or': '(%1 | %2)', 'Xor': '(%1 ^ %2)', 'Shl': '(%1 << %2 & %m)',
-    'Offset': '%1.moved(%2)', 'PtrEq': '(%1 == %2)', 'PtrLt': '(%1 < %2)',
+    'Offset': '%1.moved(%2)', 'PtrEq': '(%1 == %2)',
     'WrapAdd': '(%1 + %2 & %m)', 'WrapSub': '(%1 - %2 & %m)', 'WrapMul': '(%1 * %2 & %m)',
     'Lt Unsigned': '(%1 < %2)', 'Le Unsigned': '(%1 <= %2)', 'Shr Unsigned': '(%1 >> %2)', 'Div Unsigned': '(%1 // %2)',
     'Rem Unsigned': '(%1 % %2)', 'Add Unsigned': 'fit(%1 + %2, %w)', 'Sub Unsigned': 'fit(%1 - %2, %w)', 'Mul Unsigned': 'fit(%1 * %2, %w)',
     'Lt Signed': '(signed(%1, %w) < signed(%2, %w))', 'Le Signed': '(signed(%1, %w) <= signed(%2, %w))',
-    'Shr Signed': 'fit_signed(signed(%1, %w) >> %2, %w)', 'Div Signed': 'fit_signed(quotient(signed(%1, %w), signed(%2, %w)), %w)',
-    'Rem Signed': 'fit_signed(remainder(signed(%1, %w), signed(%2, %w)), %w)',
+    'Shr Signed': 'fit_signed(signed(%1, %w) >> %2, %w)',
     'Add Signed': 'fit_signed(signed(%1, %w) + signed(%2, %w), %w)', 'Sub Signed': 'fit_signed(signed(%1, %w) - signed(%2, %w), %w)',
-    'Mul Signed': 'fit_signed(signed(%1, %w) * signed(%2, %w), %w)',
     'Not': 'inverted(%1, %w)', 'TrailingZeros': '((%1 & -%1).bit_length() - 1 if %1 else %w)', 'LeadingZeros': '(%w - (%1).bit_length())',
     'CountOnes': '(%1).bit_count()',
 }
@@ -490,7 +476,7 @@ class Library:
         self.folders, self.crates = folders, set()
         self.functions, self.methods, self.names, self.branches = {}, {}, {}, {}
         self.space = {it.__name__: it for it in (
-            Pointer, Wrong, unknown, with_field, padded, signed, fit, fit_signed, quotient, remainder, inverted)}
+            Pointer, unknown, with_field, padded, signed, fit, fit_signed, inverted)}
         self.space.update(rattle_alloc=allocate, rattle_realloc=reallocate, rattle_free=release, rattle_dealloc=release)
 
     def load(self, crate):

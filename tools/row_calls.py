@@ -66,10 +66,6 @@ def error_of(error):
     return f"{place(error[0])} {written('rl_tokens::error::ErrorKindDebug::fmt', error[1])}: {message(error)}\n"
 
 
-def rejected(error):
-    return f'{between(error[0])} {message(error)}\n'
-
-
 def result(answer, shown):
     """Shows the value of a `Result`, or its error."""
     return error_of(answer[1]) if answer[0] else shown(answer[1])
@@ -81,13 +77,6 @@ def numbers(values):
 
 def bool_word(value):
     return str(value).lower()
-
-
-def rust_debug(it):
-    """Shows a text as Rust's `Debug` does."""
-    for plain, escaped in zip('\\"\n\r\t\0', ('\\\\', '\\"', '\\n', '\\r', '\\t', '\\0')):
-        it = it.replace(plain, escaped)
-    return f'"{it}"'
 
 
 def token(row, span=HERE):
@@ -140,55 +129,14 @@ def int_shape(row):
     return parts(found[1]) if found[0] and found[1][0] else 'past' if found[0] else 'None'
 
 
-def plain(row):
-    name, rest = row.split('\n', 1)
-    return bool_word(run('rl_lenient::contents::is_plain', (KINDS.index(name),), text(rest)))
-
-
-def contents(row):
-    found = run('rl_lenient::found::shape', text(row))
-    kind = KINDS[found[1][0][0]] if found[0] else None
-    if kind == 'Str':
-        return numbers(items(run('rl_fronts::contents::str_of', ALLOC, text(row))[1][0], 1))
-    if kind in ('ByteStr', 'CStr'):
-        return result(run('rl_fronts::contents::bytes_of', ALLOC, text(row)), lambda it: numbers(items(it, 1)))
-    if kind in ('Byte', 'Char'):
-        return str(run(f'rl_lenient::contents::{kind.lower()}_of', text(row)))
-    if kind in NUMBERS.values():
-        return owned(run('rl_fronts::digits::digits_of', ALLOC, found[1][0], text(row))[1])
-    return row if kind else 'None'
-
-
-def segments(row):
-    given, out, size = text(row), '', 0
-    name = 'rl_cursors::segments::Segments::'
-    found = run(f'{name}of', given)
-    if found[0] == 0:
-        return 'None'
-    cursor = at(found[1])
-    while (step := run(f'{name}next', cursor))[0]:
-        lo, hi, value = step[1]
-        count = run('rl_cursors::segments::SegmentValue::len', value)
-        out += f"{lo}..{hi} {'TCBN'[value[0]]}{count if value[0] == 0 else value[1] if value[0] < 3 else ''} "
-        size += count
-    table = run('rl_fronts::span_table::value_byte_spans', ALLOC, found[1], (7, 0, len(row.encode())))
-    each = ((run('rl_cursors::segments::text_offset', given, byte), run(f'{name}text_offset_after', found[1], byte)) for byte in range(size + 2))
-    return f"{out}\n{' '.join(map(between, items(table[1])))}\n{' '.join(f'{lo[1]}..{hi}' for lo, hi in each if lo[0])}"
-
-
-def flaw_line(found):
-    if found[0] == 0:
-        return 'None\n'
-    kind, start, lo, hi = found[1]
-    return f"{written('rl_strict::flaws::FlawKindDebug::fmt', kind, ())} {start} {lo}..{hi}\n"
-
-
-def explain(row):
-    return flaw_line(run('rl_strict::reasons::explain', text(row)))
-
-
-def explain_value(row):
-    return flaw_line(run('rl_strict::reasons::explain_missing_value', text(row), (0,), True))
+def flaw_of(name, *values):
+    def shown(row):
+        found = run(f'rl_strict::reasons::{name}', text(row), *values)
+        if found[0] == 0:
+            return 'None\n'
+        kind, start, lo, hi = found[1]
+        return f"{written('rl_strict::flaws::FlawKindDebug::fmt', kind, ())} {start} {lo}..{hi}\n"
+    return shown
 
 
 # Rows of tokens.
@@ -219,29 +167,6 @@ def lexed(row, file):
 def lex(row):
     answer = lexed(row, 7)
     return f'{lex_kind(answer[1][0])} {answer[1][1]}' if answer[0] else nested(answer[1][0])
-
-
-def borrowed(row):
-    name, out = 'rl_lexer::cursor::Tokens::', ''
-    tokens = at(run(f'{name}new', text(row)))
-    for _ in row.encode():
-        error = run(f'{name}error', tokens)
-        out += f'{lex_kind(error[1][0])} {error[1][1]}; ' if error[0] else ''
-        step = run(f'{name}next', tokens)
-        if step[0] == 0:
-            break
-        _, it, lo, hi = step[1]
-        out += f'{string(it)} {lo}..{hi}; '
-    return out + string(run(f'{name}rest', tokens))
-
-
-def word(row):
-    if not run('rl_syntax::ident::xid_ok', text(row)):
-        return 'no word'
-    ident = run('rl_tokens::ident::Ident::new', ALLOC, text(row), HERE)[1]
-    moved = at(ident)
-    run('rl_tokens::ident::Ident::set_span', moved, THERE)
-    return f'{owned(moved.read()[0])} {place(ident[1])} {place(moved.read()[1])}\n'
 
 
 def token_line(answer):
@@ -290,26 +215,6 @@ def c_string(row):
 
 def characters(row):
     return ''.join(made('character', ord(c)) + literal_line('Char', quoted_new('Char', ord(c))) for c in row)
-
-
-def one_byte(byte):
-    value = result(quoted_new('Byte', byte), lambda it: (
-        f"{run('rl_quoted::lit_byte::LitByte+A::value', at(it))} {place(HERE)} "))
-    return value + made('byte_character', byte).replace('\n', ' ')
-
-
-def bytes_row(row):
-    data = row.encode(errors='surrogateescape')
-    return ''.join(''.join(map(one_byte, data[at_:at_ + 8])) + '\n' for at_ in range(0, len(data), 8))
-
-
-def joined(_):
-    def of(first, second):
-        found = run('rl_syntax::span::Span::join', first, second)
-        return place(found[1]) if found[0] else 'None'
-    pairs_ = (HERE, (7, 1, 4)), ((7, 1, 4), (7, 6, 8)), (HERE, (8, 1, 4))
-    here = ' '.join(str(run(f'rl_syntax::span::Span::{it}', HERE)) for it in ('file', 'lo', 'hi'))
-    return f"{place(run('rl_syntax::span::Span::call_site'))} {here}\n" + '\n'.join(of(*it) for it in pairs_)
 
 
 # Rows of buffers and parsers.
@@ -368,49 +273,6 @@ def mark(row):
     return f"equals sign, {peeked}: {taken_}next {place(buffer('span', input_))}"
 
 
-# Rows of literals and lists.
-
-def placed(literal):
-    return f"{between(lit('span', literal))} {line(literal)}"
-
-
-def read_all(row, file):
-    return run('rust_literals::read::read_all', ALLOC, text(row), file)
-
-
-def places(row):
-    answer = read_all(row, 0)
-    return rejected(answer[1]) if answer[0] else ''.join(map(placed, items(answer[1])))
-
-
-def texts(row):
-    return result(read_all(row, 7), lambda it: ''.join(spanned(literal) + '\n' for literal in items(it)))
-
-
-def one_by_one(row):
-    literals, out, left = at(run('rust_literals::literals::Literals::new', ALLOC, text(row), 0)), '', 2
-    while left:
-        number, answer = run('rust_literals::literals::Literals::next', literals)
-        is_literal = number == 0 and answer[0] == 1
-        left -= not is_literal or left < 2
-        out += rejected(answer) if number else placed(answer[1]) if is_literal else 'end\n'
-    return out
-
-
-def pairs(row):
-    gap, fronts, backs = row.split('\x1e')
-    agreed, out = 0, ''
-    for first in fronts.split('\x1f'):
-        for second in backs.split('\x1f'):
-            both, lo = first + gap + second, len((first + gap).encode())
-            alone = (first, (0, 0, len(first.encode()))), (second, (0, lo, len(both.encode())))
-            if places(both) == ''.join(placed(literal_of(*it)) for it in alone):
-                agreed += 1
-            else:
-                out += f"{first} and {second} don't\n"
-    return f'{out}{agreed} agree'
-
-
 def value_ref(literal):
     """Returns the value that a string literal borrows from its text, or `None`."""
     kind = KINDS[literal[0]] if literal[0] < 3 else None
@@ -418,50 +280,7 @@ def value_ref(literal):
     return bytes_of(found[1]) if found[0] else None
 
 
-def borrows(row):
-    literal = literal_of(row)
-    value = value_ref(literal)
-    try:
-        return 'no string' if literal[0] > 2 else 'nothing' if value is None else rust_debug(value.decode())
-    except UnicodeDecodeError:
-        return 'no text'
-
-
-# Rows of numbers.
-
-def brief(it):
-    return it if len(it) <= 40 else f'{it[:8]}..{it[-8:]} {len(it)}'
-
-
-def long(row):
-    literal = literal_of(''.join(it.split('*', 1)[1] * int(it.split('*', 1)[0]) if '*' in it else it for it in row.split(' ')))
-    kind = NUMBERS.get(literal[0])
-    if kind is None:
-        return f"Verbatim {brief(string(lit('text', literal)))} "
-    digits, suffix = (number_part(it, literal[1], kind) for it in ('base10_digits', 'suffix'))
-    return f'{kind} {brief(digits)} {brief(suffix)}'
-
-
-def moved_number(kind):
-    def moved(number):
-        number = at(number)
-        before = place(number_call('span', kind, number)), string(number_call('text', kind, number))
-        number_call('set_span', kind, number, THERE)
-        after = token_line(number_call('token', kind, number, ALLOC, types=(GLOBAL,)))
-        digits, suffix = (number_part(it, number.read(), kind) for it in ('base10_digits', 'suffix'))
-        return f"{digits} {rust_debug(suffix)} {' '.join(before)} {after}"
-    return lambda row: result(number_call('new', kind, ALLOC, text(row), HERE), moved)
-
-
-def kept(row):
-    first = number_call('from_token', 'Int', ALLOC, token(row))
-    if first[0] == 0:
-        return whole((5, first[1]))
-    value, error = first[1]
-    back = f'{owned(value[0])} {place(value[1])} {error_of(error)}'
-    second = number_call('from_token', 'Float', ALLOC, value)
-    return back + (error_of(second[1][1]) if second[0] else whole((6, second[1])))
-
+# Rows of failed allocations, and of `rl_tool`.
 
 def all_failing(row):
     given = token(row)
@@ -477,17 +296,6 @@ def all_failing(row):
     if kind:
         return f"{kind} {number_part('base10_digits', answer[1], kind)} {number_part('suffix', answer[1], kind)}"
     return f"{string(lit('text', answer))} {string(lit('suffix', answer))}"
-
-
-# Rows of settings and of `rl_tool`.
-
-def settings_values(row):
-    names, rest = row.split('\x1f', 1)
-
-    def values(attrs):
-        found = (run('rl_attributes::attributes::Attrs::get', at(attrs), text(name)) for name in names.split(','))
-        return ''.join(line(it[1].read()) if it[0] else 'none\n' for it in found)
-    return result(run('rl_attributes::attributes::whole::read', ALLOC, text(rest), 4), values)
 
 
 def called(row):
@@ -530,40 +338,23 @@ def value_line(row):
     return 'None\n' if value is None else made('byte_string', text(value)).rsplit(' ', 1)[0] + '\n'
 
 
-def spans(row):
-    answer = read_all(row, 0)
-    if answer[0]:
-        return f'error at {between(answer[1][0])}: {message(answer[1])}\n.\n'
-    out = ''
-    for it in items(answer[1]):
-        kind = lit('kind', it)
-        shown = made('string', lit('text', it)).rsplit(' ', 1)[0]
-        out += f"{KINDS[kind[1][0]] if kind[0] else 'Verbatim'} {between(lit('span', it))} {shown}\n"
-    return out + '.\n'
-
-
 COMMANDS = {
     'text': lambda row: line(literal_of(row)), 'value': value_line, 'int': number_line('Int'), 'float': number_line('Float'),
     'skip': lambda row: f"{run('rl_lexer::whitespace::skip', text(row))[1]}\n",
     'strict': lambda row: bool_word(run('rl_grammar::strict::is_token', text(row))) + '\n',
-    'read': output_lines('list::literal_lines'), 'attr': output_lines('attribute_lines::attribute_lines'), 'spans': spans,
+    'read': output_lines('list::literal_lines'), 'attr': output_lines('attribute_lines::attribute_lines'),
 }
 ROWS = {
     'grammar': {
         'shape': form('found::shape'), 'int_shape': int_shape, 'float_shape': form('number_forms::float_shape'),
-        'shape_negative': form('number_forms::shape_negative'), 'plain': plain, 'contents': contents,
-        'skipped': lambda row: string(run('rl_lexer::whitespace::skip', text(row))), 'segments': segments,
+        'shape_negative': form('number_forms::shape_negative'), 'skipped': lambda row: string(run('rl_lexer::whitespace::skip', text(row))),
     },
-    'flaws': {'explain': explain, 'explain-value': explain_value},
+    'flaws': {'explain': flaw_of('explain'), 'explain-value': flaw_of('explain_missing_value', (0,), True)},
     'tokens': {
-        'lex': lex, 'borrowed': borrowed, 'word': word, 'joined': joined, 'string': string_row, 'byte_string': byte_string,
-        'c_string': c_string, 'characters': characters, 'bytes': bytes_row, 'takers': takers, 'mark': mark,
+        'lex': lex, 'string': string_row, 'byte_string': byte_string, 'c_string': c_string, 'characters': characters,
+        'takers': takers, 'mark': mark,
     },
-    'attributes': {'attr_values': settings_values},
     'failing': {'all_failing': all_failing},
-    'lists': {'places': places, 'texts': texts, 'one_by_one': one_by_one, 'pairs': pairs},
-    'literals': {'borrows': borrows},
-    'numbers': {'long': long, 'integer': moved_number('Int'), 'real': moved_number('Float'), 'kept': kept},
     'parsers': {'Lit': parser(LIT), **{f'Lit{it}': parser(literal_type(it)) for it in KINDS}},
     'calls': {'call': called},
 }

@@ -1,32 +1,14 @@
 //! The results of the core's calls on a text, each on a line. `tools/mir` compares them with those of the proved code.
 
 use crate::shown::Shown;
-use navyspindle::rendered::rl_cursors::{
-    first_error, leading_literal, leading_signed_literal, next_config_entry, next_literal,
-    next_recovered_literal, next_setting, next_source_literal, text_offset, text_range, EntryStep,
-    ListLiterals, ListStep, Recovery, Segments, SettingStep, SourceStep,
-};
-use navyspindle::rendered::rl_flaws::{
-    first_reserving_edition, guess_kind, max_integer, may_be_negated, type_error, type_named,
-    Flaws, Pieces,
-};
-use navyspindle::rendered::rl_lenient::{
-    bool_of, float_parts, float_shape, int_shape, integer_parts, parse_float_literal,
-    parse_int_literal, parse_literal, parse_with_added_minus, shape, shape_negative,
-};
+use navyspindle::rendered::rl_cursors::*;
+use navyspindle::rendered::rl_flaws::*;
+use navyspindle::rendered::rl_lenient::*;
 use navyspindle::rendered::rl_lexer::{Sources, Tokens};
 use navyspindle::rendered::rl_strict::{explain, explain_missing_value, read, LineEnds};
-use navyspindle::rendered::rl_style::{
-    is_changed_by_style, is_safe_to_restyle, rewrite_into, Case, DigitGroups, Restylables,
-    Separator, Style,
-};
-use navyspindle::rendered::rl_syntax::{
-    write_bytes_into, write_char_into, write_str_into, IntegerType, Kind,
-};
-use navyspindle::rendered::rl_writing::{
-    min_raw_hashes, write_char_ascii_into, write_integer_into, write_raw_into, write_str_ascii_into,
-    Base, IntegerStyle,
-};
+use navyspindle::rendered::rl_style::*;
+use navyspindle::rendered::rl_syntax::*;
+use navyspindle::rendered::rl_writing::*;
 
 /// Shows the results of repeated calls, up to the first one for which `is_last` returns `true`.
 fn calls<T: Shown>(mut next: impl FnMut() -> T, is_last: impl Fn(&T) -> bool) -> String {
@@ -45,108 +27,44 @@ macro_rules! lines {
     ($($value:expr),+ $(,)?) => { [$($value.shown() + "\n"),+].concat() };
 }
 
-fn tokens(text: &str) -> String {
-    let mut tokens = Tokens::new(text);
-    calls(|| tokens.next(), Option::is_none) + &lines!(tokens.error(), tokens.rest())
+/// Shows the results that a method of a cursor returns up to `None`, and then the results of other methods.
+macro_rules! cursor {
+    ($cursor:expr, $next:ident $(, $method:ident)*) => {{
+        let mut cursor = $cursor;
+        calls(|| cursor.$next(), Option::is_none) $(+ &lines!(cursor.$method()))*
+    }};
 }
 
-/// Shows each token of a source, the next literal of a cursor that resumes before this token, and what a recovering cursor returns
-/// from there.
+/// Shows the steps that a function returns up to the first one with the pattern.
+macro_rules! steps {
+    ($cursor:expr, $next:path $(, $argument:expr)*; $last:pat) => {{
+        let mut cursor = $cursor;
+        calls(|| $next(&mut cursor $(, $argument)*), |step| matches!(step, $last))
+    }};
+}
+
+/// Shows each token of a source, and before it the next literals of two cursors that resume at this token.
 fn sources(text: &str) -> String {
     let mut tokens = Sources::new(text);
-    let all = calls(
-        || {
-            let rest = tokens.rest();
-            let literal = Sources::resume(text, rest).next_literal();
-            let recovered = Recovery::resume(text, rest).next_literal();
-            ((literal, recovered), tokens.next())
-        },
-        |step| step.1.is_none(),
-    );
+    let next = || {
+        let rest = tokens.rest();
+        let literal = Sources::resume(text, rest).next_literal();
+        let recovered = Recovery::resume(text, rest).next_literal();
+        ((literal, recovered), tokens.next())
+    };
+    let all = calls(next, |step| step.1.is_none());
     all + &lines!(tokens.error(), tokens.rest(), tokens.following_lines())
 }
 
-fn source_literals(text: &str) -> String {
-    let mut tokens = Sources::new(text);
-    calls(
-        || next_source_literal(&mut tokens),
-        |step| !matches!(step, SourceStep::Literal(..)),
-    )
-}
-
-fn recovery(text: &str) -> String {
-    let mut source = Recovery::resume(text, Sources::new(text).rest());
-    calls(
-        || next_recovered_literal(&mut source),
-        |step| matches!(step, SourceStep::End),
-    ) + &lines!(source.rest())
-}
-
-fn literals(text: &str) -> String {
-    let mut tokens = Tokens::new(text);
-    calls(|| next_literal(&mut tokens), Option::is_none)
-}
-
-fn list(text: &str) -> String {
-    let mut literals = ListLiterals::new(text);
-    calls(
-        || literals.next(),
-        |step| !matches!(step, ListStep::Literal(_)),
-    ) + &lines!(literals.rest())
-}
-
-fn settings(text: &str) -> String {
-    let mut tokens = Tokens::new(text);
-    calls(
-        || next_setting(&mut tokens, text.len()),
-        |step| !matches!(step, SettingStep::Setting(_)),
-    )
-}
-
-fn entries(text: &str) -> String {
-    let mut tokens = Tokens::new(text);
-    calls(
-        || next_config_entry(&mut tokens, text),
-        |step| !matches!(step, EntryStep::Entry(_)),
-    )
-}
-
-fn leading(text: &str) -> String {
-    lines!(
-        leading_literal(text),
-        leading_signed_literal(text),
-        first_error(text)
-    )
-}
-
-fn found(text: &str) -> String {
-    lines!(
-        parse_literal(text),
-        parse_int_literal(text),
-        parse_float_literal(text),
-        parse_with_added_minus(text),
-        shape(text),
-        int_shape(text),
-        float_shape(text),
-        shape_negative(text),
-        integer_parts(text),
-        float_parts(text),
-        bool_of(text)
-    )
-}
-
-/// Shows the segments of a quoted literal, where each byte of its value comes from, and where the value's first half and the rest
-/// without its last byte come from.
+/// Shows the segments of a quoted literal, where each byte of its value comes from, and where the halves of the value come from.
 fn segments(text: &str) -> String {
-    let (Some(mut segments), Some(found)) = (Segments::of(text), parse_literal(text)) else {
+    let (Some(segments), Some(found)) = (Segments::of(text), parse_literal(text)) else {
         return String::new();
     };
-    let len: usize = Segments::of(text)
-        .into_iter()
-        .flatten()
-        .map(|it| it.value.len())
-        .sum();
-    let mut out = calls(|| segments.next(), Option::is_none);
+    let (mut out, mut len) = (cursor!(segments, next), 0);
+    for segment in Segments::of(text).into_iter().flatten() {
+        len += segment.value.len();
+    }
     for at in 0..len + 2 {
         out += &lines!(text_offset(text, at));
     }
@@ -156,13 +74,12 @@ fn segments(text: &str) -> String {
 }
 
 fn strict(text: &str) -> String {
-    let mut out = lines!(explain(text));
+    let flaw = explain(text);
+    let mut out = lines!(flaw, flaw.map(|it| it.in_span(Span::new(7, 3, 9))));
     for ends in [LineEnds::Text, LineEnds::File] {
         for signed in [false, true] {
-            out += &lines!(
-                read(text, ends, signed),
-                explain_missing_value(text, ends, signed)
-            );
+            let missing = explain_missing_value(text, ends, signed);
+            out += &lines!(read(text, ends, signed), missing);
         }
     }
     out
@@ -172,34 +89,21 @@ fn flaws(text: &str) -> String {
     let mut out = String::new();
     for ends in [LineEnds::Text, LineEnds::File] {
         if let Err(flaw) = read(text, ends, false) {
-            let (first, mut flaws) = Flaws::after(text, ends, flaw);
-            out += &(lines!(first) + &calls(|| flaws.next(), Option::is_none));
+            let (first, flaws) = Flaws::after(text, ends, flaw);
+            out += &(lines!(first) + &cursor!(flaws, next));
         }
     }
     out
 }
 
-fn pieces(text: &str) -> String {
-    match Pieces::of(text) {
-        Some(mut pieces) => calls(|| pieces.next(), Option::is_none),
-        None => String::new(),
-    }
-}
-
 fn types(text: &str) -> String {
-    let mut out = lines!(guess_kind(text));
-    if let Some(found) = parse_literal(text) {
-        let named = type_named(found.suffix_in(text));
-        let greatest = |negated| named.and_then(|it| max_integer(it, negated));
-        out += &lines!(
-            type_error(text, &found, false),
-            type_error(text, &found, true),
-            named,
-            greatest(false),
-            greatest(true)
-        );
-    }
-    out
+    let Some(found) = parse_literal(text) else {
+        return lines!(guess_kind(text));
+    };
+    let named = type_named(found.suffix_in(text));
+    let errors = [false, true].map(|it| type_error(text, &found, it));
+    let greatest = [false, true].map(|it| named.and_then(|ty| max_integer(ty, it)));
+    lines!(guess_kind(text), errors[0], errors[1], named) + &lines!(greatest[0], greatest[1])
 }
 
 /// Shows what the text before each literal of a source means for the literal.
@@ -207,10 +111,8 @@ fn before(text: &str) -> String {
     let (mut tokens, mut out) = (Sources::new(text), String::new());
     while let Some(literal) = tokens.next_literal() {
         let before = &text[..literal.lo];
-        out += &lines!(
-            first_reserving_edition(before, literal.text),
-            may_be_negated(before)
-        );
+        let edition = first_reserving_edition(before, literal.text);
+        out += &lines!(edition, may_be_negated(before));
     }
     out
 }
@@ -218,127 +120,137 @@ fn before(text: &str) -> String {
 /// Shows the text as literals, as the writers write them into a buffer: as strings, its first two characters as characters, and its
 /// number of bytes times a great number as integers.
 fn written(text: &str) -> String {
-    let mut room = vec![0; 16 * text.len() + 600];
-    let mut lines = String::new();
-    let mut show = |len: usize, room: &[u8]| {
-        lines += &lines!(std::str::from_utf8(&room[..len]).expect("a literal is text"));
+    let (mut room, mut out) = (vec![0; 16 * text.len() + 600], String::new());
+    let mut show = |write: &dyn Fn(&mut [u8]) -> usize| {
+        let len = write(&mut room);
+        out += &lines!(std::str::from_utf8(&room[..len]).expect("a literal is text"));
     };
-    show(write_str_into(text, &mut room), &room);
-    show(
-        write_bytes_into(Kind::ByteStr, text.as_bytes(), &mut room),
-        &room,
-    );
-    show(write_str_ascii_into(text, &mut room), &room);
+    show(&|room| write_str_into(text, room));
+    show(&|room| write_bytes_into(Kind::ByteStr, text.as_bytes(), room));
+    show(&|room| write_str_ascii_into(text, room));
     for c in text.chars().take(2) {
-        show(write_char_into(c, &mut room), &room);
-        show(write_char_ascii_into(c, &mut room), &room);
+        show(&|room| write_char_into(c, room));
+        show(&|room| write_char_ascii_into(c, room));
     }
     for kind in [Kind::Str, Kind::ByteStr, Kind::CStr] {
         if let Some(hashes) = min_raw_hashes(kind, text) {
-            show(write_raw_into(kind, hashes, text, &mut room), &room);
+            show(&|room| write_raw_into(kind, hashes, text, room));
         }
     }
     let value = text.len() as u128 * 0x0123_4567_89AB_CDEF_0123_4567;
-    for (base, group) in [
-        (Base::Binary, 8),
-        (Base::Octal, 0),
-        (Base::Decimal, 3),
-        (Base::Hexadecimal, 4),
-    ] {
+    let bases = [Base::Binary, Base::Octal, Base::Decimal, Base::Hexadecimal];
+    for (base, group) in bases.into_iter().zip([8, 0, 3, 4]) {
+        let (upper, least) = (group == 4, 5);
         let style = IntegerStyle {
             base,
-            upper: group == 4,
+            upper,
             group,
-            least: 5,
+            least,
         };
-        let len = write_integer_into(value, style, Some(IntegerType::U128), &mut room);
-        show(len, &room);
-    }
-    lines
-}
-
-/// A style with all rules.
-const FULL: Style = Style {
-    hex_digits: Some(Case::Lower),
-    underscores: true,
-    leading_zeros: true,
-    suffix_separator: Some(Separator::Underscore),
-    digit_groups: Some(DigitGroups {
-        binary: 4,
-        octal: 3,
-        decimal: 3,
-        hexadecimal: 4,
-        least: 5,
-    }),
-    float_zero: true,
-    exponent_letter: Some(Case::Lower),
-    exponent_plus: true,
-    escape_digits: Some(Case::Upper),
-    code_digits: true,
-    ascii_escapes: true,
-    named_escapes: true,
-    quote_escapes: true,
-    raw_hashes: true,
-    raw: true,
-    hidden: true,
-};
-
-/// A style with the other case of letters, with fewest hashes, and without underscores before a suffix.
-const SPARSE: Style = Style {
-    hex_digits: Some(Case::Upper),
-    suffix_separator: Some(Separator::Nothing),
-    exponent_letter: Some(Case::Upper),
-    escape_digits: Some(Case::Lower),
-    raw_hashes: true,
-    hidden: true,
-    ..Style::KEEP
-};
-
-fn restyled(text: &str) -> String {
-    let mut room = vec![0; 4 * text.len() + 1];
-    let mut out = String::new();
-    for (front, style) in [("", FULL), ("#", FULL), ("", SPARSE)] {
-        out += &lines!(is_changed_by_style(front, text, style, &mut room));
-        let len = rewrite_into(front, text, style, &mut room);
-        let text = |len| std::str::from_utf8(&room[..len]).expect("a literal is text");
-        out += &lines!(len.map(text));
+        show(&|room| write_integer_into(value, style, Some(IntegerType::U128), room));
     }
     out
 }
 
-fn restylable(text: &str) -> String {
-    let mut literals = Restylables::new(text);
-    calls(|| literals.next(), Option::is_none)
-        + &lines!(
-            literals.has_stray(),
-            literals.error(),
-            is_safe_to_restyle(text)
-        )
+/// Returns a style with all rules. Digits, exponents and escapes get the given case.
+fn style(letters: Case, escapes: Case, separator: Separator) -> Style {
+    let (binary, octal, decimal, hexadecimal, least) = (4, 3, 3, 4, 5);
+    Style {
+        hex_digits: Some(letters),
+        underscores: true,
+        leading_zeros: true,
+        suffix_separator: Some(separator),
+        digit_groups: Some(DigitGroups {
+            binary,
+            octal,
+            decimal,
+            hexadecimal,
+            least,
+        }),
+        float_zero: true,
+        exponent_letter: Some(letters),
+        exponent_plus: true,
+        escape_digits: Some(escapes),
+        code_digits: true,
+        ascii_escapes: true,
+        named_escapes: true,
+        quote_escapes: true,
+        raw_hashes: true,
+        raw: true,
+        hidden: true,
+    }
+}
+
+fn restyled(text: &str) -> String {
+    let (mut room, mut out) = (vec![0; 4 * text.len() + 1], String::new());
+    let full = style(Case::Lower, Case::Upper, Separator::Underscore);
+    let other = style(Case::Upper, Case::Lower, Separator::Nothing);
+    let sparse = Style {
+        underscores: false,
+        digit_groups: None,
+        ascii_escapes: false,
+        raw: false,
+        ..other
+    };
+    for (front, style) in [("", full), ("#", full), ("", sparse)] {
+        out += &lines!(is_changed_by_style(front, text, style, &mut room));
+        let len = rewrite_into(front, text, style, &mut room);
+        out += &lines!(len.map(|it| std::str::from_utf8(&room[..it]).expect("a literal is text")));
+    }
+    out
 }
 
 /// Returns the results of a command for a text, or `None` for an unknown command.
 pub fn core_call(command: &str, text: &str) -> Option<String> {
-    let answer = match command {
-        "tokens" => tokens,
-        "sources" => sources,
-        "source-literals" => source_literals,
-        "recovery" => recovery,
-        "literals" => literals,
-        "list" => list,
-        "settings" => settings,
-        "entries" => entries,
-        "leading" => leading,
-        "found" => found,
-        "segments" => segments,
-        "strict" => strict,
-        "flaws" => flaws,
-        "pieces" => pieces,
-        "types" => types,
-        "before" => before,
-        "written" => written,
-        "restyled" => restyled,
-        "restylable" => restylable,
+    Some(match command {
+        "tokens" => cursor!(Tokens::new(text), next, error, rest),
+        "sources" => sources(text),
+        "source-literals" => {
+            steps!(Sources::new(text), next_source_literal; SourceStep::End | SourceStep::Rejected(_))
+        }
+        "recovery" => {
+            steps!(Recovery::resume(text, Sources::new(text).rest()), next_recovered_literal; SourceStep::End)
+        }
+        "literals" => steps!(Tokens::new(text), next_literal; None),
+        "list" => {
+            steps!(ListLiterals::new(text), ListLiterals::next; ListStep::End | ListStep::Rejected(_))
+        }
+        "settings" => {
+            steps!(Tokens::new(text), next_setting, text.len(); SettingStep::End | SettingStep::Rejected(_))
+        }
+        "entries" => {
+            steps!(Tokens::new(text), next_config_entry, text; EntryStep::End | EntryStep::Rejected(_))
+        }
+        "leading" => lines!(
+            leading_literal(text),
+            leading_signed_literal(text),
+            first_error(text)
+        ),
+        "found" => {
+            lines!(
+                parse_literal(text),
+                parse_int_literal(text),
+                parse_float_literal(text),
+                parse_with_added_minus(text)
+            ) + &lines!(
+                shape(text),
+                int_shape(text),
+                float_shape(text),
+                shape_negative(text)
+            ) + &lines!(integer_parts(text), float_parts(text), bool_of(text))
+        }
+        "segments" => segments(text),
+        "strict" => strict(text),
+        "flaws" => flaws(text),
+        "pieces" => Pieces::of(text).map_or(String::new(), |it| cursor!(it, next)),
+        "types" => types(text),
+        "before" => before(text),
+        "written" => written(text),
+        "restyled" => restyled(text),
+        "restylable" => {
+            cursor!(Restylables::new(text), next, has_stray, error)
+                + &lines!(is_safe_to_restyle(text))
+        }
         _ => return None,
-    };
-    Some(answer(text))
+    })
 }

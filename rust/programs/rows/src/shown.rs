@@ -1,21 +1,15 @@
-//! Shows the values of the core as lists in parentheses, as `tools/mir` shows the values of the proved code.
+//! Shows the values of the core as lists in parentheses, as `tools/core_calls.py` shows the values of the proved code.
 //!
 //! A struct is the list of its fields. A value of an enum is the list of its variant's number and the variant's fields. A text is in
 //! double quotes, and a character is its number.
 
-use navyspindle::rendered::rl_cursors::{
-    DottedName, EntryRejection, EntryStep, LeadingLiteral, ListStep, NextEntry, NextLiteral,
-    NextSetting, Part, Rejection, RejectionKind, Segment, SegmentValue, SettingRejection,
-    SettingStep, SourceStep, SyntaxError, SyntaxErrorKind,
-};
-use navyspindle::rendered::rl_flaws::{
-    Edition, InvalidPiece, NumberType, Piece, TypeError,
-};
+use navyspindle::rendered::rl_cursors::*;
+use navyspindle::rendered::rl_flaws::{Edition, InvalidPiece, NumberType, Piece, TypeError};
 use navyspindle::rendered::rl_lenient::{Body, FloatParts, Found, IntegerParts, Parts};
 use navyspindle::rendered::rl_lexer::{Form, LexError, LexKind, Lexeme, SourceForm, SourceToken};
 use navyspindle::rendered::rl_strict::{Flaw, FlawKind, Reading};
 use navyspindle::rendered::rl_style::Restylable;
-use navyspindle::rendered::rl_syntax::{IntegerType, Kind};
+use navyspindle::rendered::rl_syntax::{IntegerType, Kind, Span};
 
 /// A value that is shown.
 pub trait Shown {
@@ -29,62 +23,46 @@ fn list(values: &[&dyn Shown]) -> String {
     format!("({})", values.join(" "))
 }
 
-macro_rules! numbers {
-    ($($type:ty)+) => {$(
+/// Shows the values of each type as the text that the expression returns.
+macro_rules! texts {
+    ($($type:ty: $it:ident => $text:expr;)+) => {$(
         impl Shown for $type {
             fn shown(&self) -> String {
-                self.to_string()
+                let $it = self;
+                $text
             }
         }
     )+};
 }
 
+/// Shows a struct as the list of these fields.
 macro_rules! structs {
-    ($($type:ty: $($field:ident)+;)+) => {$(
-        impl Shown for $type {
-            fn shown(&self) -> String {
-                list(&[$(&self.$field),+])
-            }
-        }
-    )+};
+    ($($type:ty: $($field:ident)+;)+) => { texts! { $($type: it => list(&[$(&it.$field),+]);)+ } };
 }
 
+/// Shows an enum's value as the list of its variant's number and these fields.
 macro_rules! enums {
-    ($($type:ty { $($variant:ident $(($($field:ident)+))? = $number:literal)+ })+) => {$(
-        impl Shown for $type {
-            fn shown(&self) -> String {
-                match self {
-                    $(Self::$variant $(($($field),+))? => list(&[&$number $($(, $field)+)?]),)+
-                    #[allow(unreachable_patterns)]
-                    _ => panic!("a variant without a number"),
-                }
-            }
-        }
-    )+};
+    ($($type:ty { $($variant:ident $(($($field:ident)+))? = $number:literal)+ })+) => { texts! { $($type: it => match it {
+        $(Self::$variant $(($($field),+))? => list(&[&$number $($(, $field)+)?]),)+
+        #[allow(unreachable_patterns)]
+        _ => panic!("a variant without a number"),
+    };)+ } };
 }
 
-macro_rules! enums_without_fields {
-    ($($type:ty)+) => {$(
-        impl Shown for $type {
-            fn shown(&self) -> String {
-                list(&[&(*self as u8)])
-            }
-        }
-    )+};
+/// Shows a value of an enum without fields as the list of its variant's number.
+macro_rules! plain_enums {
+    ($($type:ty)+) => { texts! { $($type: it => list(&[&(*it as u8)]);)+ } };
 }
 
-numbers! { u8 i32 u32 u128 usize bool }
-
-impl Shown for char {
-    fn shown(&self) -> String {
-        u32::from(*self).to_string()
-    }
-}
-
-impl Shown for &str {
-    fn shown(&self) -> String {
-        format!("\"{self}\"")
-    }
+texts! {
+    bool: it => it.to_string();
+    char: it => u32::from(*it).to_string();
+    i32: it => it.to_string();
+    u8: it => it.to_string();
+    u32: it => it.to_string();
+    u128: it => it.to_string();
+    usize: it => it.to_string();
+    &str: it => format!("\"{it}\"");
 }
 
 impl<T: Shown, U: Shown> Shown for (T, U) {
@@ -95,19 +73,14 @@ impl<T: Shown, U: Shown> Shown for (T, U) {
 
 impl<T: Shown> Shown for Option<T> {
     fn shown(&self) -> String {
-        match self {
-            None => list(&[&0]),
-            Some(it) => list(&[&1, it]),
-        }
+        self.as_ref().map_or(list(&[&0]), |it| list(&[&1, it]))
     }
 }
 
 impl<T: Shown, E: Shown> Shown for Result<T, E> {
     fn shown(&self) -> String {
-        match self {
-            Ok(it) => list(&[&0, it]),
-            Err(it) => list(&[&1, it]),
-        }
+        self.as_ref()
+            .map_or_else(|it| list(&[&1, it]), |it| list(&[&0, it]))
     }
 }
 
@@ -132,13 +105,15 @@ structs! {
     Segment<'_>: lo hi value;
     SettingRejection<'_>: name error;
     SourceToken<'_>: form text lo hi;
+    Span: file lo hi;
     SyntaxError: kind lo hi;
 }
 
-enums_without_fields! { Edition FlawKind IntegerType Kind LexKind Part TypeError }
+plain_enums! { Edition FlawKind IntegerType Kind LexKind Part TypeError }
 
 enums! {
     EntryStep<'_> { End = 0 Entry(it) = 1 Rejected(it) = 2 }
+    Form { Literal = 0 Identifier = 1 Delimiter(it) = 2 Mark(it) = 3 }
     ListStep<'_> { End = 0 Literal(it) = 1 Rejected(it) = 2 }
     NumberType { Integer(it) = 0 F32 = 1 F64 = 2 }
     Piece<'_> { Good(it) = 0 Bad(it) = 1 }
@@ -146,7 +121,6 @@ enums! {
     RejectionKind { Lex(it) = 0 Group = 1 UnmatchedClose = 2 NotALiteral = 3 }
     SegmentValue<'_> { Text(it) = 0 Char(it) = 1 Byte(it) = 2 Nothing = 3 }
     SettingStep<'_> { End = 0 Setting(it) = 1 Rejected(it) = 2 }
-    Form { Literal = 0 Identifier = 1 Delimiter(it) = 2 Mark(it) = 3 }
     SourceForm { Token(it) = 0 RawIdentifier = 1 Lifetime = 2 DocComment = 3 Stray = 4 }
     SourceStep<'_> { End = 0 Literal(token found) = 1 Rejected(it) = 2 }
     SyntaxErrorKind {
