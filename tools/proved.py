@@ -102,8 +102,6 @@ def padded(values, size):
     return tuple(it for value in values for it in (value,) + (None,) * (size - 1))
 
 
-# Integers.
-
 def signed(pattern, width):
     return pattern - (1 << width) if pattern >> (width - 1) else pattern
 
@@ -154,8 +152,6 @@ def operation(operator, width, *operands):
         python = python.replace(f'%{number}', operand)
     return python
 
-
-# Types.
 
 def key_of(type_, types=()):
     """Returns the type as nested tuples, without lifetimes, and with `types` in place of its parameters."""
@@ -246,8 +242,6 @@ class Writer:
     def line(self, depth, text):
         self.lines.append(' ' * depth + text)
 
-    # Types of places.
-
     def type(self, type_):
         return key_of(type_, self.types)
 
@@ -279,8 +273,6 @@ class Writer:
             return 'Bool'
         (form, of), = operand.items()
         return self.place_type(of) if form == 'Copy' else ('Int', of['width'] if form == 'Int' else 64)
-
-    # Places.
 
     def local(self, number_):
         return f'v{number_}[0]' if number_ in self.boxed else f'v{number_}'
@@ -326,8 +318,6 @@ class Writer:
         if pointer is None:
             return f"Pointer(v{place['local']}, 0, {tuple(path + inside)})"
         return pointer + (f".field({', '.join(map(str, path + inside))})" if path else '')
-
-    # Values.
 
     def operand(self, operand):
         if isinstance(operand, str):
@@ -377,8 +367,6 @@ class Writer:
         if form == 'Vec1' and 'Bitmask' in of[0]:
             return f'sum([1 << at for at, it in enumerate({self.operand(of[1])}) if it])'
         return f'unknown({form!r})'
-
-    # Statements.
 
     def statement(self, depth):
         """Writes the next statement of the body, which is in prefix form."""
@@ -532,29 +520,17 @@ class Library:
 
 # The system's memory. A block has a place for each byte.
 
-# The numbers of the first and the last allocation that fails, and the number of allocations.
-failing, asked = range(0), 0
-
-
-def is_granted():
-    global asked
-    asked += 1
-    return asked not in failing
-
-
 def allocate(_, size, align):
-    return is_granted(), Pointer([None] * size, 0)
+    return True, Pointer([None] * size, 0)
 
 
 def reallocate(_, old, old_size, size, align):
-    return is_granted(), Pointer((old.cells[:old_size] + [None] * (size - old_size))[:size], 0)
+    return True, Pointer((old.cells[:old_size] + [None] * (size - old_size))[:size], 0)
 
 
 def release(*_):
     return ()
 
-
-# Values of callers.
 
 def text(value):
     """Returns a text or bytes as the code is given it: a pointer and a length."""

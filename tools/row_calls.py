@@ -2,7 +2,6 @@
 rust/programs/rows/tests/calls, and `COMMANDS` one for each command of `rl_rows`. Their results have the form of these rows.
 """
 import callers
-import proved
 from callers import ALLOC, BYTES, GLOBAL, INPUT, STRING, at, implementation, run
 from proved import Pointer, bytes_of, string, text
 
@@ -10,8 +9,8 @@ KINDS = 'Str ByteStr CStr Byte Char Int Float Bool'.split()
 MODULES = {'Str': 'str', 'ByteStr': 'byte_str', 'CStr': 'c_str', 'Byte': 'byte', 'Char': 'char', 'Int': 'int', 'Float': 'float'}
 # The variants of `Lit` that are numbers.
 NUMBERS = {5: 'Int', 6: 'Float'}
-# Two spans that callers pass, and that no call creates by itself.
-HERE, THERE = (7, 3, 9), (3, 1, 2)
+# A span that callers pass, and that no call creates by itself.
+HERE = (7, 3, 9)
 LIT = 'Named', 'rust_literals::lit::Lit', (GLOBAL,)
 PROGRAM_ERROR = 'Named', 'rl_program::program_error::ProgramError', (GLOBAL,)
 
@@ -23,8 +22,6 @@ def literal_type(kind):
     crate, holder = ('rust_literals', 'number::Number') if kind in NUMBERS.values() else ('rl_quoted', 'quoted::Quoted')
     return 'Named', f'{crate}::{holder}', (('Named', f'{crate}::lit_{MODULES[kind]}::{kind}Kind', ()), GLOBAL)
 
-
-# Values of the libraries.
 
 def written(name, value, types=(GLOBAL,)):
     """Returns what an implementation of `Display` or `Debug` writes."""
@@ -111,8 +108,6 @@ def number_part(method, number, kind):
     return string(number_call(method, kind, at(number)))
 
 
-# Rows of the grammar.
-
 def parts(found):
     if found[0] == 0:
         return 'None'
@@ -139,8 +134,6 @@ def flaw_of(name, *values):
     return shown
 
 
-# Rows of tokens.
-
 def tree_form(tree):
     number, of = tree
     if number == 0:
@@ -160,12 +153,8 @@ def lex_kind(kind):
     return written('rl_lexer::lex_error::LexKindDebug::fmt', kind, ())
 
 
-def lexed(row, file):
-    return run('rl_tokens::lexer::lex', ALLOC, text(row), file)
-
-
 def lex(row):
-    answer = lexed(row, 7)
+    answer = run('rl_tokens::lexer::lex', ALLOC, text(row), 7)
     return f'{lex_kind(answer[1][0])} {answer[1][1]}' if answer[0] else nested(answer[1][0])
 
 
@@ -217,25 +206,20 @@ def characters(row):
     return ''.join(made('character', ord(c)) + literal_line('Char', quoted_new('Char', ord(c))) for c in row)
 
 
-# Rows of buffers and parsers.
-
 def buffer(method, input_, *values, types=None):
     return run(f'rl_tokens::buffer::ParseBuffer::{method}', input_, *values, types=types)
 
 
 def buffer_of(row):
-    """Returns a buffer over the trees of a text, and the number of trees, or `None`."""
-    answer, size = lexed(row, 0), len(row.encode())
-    if answer[0]:
-        return None, 0
-    trees = run('rl_tokens::token::TokenStream::trees', at(answer[1]))
-    return at(buffer('new', trees, (0, size, size))), trees[1]
+    """Returns a buffer over the trees of a text, or `None`."""
+    answer, size = run('rl_tokens::lexer::lex', ALLOC, text(row), 0), len(row.encode())
+    return None if answer[0] else at(buffer('new', run('rl_tokens::token::TokenStream::trees', at(answer[1])), (0, size, size)))
 
 
 def parser(type_):
     """Returns the function of the rows of a type's parser: its name in messages, its peek, its result, and the position after it."""
     def shown(row):
-        input_, _ = buffer_of(row)
+        input_ = buffer_of(row)
         if input_ is None:
             return 'no trees'
         name, types, dicts = implementation('rl_tokens::parse::Token', type_)
@@ -246,25 +230,8 @@ def parser(type_):
     return shown
 
 
-def taken(input_):
-    """Shows which methods accept the next tree, each on a fork of the buffer, and consumes the tree."""
-    names = [it for it in ('ident', 'punct', 'literal', 'group') if buffer(it, at(buffer('fork', input_)))[0]]
-    head = f"{place(buffer('span', input_))} of {buffer('rest', input_)[1]}:{''.join(' ' + it for it in names)}\n"
-    if not names:
-        return head + 'nothing\n'
-    it = buffer(names[0], input_)[1].read()
-    inside = f'{len(items(it[1][0]))} inside' if names[0] == 'group' else chr(it[0]) if names[0] == 'punct' else owned(it[0])
-    return f'{head}{inside}\n'
-
-
-def takers(row):
-    input_, count = buffer_of(row)
-    out = ''.join(taken(input_) for _ in range(count))
-    return f"{out}{bool_word(buffer('is_empty', input_))} {taken(input_)}"
-
-
 def mark(row):
-    input_, _ = buffer_of(row)
+    input_ = buffer_of(row)
     group = buffer('group', input_)
     if group[0]:
         input_ = at(run('rl_tokens::token::Group::inside', group[1]))
@@ -280,24 +247,6 @@ def value_ref(literal):
     return bytes_of(found[1]) if found[0] else None
 
 
-# Rows of failed allocations, and of `rl_tool`.
-
-def all_failing(row):
-    given = token(row)
-    proved.asked, proved.failing = 0, range(1, 1 << 64)
-    try:
-        number, answer = run('rust_literals::lit::Lit::new', ALLOC, given)
-    finally:
-        proved.failing = range(0)
-    if number:
-        value, error = answer
-        return f'{message(error)} {place(error[0])} {owned(value[0])} {place(value[1])}'
-    kind = NUMBERS.get(answer[0])
-    if kind:
-        return f"{kind} {number_part('base10_digits', answer[1], kind)} {number_part('suffix', answer[1], kind)}"
-    return f"{string(lit('text', answer))} {string(lit('suffix', answer))}"
-
-
 def called(row):
     """Runs `rl_tool`. A row has the arguments, one in each line, then U+001F, then standard input."""
     words, given = row.split('\x1f', 1)
@@ -310,23 +259,11 @@ def called(row):
     return f"{shown}{status} {written('rl_program::exit::EndingDisplay::fmt', ending, (PROGRAM_ERROR,))}\n"
 
 
-# Commands of `rl_rows`.
-
 def output_lines(name):
     def shown(row):
         answer = run(f'rl_program::{name}', ALLOC, text(row))
         error = answer[0] and written('rl_program::program_error::ProgramErrorDisplay::fmt', answer[1])
         return (error + '\n' if error else owned(answer[1])) + '.\n'
-    return shown
-
-
-def number_line(kind):
-    def shown(row):
-        answer = number_call('new', kind, ALLOC, text(row), HERE)
-        if answer[0] == 0:
-            return line((KINDS.index(kind), answer[1]))
-        error = written('rl_tokens::error::ErrorKindDebug::fmt', answer[1][1])
-        return f"{'TooLarge' if error == 'TooLarge' else None}\n"
     return shown
 
 
@@ -339,8 +276,7 @@ def value_line(row):
 
 
 COMMANDS = {
-    'text': lambda row: line(literal_of(row)), 'value': value_line, 'int': number_line('Int'), 'float': number_line('Float'),
-    'skip': lambda row: f"{run('rl_lexer::whitespace::skip', text(row))[1]}\n",
+    'text': lambda row: line(literal_of(row)), 'value': value_line, 'skip': lambda row: f"{run('rl_lexer::whitespace::skip', text(row))[1]}\n",
     'strict': lambda row: bool_word(run('rl_grammar::strict::is_token', text(row))) + '\n',
     'read': output_lines('list::literal_lines'), 'attr': output_lines('attribute_lines::attribute_lines'),
 }
@@ -352,9 +288,8 @@ ROWS = {
     'flaws': {'explain': flaw_of('explain'), 'explain-value': flaw_of('explain_missing_value', (0,), True)},
     'tokens': {
         'lex': lex, 'string': string_row, 'byte_string': byte_string, 'c_string': c_string, 'characters': characters,
-        'takers': takers, 'mark': mark,
+        'mark': mark,
     },
-    'failing': {'all_failing': all_failing},
     'parsers': {'Lit': parser(LIT), **{f'Lit{it}': parser(literal_type(it)) for it in KINDS}},
     'calls': {'call': called},
 }
