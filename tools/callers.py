@@ -9,12 +9,14 @@ INPUT = 'Struct', '&[]', (('Ref', ('Int', 8)), ('Int', 64))
 STRING = 'Named', 'std_alloc::string::String', (GLOBAL,)
 BYTES = 'Named', 'std_alloc::vec::Vec', (('Int', 8), GLOBAL)
 
-# The implementations whose names aren't the names of their type and trait.
+LIT_BOOL = 'Named', 'rust_literals::lit_bool::LitBool', ()
+
+# The implementations whose names or type arguments aren't those of their type.
 IMPLEMENTATIONS = {
-    ('core::clone::Clone', GLOBAL): 'core::clone::Clone+copy',
-    ('core::fmt::Write', STRING): 'std_alloc::fmt::StringWrite',
-    ('std::io::traits::Write', BYTES): 'std::io::impls::VecU8Write',
-    ('std::io::traits::Read', INPUT): 'std::io::impls::RefSliceU8Read',
+    ('core::fmt::Write', STRING): ('std_alloc::fmt::StringWrite', (GLOBAL,)),
+    ('std::io::traits::Write', BYTES): ('std::io::impls::VecU8Write', (GLOBAL,)),
+    ('std::io::traits::Read', INPUT): ('std::io::impls::RefSliceU8Read', ()),
+    ('rl_tokens::parse::Parse', LIT_BOOL): ('rust_literals::lit_bool::LitBoolParse', (GLOBAL,)),
 }
 
 # The libraries, which `tools/mir` sets.
@@ -26,9 +28,8 @@ def implementation(trait, type_):
     if trait == 'core::marker::Destruct':
         return 'core::Destruct++none', (type_,), ()
     if trait == 'core::clone::Clone' and type_ == GLOBAL:
-        return IMPLEMENTATIONS[trait, type_], (GLOBAL,), ()
-    name = IMPLEMENTATIONS.get((trait, type_)) or type_[1] + trait.split('::')[-1]
-    types = () if type_ == INPUT else (GLOBAL,) if type_ == BYTES else type_[2]
+        return 'core::clone::Clone+copy', (GLOBAL,), ()
+    name, types = IMPLEMENTATIONS.get((trait, type_), (type_[1] + trait.split('::')[-1], type_[2]))
     library.load(name.split('::')[0])
     method = library.methods.get((name, 0))
     bounds = library.functions[method]['generics']['bounds'] if method else []

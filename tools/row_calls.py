@@ -2,7 +2,7 @@
 rust/programs/rows/tests/calls, and `COMMANDS` one for each command of `rl_rows`. Their results have the form of these rows.
 """
 import callers
-from callers import ALLOC, BYTES, GLOBAL, INPUT, STRING, at, implementation, run
+from callers import ALLOC, BYTES, GLOBAL, INPUT, LIT_BOOL, STRING, at, implementation, run
 from proved import Pointer, bytes_of, string, text
 
 KINDS = 'Str ByteStr CStr Byte Char Int Float Bool'.split()
@@ -18,7 +18,7 @@ PROGRAM_ERROR = 'Named', 'rl_program::program_error::ProgramError', (GLOBAL,)
 def literal_type(kind):
     """Returns the type of the literals of a kind."""
     if kind == 'Bool':
-        return 'Named', 'rust_literals::lit_bool::LitBool', ()
+        return LIT_BOOL
     crate, holder = ('rust_literals', 'number::Number') if kind in NUMBERS.values() else ('rl_quoted', 'quoted::Quoted')
     return 'Named', f'{crate}::{holder}', (('Named', f'{crate}::lit_{MODULES[kind]}::{kind}Kind', ()), GLOBAL)
 
