@@ -4,9 +4,11 @@
 pub mod answers;
 pub mod command;
 pub mod commands;
+pub mod core_calls;
 pub mod failing;
 pub mod one_text;
 pub mod settings;
+pub mod shown;
 pub mod texts;
 include!(concat!(env!("OUT_DIR"), "/modules.rs"));
 
