@@ -1,6 +1,6 @@
 //! Decoded values of literals whose text differs from their value, such as strings with escapes.
 
-use crate::rl_lenient::units::{parse_char_or_escape, split_plain, Piece};
+use crate::rl_cursors::{split_segment, SegmentValue};
 use crate::rl_lenient::{decode_bytes_into, float_digits_into};
 use crate::rl_syntax::Kind;
 use alloc::string::String;
@@ -22,19 +22,17 @@ fn written(front: &str, body: &str, write: impl FnOnce(&str, &mut [u8]) -> usize
 /// body.
 pub(crate) fn text_of(body: &str) -> String {
     let (mut out, mut rest) = (String::with_capacity(body.len()), body);
-    loop {
-        let (run, later) = split_plain(Kind::Str, rest);
-        out.push_str(run);
-        let Some((piece, after)) = parse_char_or_escape(Kind::Str, later) else {
-            return out;
-        };
-        match piece {
-            Piece::Character(c) => out.push(c),
-            Piece::Byte(byte) => out.push(char::from(byte)),
-            Piece::Nothing => {}
+    while !rest.is_empty() {
+        let (value, after) = split_segment(Kind::Str, false, rest);
+        match value {
+            SegmentValue::Text(run) => out.push_str(run),
+            SegmentValue::Char(c) => out.push(c),
+            SegmentValue::Byte(_) => unreachable!("a string holds characters"),
+            SegmentValue::Nothing => {}
         }
         rest = after;
     }
+    out
 }
 
 /// Returns the value of a byte string or a C string whose body has escapes.

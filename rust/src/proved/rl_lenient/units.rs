@@ -261,7 +261,7 @@ pub fn parse_char_or_escape(kind: Kind, text: &str) -> Option<(Piece, &str)> {
 /// whole text.
 #[inline(always)]
 pub fn split_before_mark_or_non_ascii(marks: Marks, text: &str) -> (&str, &str) {
-    text.split_at(ascii_len_before_mark(marks, text.as_bytes()))
+    crate::slices::split_at!(text, ascii_len_before_mark(marks, text.as_bytes()))
 }
 
 /// Whether all characters of the text are ASCII.
@@ -318,5 +318,5 @@ fn plain_len(kind: Kind, bytes: &[u8]) -> usize {
 /// Splits the text after the leading characters that a string literal of the kind may contain unescaped.
 #[inline(always)]
 pub fn split_plain(kind: Kind, text: &str) -> (&str, &str) {
-    text.split_at(plain_len(kind, text.as_bytes()))
+    crate::slices::split_at!(text, plain_len(kind, text.as_bytes()))
 }

@@ -7,7 +7,7 @@ use crate::rl_syntax::text::split_ascii;
 /// Splits the text before its first line feed. If it has no line feed, the first part is the whole text.
 #[inline(always)]
 pub fn split_line(text: &str) -> (&str, &str) {
-    text.split_at(line_len(text.as_bytes()))
+    crate::slices::split_at!(text, line_len(text.as_bytes()))
 }
 
 /// Returns the text after its first line feed, or `None` if it has no line feed.

@@ -169,7 +169,7 @@ pub fn ascii_len_before_mark(marks: Marks, bytes: &[u8]) -> usize {
 /// Splits the text before its first delimiter. If it has no delimiter, the first part is the whole text.
 #[inline(always)]
 pub fn split_before_mark(marks: Marks, text: &str) -> (&str, &str) {
-    text.split_at(len_before_near_mark(marks, text.as_bytes()))
+    crate::slices::split_at!(text, len_before_near_mark(marks, text.as_bytes()))
 }
 
 /// Returns the first delimiter in the text and the text after it, or `None` if the text has no delimiter.
