@@ -155,8 +155,7 @@ impl NumberType {
     #[inline]
     #[must_use]
     pub fn is_unsigned(self) -> bool {
-        use NumberType::{Usize, U128, U16, U32, U64, U8};
-        matches!(self, U8 | U16 | U32 | U64 | U128 | Usize)
+        self.as_str().starts_with('u')
     }
 }
 
