@@ -16,7 +16,7 @@ pub(crate) fn owned(text: Cow<'_, str>) -> Cow<'static, str> {
 }
 
 /// Returns the text from the byte offset `suffix_at` to its end.
-#[inline]
+#[inline(always)]
 pub(crate) fn suffix_of(text: &str, suffix_at: usize) -> &str {
     let (lo, hi, plain) = (suffix_at, suffix_at, false);
     let body = Body {

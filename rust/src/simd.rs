@@ -3,11 +3,11 @@
 //!
 //! There are two implementations, with the same names and results. In `words`, eight lanes are one `u64`. In `vectors`, lanes are
 //! arrays, for which the compiler generates vector instructions. In unoptimized builds, as of procedural macros, `vectors` costs
-//! many times as much.
+//! many times as much, and `words` costs more than the test of each byte.
 //!
-//! The package parses literals with `words`. It skips through whole sources with `vectors` if the target has vector instructions.
-//! It uses `words` for sources too if debug assertions are on, as in unoptimized builds, and with the feature `proc-macro`. The
-//! programs of this repository always use `vectors` on a target with vector instructions.
+//! The package parses literals with `words`, or byte by byte if debug assertions are on. It skips through whole sources with
+//! `vectors` if the target has vector instructions, or with `words` if debug assertions are on, and with the feature `proc-macro`.
+//! The programs of this repository use `vectors` on a target with vector instructions.
 
 /// Defines the types of one of the two implementations, as structs with an array `$items`, and their operators. `$each` builds an
 /// array from an expression for one item.
@@ -54,16 +54,7 @@ macro_rules! lane_types {
     };
 }
 
-// The target and the features of the package decide which implementation is used. `vectors` is only for whole sources and for the
-// programs.
-#[cfg(any(
-    test,
-    feature = "__rendered",
-    all(
-        any(feature = "sources", feature = "settings"),
-        not(any(debug_assertions, feature = "proc-macro"))
-    )
-))]
+// The target, the profile and the features of the package decide which implementation is used.
 #[allow(dead_code)]
 mod vectors;
 #[allow(dead_code)]

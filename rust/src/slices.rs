@@ -1,39 +1,49 @@
-//! The macro `after_first`, which the translated core uses to drop the first character of a text.
+//! Macros that the translated core uses for parts of a text. A slice tests whether a character begins at its ends.
 //!
-//! `after_first!(text)` is the text after its first character, which must be ASCII. A slice tests whether a character begins at its
-//! start, which takes four instructions. A step of `chars` needs no such test, but costs more than the slice in unoptimized builds.
-//! So the package uses the slice, and the programs of this repository use `chars`.
+//! `after_first!(text)` is the text after its first character, which must be ASCII. A step of `chars` saves the four instructions of
+//! that test, but in unoptimized builds it costs more than the slice. `split_at!(text, at)` is `text.split_at(at)`. In unoptimized
+//! builds two slices cost less. The last argument of both macros says whether the build is unoptimized.
 
-/// Drops the first character with `chars`.
-#[cfg(any(test, feature = "__rendered"))]
-macro_rules! after_character {
-    ($text:ident) => {{
-        let mut characters = $text.chars();
-        characters.next();
-        characters.as_str()
-    }};
-}
-
-/// Drops the first byte with a slice.
-#[cfg(any(test, not(feature = "__rendered")))]
-macro_rules! after_byte {
+macro_rules! after_first {
     ($text:ident) => {
-        &$text[1..]
+        crate::slices::after_first!($text, cfg!(debug_assertions))
+    };
+    ($text:ident, $is_unoptimized:expr) => {
+        if $is_unoptimized {
+            &$text[1..]
+        } else {
+            let mut characters = $text.chars();
+            characters.next();
+            characters.as_str()
+        }
     };
 }
+pub(crate) use after_first;
 
-#[cfg(not(feature = "__rendered"))]
-pub(crate) use after_byte as after_first;
-#[cfg(feature = "__rendered")]
-pub(crate) use after_character as after_first;
+macro_rules! split_at {
+    ($text:ident, $at:expr) => {
+        crate::slices::split_at!($text, $at, cfg!(debug_assertions))
+    };
+    ($text:ident, $at:expr, $is_unoptimized:expr) => {
+        match $at {
+            at if !$is_unoptimized => $text.split_at(at),
+            0 => ("", $text),
+            at => (&$text[..at], &$text[at..]),
+        }
+    };
+}
+pub(crate) use split_at;
 
 #[cfg(test)]
 mod tests {
     #[test]
-    fn both_leave_out_one_character() {
+    fn both_builds_have_the_same_parts() {
         for text in ["a", "ab", "a\u{e9}", "\0\u{20ac}b", "\u{7f}\u{1f600}"] {
-            assert_eq!(after_character!(text), after_byte!(text));
-            assert_eq!(super::after_first!(text), &text[1..]);
+            for is_unoptimized in [true, false] {
+                assert_eq!(after_first!(text, is_unoptimized), &text[1..]);
+                assert_eq!(split_at!(text, 0, is_unoptimized), ("", text));
+                assert_eq!(split_at!(text, 1, is_unoptimized), text.split_at(1));
+            }
         }
     }
 }

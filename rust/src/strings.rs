@@ -31,7 +31,7 @@ macro_rules! string_type {
         quoted_type!($name, $pieces, $first, $place);
 
         impl<'t> $name<'t> {
-            #[inline]
+            #[inline(always)]
             pub(crate) fn of(text: Cow<'t, str>, body: Body) -> Self {
                 $name {
                     text,
@@ -45,7 +45,7 @@ macro_rules! string_type {
             const KIND: Kind = Kind::$variant;
 
             /// Returns the byte offsets of the literal's parts.
-            #[inline]
+            #[inline(always)]
             fn parts(&self) -> Body {
                 Body {
                     lo: self.lo,

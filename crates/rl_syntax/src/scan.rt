@@ -146,19 +146,36 @@ fn stop_by_sixteen<const HIGH: bool>(marks: Marks, bytes: &[u8], from: usize) ->
 }
 
 /// Returns the number of bytes before the first delimiter, or the number of all bytes if there is no delimiter. If
-/// `HIGH` is `true`, a non-ASCII byte counts as a delimiter. The function is inlined, so `marks` is a constant in each
-/// caller.
-#[inline(always)]
-fn stop<const HIGH: bool>(marks: Marks, bytes: &[u8]) -> usize
+/// `HIGH` is `true`, a non-ASCII byte counts as a delimiter. Sixty-four bytes are tested at once while sixty-four are
+/// left.
+#[inline(never)]
+fn stop_by_sixty_four<const HIGH: bool>(marks: Marks, bytes: &[u8]) -> usize
     ensures { result ≡ prefix_len (goes_on HIGH marks) bytes.now }
 {
-    if bytes.len() < 16 {
-        return stop_by_eight::<HIGH>(marks, bytes, 0);
-    }
     match stop_by::<HIGH, 64>(marks, bytes, 0) {
         Ok(at) => at,
         Err(from) => stop_by_sixteen::<HIGH>(marks, bytes, from),
     }
+}
+
+/// The argument `BY_BYTE` of all searches. `tools/render` makes it `true` in code without optimization, where a vector
+/// costs more than its bytes.
+const UNOPTIMIZED: bool = false;
+
+/// Returns the number of bytes before the first delimiter, or the number of all bytes if there is no delimiter. If
+/// `HIGH` is `true`, a non-ASCII byte counts as a delimiter. If `BY_BYTE` is `true`, bytes are tested one by one. The
+/// function is inlined, so for short texts `marks` is a constant in each caller.
+#[inline(always)]
+fn stop<const BY_BYTE: bool, const HIGH: bool>(marks: Marks, bytes: &[u8]) -> usize
+    ensures { result ≡ prefix_len (goes_on HIGH marks) bytes.now }
+{
+    if BY_BYTE {
+        return stop_by_byte::<HIGH>(marks, bytes, 0);
+    }
+    if bytes.len() < 16 {
+        return stop_by_eight::<HIGH>(marks, bytes, 0);
+    }
+    stop_by_sixty_four::<HIGH>(marks, bytes)
 }
 
 /// Returns the number of bytes before the first delimiter, or the number of all bytes if there is no delimiter. The
@@ -167,7 +184,7 @@ fn stop<const HIGH: bool>(marks: Marks, bytes: &[u8]) -> usize
 pub fn len_before_mark(marks: Marks, bytes: &[u8]) -> usize
     ensures { result ≡ prefix_len (is_other marks) bytes.now }
 {
-    stop::<false>(marks, bytes)
+    stop::<UNOPTIMIZED, false>(marks, bytes)
 }
 
 /// Returns the number of bytes before the first delimiter, or the number of all bytes if there is no delimiter. It is
@@ -186,7 +203,7 @@ pub fn len_before_near_mark(marks: Marks, bytes: &[u8]) -> usize
 pub fn ascii_len_before_mark(marks: Marks, bytes: &[u8]) -> usize
     ensures { result ≡ prefix_len (is_ascii_other marks) bytes.now }
 {
-    stop::<true>(marks, bytes)
+    stop::<UNOPTIMIZED, true>(marks, bytes)
 }
 
 /// Splits the text before its first delimiter. If it has no delimiter, the first part is the whole text.

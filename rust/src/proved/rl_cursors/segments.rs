@@ -96,8 +96,6 @@ impl<'t> Segment<'t> {
         }
     }
 
-    /// Returns the offset in the segment's value of the byte of the literal's text at the byte offset `at`. In a segment
-    /// of plain characters, each byte encodes itself. For any other segment, the result is 0.
     #[inline(always)]
     pub fn value_offset(self, at: usize) -> usize {
         match self.value {
@@ -177,12 +175,6 @@ impl<'t> Segments<'t> {
         }
     }
 
-    /// Returns the byte offset in the literal's value of the byte of the literal's text at the byte offset `at`. It is the
-    /// inverse of [`text_offset`](Segments::text_offset). In an escape, the result is the offset of the first byte of the
-    /// escape's value. In an escaped line end, it is the offset of the byte after it.
-    ///
-    /// The result counts from the start of the next segment's value. Before the next segment it is 0. At the closing quote,
-    /// and beyond it, it is the length of the value.
     #[inline]
     pub fn value_offset(mut self, at: usize) -> usize {
         let mut offset = 0;

@@ -4,12 +4,9 @@
 use crate::rl_lenient::digit_runs::is_negative;
 use crate::rl_syntax::IntegerType;
 
-/// One of Rust's integer types. `usize` and `isize` have 64 bits.
 pub trait Integer: Sized {
-    /// The type.
     const TYPE: IntegerType;
 
-    /// Returns the number with this sign and magnitude, or `None` if the type doesn't contain it.
     fn of_magnitude(is_negative: bool, magnitude: u128) -> Option<Self>;
 }
 
@@ -199,18 +196,13 @@ impl Integer for isize {
     }
 }
 
-/// The reason why an integer literal isn't a value of an integer type.
 #[derive(Clone, Copy)]
 pub enum ValueFlaw {
-    /// The literal has a suffix that isn't the type's name.
     Suffix,
-    /// The literal has a minus, and the type has no negative numbers.
     Minus,
-    /// The number is out of the type's range.
     OutOfRange,
 }
 
-/// Whether the type has negative numbers.
 pub fn is_signed(ty: IntegerType) -> bool {
     match ty {
         IntegerType::U8
@@ -223,18 +215,10 @@ pub fn is_signed(ty: IntegerType) -> bool {
     }
 }
 
-/// Whether a literal with the suffix `suffix` may be of the type with the name `name`.
 fn allows_suffix(suffix: &str, name: &str) -> bool {
     suffix == "" || suffix == name
 }
 
-/// Returns the value of the integer literal `text` as a number of the type `N`. Its suffix begins at the byte offset
-/// `suffix_at`, and `magnitude` is its value without its sign. No decimal text is made.
-///
-/// # Errors
-///
-/// Returns the reason if the literal has a suffix that isn't the type's name, if it has a minus and the type has no
-/// negative numbers, or if the number is out of the type's range.
 #[inline]
 pub fn integer_value<N: Integer>(
     text: &str,

@@ -212,7 +212,7 @@ pub fn parse_char_or_escape(kind: Kind, text: &str) -> Option<(Piece, &str)> {
 
 #[inline(always)]
 pub fn split_before_mark_or_non_ascii(marks: Marks, text: &str) -> (&str, &str) {
-    text.split_at(ascii_len_before_mark(marks, text.as_bytes()))
+    crate::slices::split_at!(text, ascii_len_before_mark(marks, text.as_bytes()))
 }
 
 pub(crate) fn is_ascii(text: &str) -> bool {
@@ -260,5 +260,5 @@ fn plain_len(kind: Kind, bytes: &[u8]) -> usize {
 
 #[inline(always)]
 pub fn split_plain(kind: Kind, text: &str) -> (&str, &str) {
-    text.split_at(plain_len(kind, text.as_bytes()))
+    crate::slices::split_at!(text, plain_len(kind, text.as_bytes()))
 }

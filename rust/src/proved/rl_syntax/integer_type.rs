@@ -1,37 +1,23 @@
 // Rendered from crates/rl_syntax/src/integer_type.rt by tools/render, which erases contracts: change that file, and render again.
 //! Rust's integer types, which are suffixes of integer literals.
 
-/// An integer type that a literal's suffix names: `u8` in `1u8`.
 #[derive(Clone, Copy, PartialEq, Eq, Debug)]
 pub enum IntegerType {
-    /// The type `u8`.
     U8,
-    /// The type `u16`.
     U16,
-    /// The type `u32`.
     U32,
-    /// The type `u64`.
     U64,
-    /// The type `u128`.
     U128,
-    /// The type `usize`.
     Usize,
-    /// The type `i8`.
     I8,
-    /// The type `i16`.
     I16,
-    /// The type `i32`.
     I32,
-    /// The type `i64`.
     I64,
-    /// The type `i128`.
     I128,
-    /// The type `isize`.
     Isize,
 }
 
 impl IntegerType {
-    /// Returns the integer type that `suffix` names, or `None` for every other suffix.
     #[inline]
     pub fn named(suffix: &str) -> Option<IntegerType> {
         match suffix {
@@ -51,7 +37,6 @@ impl IntegerType {
         }
     }
 
-    /// Returns the type's name, as in a literal's suffix: `u8`.
     #[inline]
     pub fn name(self) -> &'static str {
         match self {

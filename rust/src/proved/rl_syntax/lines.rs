@@ -6,7 +6,7 @@ use crate::rl_syntax::text::split_ascii;
 
 #[inline(always)]
 pub fn split_line(text: &str) -> (&str, &str) {
-    text.split_at(line_len(text.as_bytes()))
+    crate::slices::split_at!(text, line_len(text.as_bytes()))
 }
 
 #[inline(always)]

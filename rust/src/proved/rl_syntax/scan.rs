@@ -91,20 +91,30 @@ fn stop_by_sixteen<const HIGH: bool>(marks: Marks, bytes: &[u8], from: usize) ->
     }
 }
 
-#[inline(always)]
-fn stop<const HIGH: bool>(marks: Marks, bytes: &[u8]) -> usize {
-    if bytes.len() < 16 {
-        return stop_by_eight::<HIGH>(marks, bytes, 0);
-    }
+#[inline(never)]
+fn stop_by_sixty_four<const HIGH: bool>(marks: Marks, bytes: &[u8]) -> usize {
     match stop_by::<HIGH, 64>(marks, bytes, 0) {
         Ok(at) => at,
         Err(from) => stop_by_sixteen::<HIGH>(marks, bytes, from),
     }
 }
 
+const UNOPTIMIZED: bool = cfg!(debug_assertions);
+
+#[inline(always)]
+fn stop<const BY_BYTE: bool, const HIGH: bool>(marks: Marks, bytes: &[u8]) -> usize {
+    if BY_BYTE {
+        return stop_by_byte::<HIGH>(marks, bytes, 0);
+    }
+    if bytes.len() < 16 {
+        return stop_by_eight::<HIGH>(marks, bytes, 0);
+    }
+    stop_by_sixty_four::<HIGH>(marks, bytes)
+}
+
 #[inline(always)]
 pub fn len_before_mark(marks: Marks, bytes: &[u8]) -> usize {
-    stop::<false>(marks, bytes)
+    stop::<UNOPTIMIZED, false>(marks, bytes)
 }
 
 #[inline(always)]
@@ -114,12 +124,12 @@ pub fn len_before_near_mark(marks: Marks, bytes: &[u8]) -> usize {
 
 #[inline(always)]
 pub fn ascii_len_before_mark(marks: Marks, bytes: &[u8]) -> usize {
-    stop::<true>(marks, bytes)
+    stop::<UNOPTIMIZED, true>(marks, bytes)
 }
 
 #[inline(always)]
 pub fn split_before_mark(marks: Marks, text: &str) -> (&str, &str) {
-    text.split_at(len_before_near_mark(marks, text.as_bytes()))
+    crate::slices::split_at!(text, len_before_near_mark(marks, text.as_bytes()))
 }
 
 #[inline(always)]

@@ -12,26 +12,19 @@ use crate::rattle_std::io::{BufRead, BufReader, ErrorKind, Read};
 use crate::rattle_std::rt::Files;
 use crate::rattle_std::{fs, io};
 
-/// The maximum length of a file or of standard input: 1 GiB.
 pub const LONGEST: u64 = 1 << 30;
 
-/// The number of bytes that one call of a reader requests. The buffer is filled with zeros for each file.
 pub(crate) const PIECE: usize = 4096;
 
-/// The maximum number of calls of a reader.
 pub(crate) const TURNS: u32 = u32::MAX;
 
-/// The number of bytes of a text that are tested for UTF-8 first.
 const FIRST_TEST: usize = 16 * 1024;
 
-/// The files of the operating system, and standard input at the path `-`. Nothing is proved about their contents.
 #[derive(Clone, Copy)]
 pub struct Host<'r, R> {
-    /// The handle for calls of the operating system.
     pub rt: &'r R,
 }
 
-/// Returns the reason why a file or a directory can't be read, for the kind of the standard library's error.
 pub(crate) fn error_of(kind: ErrorKind) -> PathError {
     match kind {
         ErrorKind::NotFound => PathError::NotFound,
@@ -44,8 +37,6 @@ pub(crate) fn error_of(kind: ErrorKind) -> PathError {
     }
 }
 
-/// Returns the offset of the first byte that isn't UTF-8, if at least four bytes begin there. A character has at most four bytes,
-/// so that more bytes don't make them UTF-8.
 fn invalid_at(bytes: &[u8]) -> Option<usize> {
     match crate::rattle_std::str::from_utf8(bytes) {
         Err(error) if bytes.len() - error.valid_up_to() >= 4 => Some(error.valid_up_to()),
@@ -53,8 +44,6 @@ fn invalid_at(bytes: &[u8]) -> Option<usize> {
     }
 }
 
-/// Returns the reason not to read on after the bytes `bytes`, if there is one. If they must be a text, and there are `due` bytes, they
-/// are tested for UTF-8.
 fn why_stopped(bytes: &[u8], is_text: bool, due: usize) -> Option<PathError> {
     if bytes.len() as u64 > LONGEST {
         return Some(PathError::TooLong);
@@ -68,7 +57,6 @@ fn why_stopped(bytes: &[u8], is_text: bool, due: usize) -> Option<PathError> {
     }
 }
 
-/// Returns the number of bytes at which a text is tested next. It has `len` bytes, and was tested at `due` bytes if it has that many.
 fn next_test(due: usize, len: usize) -> usize {
     if len < due {
         return due;
@@ -76,15 +64,6 @@ fn next_test(due: usize, len: usize) -> usize {
     len.checked_mul(64).unwrap_or(usize::MAX)
 }
 
-/// Returns all bytes of a reader.
-///
-/// If they must be a text, they are tested for UTF-8 each time that their number is 64 times that of the last test. So a binary file is
-/// not read whole, and the tests take little time.
-///
-/// # Errors
-///
-/// Returns `TooLong` if there are more than `LONGEST` bytes, `NotUtf8` if they must be a text and are found not to be one, and else
-/// the reason why reading failed.
 pub(crate) fn read_all<A: Allocator, R: Read + Drop>(
     alloc: A,
     mut reader: R,
@@ -112,7 +91,6 @@ pub(crate) fn read_all<A: Allocator, R: Read + Drop>(
     Err(PathError::ReadFailed)
 }
 
-/// Returns all bytes of the file at `path`, as `read_all` does. A file that is too long by its metadata isn't read.
 pub(crate) fn read_file<A: Allocator, R: Files>(
     rt: &R,
     alloc: A,
@@ -129,7 +107,6 @@ pub(crate) fn read_file<A: Allocator, R: Files>(
     }
 }
 
-/// Returns all bytes of standard input, if the path is `-`, or of the file at the path.
 fn read_path<A: Allocator, R: Files + Input>(
     rt: &R,
     alloc: A,
@@ -142,8 +119,6 @@ fn read_path<A: Allocator, R: Files + Input>(
     read_file(rt, alloc, path, is_text)
 }
 
-/// Returns the path of a directory with a slash at its end, so that the system follows a link to a directory. An empty path stays
-/// empty.
 fn with_slash<A: Allocator>(alloc: A, path: &str) -> Result<String<A>, AllocError> {
     let mut directory = String::from_str(alloc, path)?;
     if !path.is_empty() && !path.as_bytes().ends_with(b"/".as_slice()) {
@@ -152,13 +127,10 @@ fn with_slash<A: Allocator>(alloc: A, path: &str) -> Result<String<A>, AllocErro
     Ok(directory)
 }
 
-/// Whether a name in a directory is `.` or `..`: the directory itself, or the directory that contains it.
 fn is_dots(name: &[u8]) -> bool {
     name == b".".as_slice() || name == b"..".as_slice()
 }
 
-/// Returns `true` for a directory and `false` for a file. Returns `None` for a link or a device, and for a path that has vanished
-/// since it was listed.
 fn directory_or_file<R: Files>(rt: &R, path: &str) -> io::Result<Option<bool>> {
     match fs::symlink_metadata(rt, path) {
         Ok(about) if about.is_dir() => Ok(Some(true)),
@@ -169,9 +141,6 @@ fn directory_or_file<R: Files>(rt: &R, path: &str) -> io::Result<Option<bool>> {
     }
 }
 
-/// Appends a name in a directory to `names`, unless it is `.` or `..`, or the name of a link or a device. A slash follows the name of
-/// a directory. If the name isn't UTF-8, it is appended unchanged, because the standard library asks the system only about paths
-/// that are UTF-8.
 fn push_entry<A: Allocator + Copy, R: Files>(
     rt: &R,
     alloc: A,
@@ -194,10 +163,6 @@ fn push_entry<A: Allocator + Copy, R: Files>(
     Ok(())
 }
 
-/// Returns the names of the files and directories in a directory. A slash follows the name of a directory, if the name is UTF-8.
-///
-/// The system returns the names as one text, in which a NUL ends each name. It returns only whole names, so each read needs space for
-/// the longest name. A `BufReader` reads 8,192 bytes at once.
 fn list_directory<A: Allocator + Copy, R: Files>(
     rt: &R,
     alloc: A,
@@ -237,7 +202,6 @@ impl<R: Files + Input> Tree for Host<'_, R> {
 }
 
 impl<R: Files + Alloc> Replace for Host<'_, R> {
-    /// Replaces a file of the operating system. Standard input can't be replaced, since it isn't a file.
     fn replace<A: Allocator + Copy>(
         &mut self,
         alloc: A,

@@ -12,19 +12,14 @@ use crate::rattle_std::os::unix::fs::{MetadataExt, OpenOptionsExt, PermissionsEx
 use crate::rattle_std::rt::Files;
 use crate::rattle_std::{fs, io};
 
-/// The number of names that are tried for a new file.
 const TRIES: u32 = 100;
 
-/// The permission bits of a file that its replacement keeps: who may read, write and execute it.
 const KEPT: u32 = 0o777;
 
-/// The other permission bits of a file: set-user-ID, set-group-ID and sticky.
 const SPECIAL: u32 = 0o7000;
 
-/// The permission bits of a new file before it is filled: only its owner may read and write it.
 const OWNERS: u32 = 0o600;
 
-/// Returns the reason why a file can't be written, for the kind of the standard library's error.
 fn write_error_of(kind: ErrorKind) -> PathError {
     match kind {
         ErrorKind::StorageFull => PathError::NoRoom,
@@ -36,7 +31,6 @@ fn write_error_of(kind: ErrorKind) -> PathError {
     }
 }
 
-/// Returns the reason why a new file can't be created in a directory, for the kind of the standard library's error.
 fn create_error_of(kind: ErrorKind) -> PathError {
     match kind {
         ErrorKind::PermissionDenied => PathError::DirectoryDenied,
@@ -44,17 +38,14 @@ fn create_error_of(kind: ErrorKind) -> PathError {
     }
 }
 
-/// Returns the path of a new file in the directory of `path`: `path`, `.rl_scan-` and the number.
 fn path_beside<A: Allocator>(alloc: A, path: &str, number: u32) -> Result<String<A>, AllocError> {
     format!(in alloc; "{path}.rl_scan-{number}")
 }
 
-/// Whether `error` is the standard library's own error for a path that isn't UTF-8.
 fn is_not_utf8(error: &io::Error) -> bool {
     error.kind() == ErrorKind::InvalidFilename && error.raw_os_error().is_none()
 }
 
-/// Returns the path of a file: `path`, or the target if `path` is a symbolic link.
 fn real_path<A: Allocator, R: Files + Alloc>(
     rt: &R,
     alloc: A,
@@ -67,7 +58,6 @@ fn real_path<A: Allocator, R: Files + Alloc>(
     Ok(String::from_str(alloc, real.as_str())?)
 }
 
-/// Creates a new file in the directory of `path`, and returns the file and its path.
 fn open_beside<A: Allocator + Copy, R: Files>(
     rt: &R,
     alloc: A,
@@ -91,7 +81,6 @@ fn open_beside<A: Allocator + Copy, R: Files>(
     Err(PathError::NamesTaken)
 }
 
-/// Writes all bytes of a new file, sets its permissions, and waits until it is stored.
 fn fill<F: Write + OpenFile>(
     file: &mut F,
     bytes: &[u8],
@@ -102,15 +91,12 @@ fn fill<F: Write + OpenFile>(
     file.sync_all()
 }
 
-/// The owner and the group of a file.
 #[derive(Clone, Copy, PartialEq, Eq)]
 struct Owner {
     user: u32,
     group: u32,
 }
 
-/// The data of a file that differ after another program has replaced it or has written to it: its number in the file system, its
-/// length, and the time of its last change in seconds and nanoseconds.
 #[derive(Clone, Copy)]
 struct Stamp {
     node: u64,
@@ -119,7 +105,6 @@ struct Stamp {
     nanos: i64,
 }
 
-/// Returns an error if the owner or the group of the new file differs from that of the old one.
 fn check_owner(old: Owner, made: Owner) -> Result<(), PathError> {
     if made == old {
         Ok(())
@@ -128,7 +113,6 @@ fn check_owner(old: Owner, made: Owner) -> Result<(), PathError> {
     }
 }
 
-/// Returns an error if the data of a file have changed.
 fn check_stamp(before: Stamp, after: Stamp) -> Result<(), PathError> {
     if after.node == before.node
         && after.len == before.len
@@ -141,7 +125,6 @@ fn check_stamp(before: Stamp, after: Stamp) -> Result<(), PathError> {
     }
 }
 
-/// Returns the data by which a change of the file at `path` is detected.
 fn stamp_of<R: Files>(rt: &R, path: &str) -> Result<Stamp, PathError> {
     match fs::metadata(rt, path) {
         Ok(about) => Ok(Stamp {
@@ -154,7 +137,6 @@ fn stamp_of<R: Files>(rt: &R, path: &str) -> Result<Stamp, PathError> {
     }
 }
 
-/// Returns an error if the program may not write to the file at `path`. The file is opened, and stays as it is.
 fn check_writable<R: Files>(rt: &R, path: &str) -> Result<(), PathError> {
     match OpenOptions::new().append(true).open(rt, path) {
         Ok(_) => Ok(()),
@@ -162,7 +144,6 @@ fn check_writable<R: Files>(rt: &R, path: &str) -> Result<(), PathError> {
     }
 }
 
-/// Returns an error if the file at `path` doesn't have the bytes `old`. The file is read in pieces.
 fn check_unchanged<R: Files>(rt: &R, path: &str, old: &[u8]) -> Result<(), PathError> {
     let mut file = match File::open(rt, path) {
         Ok(file) => file,
@@ -185,9 +166,6 @@ fn check_unchanged<R: Files>(rt: &R, path: &str, old: &[u8]) -> Result<(), PathE
     Err(PathError::ReadFailed)
 }
 
-/// Writes the new file and renames it to `path`, if the file at `path` still has the bytes `old`.
-///
-/// The file's number, length and time of change are compared directly before the rename, since another program may write to the file while its bytes are read.
 fn fill_and_rename<R: Files>(
     rt: &R,
     file: &mut R::File,
@@ -209,25 +187,16 @@ fn fill_and_rename<R: Files>(
     }
 }
 
-/// Whether a file's group has a right that others don't have. `group` and `others` are the bits of this right.
 fn is_group_right(mode: u32, group: u32, others: u32) -> bool {
     mode & group != 0 && mode & others == 0
 }
 
-/// Whether an access control list may have set the bits of a file's group: they give the group a right that others don't have, and
-/// `usual`, the bits of a new file, don't do so.
-///
-/// The standard library doesn't tell whether a file has an access control list. If it has one, the bits of the group are the list's
-/// mask: the largest rights that the list gives to anybody except the owner and others. Without the list, the group would get them.
 fn may_have_list(mode: u32, usual: u32) -> bool {
     is_group_right(mode, 0o040, 0o004) && !is_group_right(usual, 0o040, 0o004)
         || is_group_right(mode, 0o020, 0o002) && !is_group_right(usual, 0o020, 0o002)
         || is_group_right(mode, 0o010, 0o001) && !is_group_right(usual, 0o010, 0o001)
 }
 
-/// Returns the permissions that the replacement of a file gets, from the permissions and the number of hard links of the file, and
-/// the bits `usual` of a new file. Returns an error if nobody may write the file, or if its replacement could differ from it in more
-/// than its bytes.
 fn kept_permissions(
     permissions: Permissions,
     links: u64,
@@ -246,8 +215,6 @@ fn kept_permissions(
     Ok(Permissions::from_mode(mode & KEPT))
 }
 
-/// Returns the permission bits that the umask allows for a new file, from the text of `/proc/self/status`. The umask is on a line of
-/// the text: `Umask:`, a tab and digits to the base 8.
 fn usual_bits_in(status: &str) -> Option<u32> {
     let (_, line) = status.split_once("\nUmask:\t")?;
     let (digits, _) = line.split_once('\n')?;
@@ -257,7 +224,6 @@ fn usual_bits_in(status: &str) -> Option<u32> {
     }
 }
 
-/// Returns the permission bits that the umask allows for a new file, or no bits if the system doesn't tell the umask.
 fn usual_bits<A: Allocator, R: Files>(rt: &R, alloc: A) -> u32 {
     let Ok(bytes) = read_file(rt, alloc, "/proc/self/status", true) else {
         return 0;
@@ -268,7 +234,6 @@ fn usual_bits<A: Allocator, R: Files>(rt: &R, alloc: A) -> u32 {
     }
 }
 
-/// Returns the metadata of a file that may be replaced, or an error for a directory, a device or a pipe.
 fn metadata_of<R: Files>(rt: &R, path: &str) -> Result<Metadata, PathError> {
     match fs::metadata(rt, path) {
         Ok(about) if about.is_file() => Ok(about),
@@ -278,7 +243,6 @@ fn metadata_of<R: Files>(rt: &R, path: &str) -> Result<Metadata, PathError> {
     }
 }
 
-/// Returns the owner and the group of a file.
 fn owner_of(about: &Metadata) -> Owner {
     Owner {
         user: about.uid(),
@@ -286,7 +250,6 @@ fn owner_of(about: &Metadata) -> Owner {
     }
 }
 
-/// Sets the group and the owner of a new file to those of the old one. Returns an error if they differ afterwards.
 fn keep_owner<R: Files>(rt: &R, path: &str, old: Owner) -> Result<(), PathError> {
     let _ = chown(rt, path, None, Some(old.group));
     let _ = chown(rt, path, Some(old.user), None);
@@ -296,17 +259,6 @@ fn keep_owner<R: Files>(rt: &R, path: &str, old: Owner) -> Result<(), PathError>
     }
 }
 
-/// Replaces the file at `path` with the bytes `new`. `old` are the bytes of the file when it was read.
-///
-/// The bytes are written to a new file in the same directory, which is then renamed to `path`. If `path` is a symbolic link, its
-/// target is replaced, and the link stays. The permissions, the owner and the group stay. Other metadata isn't kept.
-///
-/// # Errors
-///
-/// Returns the reason why the file can't be replaced. It is `PermissionDenied` if the program may not write to the file. It is
-/// `OwnerChanges` if the system doesn't allow that the new file gets the owner and the group of the old one, `HardLinks` if the file
-/// has other hard links, and `RightsChange` if it has a permission bit of `SPECIAL` or may have an access control list. The file is
-/// unchanged then. The new file is removed, unless that fails too.
 pub(crate) fn replace_file<A: Allocator + Copy, R: Files + Alloc>(
     rt: &R,
     alloc: A,

@@ -9,15 +9,12 @@ use crate::rl_restyle::texts::text_of;
 use crate::rl_style::{Restylable, Style};
 use crate::rattle_std::alloc::{AllocError, Allocator};
 
-/// A partly rewritten source: the new text up to a literal, the byte offset `at` after that literal in the old text, and whether the
-/// literals so far have no errors.
 pub(crate) struct Draft<A: Allocator> {
     pub(crate) text: String<A>,
     pub(crate) at: usize,
     pub(crate) is_clean: bool,
 }
 
-/// Appends to the draft the old text before a literal, and then the literal's new text `new`.
 fn put<A: Allocator>(
     draft: &mut Draft<A>,
     source: &str,
@@ -32,7 +29,6 @@ fn put<A: Allocator>(
     Ok(())
 }
 
-/// Rewrites `literal`, the next literal of the source, if the style changes it. Tests whether it has an error.
 pub(crate) fn put_literal<A: Allocator + Copy>(
     alloc: A,
     style: Style,

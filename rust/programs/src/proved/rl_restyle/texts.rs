@@ -9,10 +9,8 @@ use crate::rl_style::{Restylable, Style, rewrite_into};
 use crate::rl_syntax::Kind;
 use crate::rattle_std::alloc::{AllocError, Allocator};
 
-/// The size in bytes of the buffer for the new text of a short literal.
 const SHORT: usize = 256;
 
-/// Returns the size in bytes of the buffer that [`rewrite_into`] needs for a literal with the text `text`.
 fn buffer_len(text: &str) -> Result<usize, AllocError> {
     let Some(most) = text.len().checked_mul(4) else {
         return Err(AllocError);
@@ -23,7 +21,6 @@ fn buffer_len(text: &str) -> Result<usize, AllocError> {
     }
 }
 
-/// Returns a copy of `new` if it differs from `old`, and `None` otherwise.
 fn other_text<A: Allocator>(alloc: A, old: &str, new: &str) -> Result<Option<String<A>>, AllocError> {
     if new == old {
         return Ok(None);
@@ -33,8 +30,6 @@ fn other_text<A: Allocator>(alloc: A, old: &str, new: &str) -> Result<Option<Str
     Ok(Some(made))
 }
 
-/// Returns the rewritten text of the literal `text` if it differs, and `None` otherwise. `front` is the text before the
-/// literal, and `out` a buffer.
 fn new_text_in<A: Allocator>(
     alloc: A,
     style: Style,
@@ -51,8 +46,6 @@ fn new_text_in<A: Allocator>(
     }
 }
 
-/// Returns the rewritten text of the literal `text` if it differs, and `None` otherwise. `front` is the text before the
-/// literal. Only the buffer of a long literal is allocated.
 pub(crate) fn new_text<A: Allocator + Copy>(
     alloc: A,
     style: Style,
@@ -67,8 +60,6 @@ pub(crate) fn new_text<A: Allocator + Copy>(
     new_text_in(alloc, style, front, text, bytes.as_mut_slice())
 }
 
-/// Whether the position of `literal` allows rewriting: `literal` can't be a field, and isn't in a macro call that `macros`
-/// excludes.
 fn is_rewritable(macros: Macros, literal: Restylable<'_>) -> bool {
     match macros {
         Macros::Skip => !literal.is_field && !literal.in_macro,
@@ -76,7 +67,6 @@ fn is_rewritable(macros: Macros, literal: Restylable<'_>) -> bool {
     }
 }
 
-/// Returns the kind of the literal `text` by `syn`'s grammar, or `None` if this grammar doesn't accept `text`.
 fn kind_of(text: &str) -> Option<Kind> {
     match parse_literal(text) {
         Some(found) => Some(found.kind),
@@ -84,7 +74,6 @@ fn kind_of(text: &str) -> Option<Kind> {
     }
 }
 
-/// Whether the literal `text` is of one of the kinds. If `kinds` is `None`, the result is `true`.
 fn is_of_kinds(kinds: Option<&[Option<Kind>]>, text: &str) -> bool {
     match kinds {
         Some(kinds) => kinds.contains(&kind_of(text)),
@@ -92,12 +81,10 @@ fn is_of_kinds(kinds: Option<&[Option<Kind>]>, text: &str) -> bool {
     }
 }
 
-/// Whether `choice` selects the literal, by its position and its kind.
 fn is_chosen(choice: Choice<'_>, literal: Restylable<'_>) -> bool {
     is_rewritable(choice.macros, literal) && is_of_kinds(choice.kinds, literal.token.text)
 }
 
-/// Returns the new text of a literal of the source, or `None` if the literal is unchanged.
 pub(crate) fn text_of<A: Allocator + Copy>(
     alloc: A,
     style: Style,

@@ -8,8 +8,6 @@ use crate::rl_restyle::slices::between;
 use crate::rl_style::{Restylables, Style, is_safe_to_restyle};
 use crate::rattle_std::alloc::{AllocError, Allocator};
 
-/// Returns the complete new text: the draft, with the rest of the source appended. `has_stray` tells whether the source has a stray
-/// character.
 fn finished<A: Allocator>(
     source: &str,
     draft: Draft<A>,
@@ -25,15 +23,6 @@ fn finished<A: Allocator>(
     }
 }
 
-/// Rewrites the literals of a source by a style, and returns the new text.
-///
-/// Some literals aren't rewritten: invalid literal tokens, numbers that may be fields of a tuple (`t.0`, `S { 0: x }`), and the
-/// literals that `choice` excludes. The tokens of the new text are those of `text`, but each rewritten literal has its new text.
-///
-/// # Errors
-///
-/// Returns `Script` if the source begins as an interpreter's line does, `Source` if a quote or a comment isn't closed, and
-/// `Memory` if an allocation fails. In these cases no text is returned.
 pub fn rewrite_source<A: Allocator + Copy>(
     alloc: A,
     style: Style,

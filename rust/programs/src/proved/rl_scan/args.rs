@@ -10,7 +10,6 @@ use crate::rl_scan::style::is_near;
 use crate::rl_files::visible_text;
 use crate::rattle_std::alloc::{AllocError, Allocator, Global};
 
-/// Groups of options, of which the last passed option counts.
 const RIVALS: [&[&str]; 4] = [
     &["--count", "--files-with-matches", "--quiet"],
     &["--lines", "--bytes"],
@@ -18,33 +17,25 @@ const RIVALS: [&[&str]; 4] = [
     &["--help", "--version", "--rules", "--generate", "--files"],
 ];
 
-/// The options that select the format of findings.
 const FORMS: [&str; 2] = ["--json", "--format"];
 
-/// The end of the message about a word that resembles no option.
 const ALL_OPTIONS: &str = "rl_scan --help lists all options";
 
-/// A passed option and its value, which is empty if the option has none.
 #[derive(Clone, Copy)]
 pub(crate) struct Given<'a> {
     pub name: &'static str,
     pub value: &'a str,
 }
 
-/// The options and paths of a command line.
 pub(crate) struct Args<'a, A: Allocator = Global> {
     pub given: Vec<Given<'a>, A>,
     pub paths: Vec<&'a str, A>,
 }
 
-/// The meaning of the next argument.
 #[derive(Clone, Copy)]
 enum Next {
-    /// An option or a path.
     Word,
-    /// The value of this option.
     Value(OptionRow),
-    /// A path, as all later arguments.
     Path,
 }
 
@@ -52,12 +43,10 @@ pub(crate) fn is_among(words: &[&str], word: &str) -> bool {
     words.contains(&word)
 }
 
-/// Returns the text without the NUL that marks it as a path that isn't UTF-8.
 pub(crate) fn without_mark(text: &str) -> &str {
     text.strip_suffix('\0').unwrap_or(text)
 }
 
-/// Returns the option that a word resembles. Names that are at most one byte longer come first.
 fn near_option(word: &str) -> Option<&'static str> {
     let (part, _) = word.split_once('=').unwrap_or((word, ""));
     let mut near: Option<&'static str> = None;
@@ -72,7 +61,6 @@ fn near_option(word: &str) -> Option<&'static str> {
     near
 }
 
-/// Returns the end of the message about an unknown option.
 fn meant<A: Allocator + Copy>(alloc: A, word: &str) -> Result<String<A>, AllocError> {
     match near_option(word) {
         Some(name) => format!(in alloc; "did you mean '{name}'?"),
@@ -80,7 +68,6 @@ fn meant<A: Allocator + Copy>(alloc: A, word: &str) -> Result<String<A>, AllocEr
     }
 }
 
-/// Returns the error for a letter that isn't a short option, in a word of short options.
 fn unknown_letter<A: Allocator + Copy>(
     alloc: A,
     word: &str,
@@ -100,14 +87,12 @@ fn unknown_letter<A: Allocator + Copy>(
     Ok(Failure::Said(format!(in alloc; "unknown option '-{shown}' in '{inside}': {hint}")?))
 }
 
-/// Returns the error for a word that begins with a minus and isn't an option.
 fn unknown_word<A: Allocator + Copy>(alloc: A, word: &str) -> Result<Failure<A>, AllocError> {
     let shown = visible_text(alloc, word)?;
     let hint = meant(alloc, word)?;
     Ok(Failure::Said(format!(in alloc; "unknown option '{shown}': {hint}")?))
 }
 
-/// Checks that an argument which isn't a path is UTF-8.
 fn check_text<A: Allocator + Copy>(alloc: A, word: &str) -> Done<A> {
     if word.ends_with('\0') {
         let shown = visible_text(alloc, without_mark(word))?;
@@ -118,7 +103,6 @@ fn check_text<A: Allocator + Copy>(alloc: A, word: &str) -> Done<A> {
     Ok(())
 }
 
-/// Whether a word that begins with a minus consists of short options.
 fn is_word_of_letters(word: &str) -> bool {
     if !word.starts_with("--") && !word.contains('=') {
         return true;
@@ -130,13 +114,11 @@ fn is_word_of_letters(word: &str) -> bool {
 }
 
 impl<'a, A: Allocator + Copy> Args<'a, A> {
-    /// Returns the last passed option of these.
     fn last_of(&self, names: &[&str]) -> Option<Given<'a>> {
         let mut last_first = self.given.as_slice().iter().rev();
         last_first.find(|it| is_among(names, it.name)).copied()
     }
 
-    /// Returns the last value of an option.
     pub(crate) fn last(&self, name: &str) -> Option<&'a str> {
         Some(self.last_of(&[name])?.value)
     }
@@ -145,7 +127,6 @@ impl<'a, A: Allocator + Copy> Args<'a, A> {
         self.last_of(names).is_some()
     }
 
-    /// Whether the option was passed, and no later option overrides it.
     pub(crate) fn has(&self, name: &str) -> bool {
         for rivals in &RIVALS {
             if is_among(rivals, name) {
@@ -155,7 +136,6 @@ impl<'a, A: Allocator + Copy> Args<'a, A> {
         self.has_any(&[name])
     }
 
-    /// Returns all values of an option.
     pub(crate) fn all(&self, alloc: A, name: &str) -> Result<Vec<&'a str, A>, AllocError> {
         let mut values = Vec::new(alloc);
         for given in self.given.as_slice() {
@@ -166,7 +146,6 @@ impl<'a, A: Allocator + Copy> Args<'a, A> {
         Ok(values)
     }
 
-    /// Returns the format of findings, as `--format` names it.
     pub(crate) fn form(&self) -> &'a str {
         match self.last_of(&FORMS) {
             Some(given) if given.name == "--json" => "json",
@@ -180,7 +159,6 @@ impl<'a, A: Allocator + Copy> Args<'a, A> {
         row.map(|row| row.1).unwrap_or(Mode::List)
     }
 
-    /// Returns the error if an option contradicts earlier ones.
     fn conflict(&self, name: &str) -> Option<&'static str> {
         let exclusive = ["--bad", "--invisible", "--only"];
         let rewriting = ["--fix", "--check", "--diff"];
@@ -198,7 +176,6 @@ impl<'a, A: Allocator + Copy> Args<'a, A> {
         None
     }
 
-    /// Adds an option, unless it contradicts earlier ones or doesn't accept the value.
     fn add(&mut self, alloc: A, row: &OptionRow, value: &'a str) -> Done<A> {
         if let Some(words) = self.conflict(row.name) {
             return Err(Failure::said(alloc, words));
@@ -209,7 +186,6 @@ impl<'a, A: Allocator + Copy> Args<'a, A> {
         Ok(())
     }
 
-    /// Adds the options of a word of letters.
     fn add_letters(&mut self, alloc: A, word: &'a str) -> Result<Next, Failure<A>> {
         let mut letters = word.get(1..).unwrap_or("").chars();
         while let Some(letter) = letters.next() {
@@ -229,7 +205,6 @@ impl<'a, A: Allocator + Copy> Args<'a, A> {
         Ok(Next::Word)
     }
 
-    /// Adds a word that begins with a minus.
     fn add_option(&mut self, alloc: A, word: &'a str) -> Result<Next, Failure<A>> {
         check_text(alloc, word)?;
         if word == "--" {
@@ -257,11 +232,6 @@ impl<'a, A: Allocator + Copy> Args<'a, A> {
         Err(unknown_word(alloc, word)?)
     }
 
-    /// Parses the arguments after the program's name, and checks them.
-    ///
-    /// # Errors
-    ///
-    /// Returns an error if an argument is invalid, if the arguments contradict each other, or if an allocation fails.
     pub(crate) fn parse(alloc: A, words: &'a [String<A>]) -> Result<Args<'a, A>, Failure<A>> {
         let mut args = Args {
             given: Vec::new(alloc),

@@ -11,31 +11,24 @@ use crate::rl_scan::widths::width_of;
 use crate::rattle_std::alloc::{AllocError, Allocator};
 use crate::rattle_std::io::Write;
 
-/// The maximum length, in bytes, of a line that is printed.
 const LONGEST: usize = 1024;
 
 const TOO_LONG: &str = "    (a line of more than 1024 bytes)\n";
 
-/// The numbers of lines that are printed before and after a line with findings.
 #[derive(Clone, Copy)]
 pub(crate) struct Around {
     pub before: usize,
     pub after: usize,
 }
 
-/// The lines of a source that are printed around its findings.
 pub(crate) struct Context<'p> {
     source: &'p str,
     around: Around,
-    /// The byte offset where the last line with a finding begins.
     line_at: usize,
-    /// The byte offset after the last printed line.
     end: usize,
-    /// The number of lines after it that are still to be printed.
     owed: usize,
 }
 
-/// Returns the line without its LF or CR LF.
 fn without_line_end(line: &str) -> &str {
     match line.strip_suffix('\n') {
         Some(line) => line.strip_suffix('\r').unwrap_or(line),
@@ -44,7 +37,6 @@ fn without_line_end(line: &str) -> &str {
 }
 
 impl<'p, A: Allocator + Copy, W: Write> Output<'p, A, W> {
-    /// Prints a line, indented, or a note if it is too long.
     fn print_line(&mut self, line: &str) -> Done<A> {
         let shown = without_line_end(line);
         if shown.len() > LONGEST {
@@ -57,7 +49,6 @@ impl<'p, A: Allocator + Copy, W: Write> Output<'p, A, W> {
         self.send_if_full()
     }
 
-    /// Prints the last `count` lines of a text.
     fn print_last_lines(&mut self, text: &str, count: usize) -> Done<A> {
         let mut front = text;
         for _ in 0..count {
@@ -77,8 +68,6 @@ impl<'p, A: Allocator + Copy, W: Write> Output<'p, A, W> {
     }
 }
 
-/// Appends a part of a line to `out`, and below each of its columns `mark` to `marks`. A tab stays a tab below text that isn't
-/// marked. Returns the description of the characters before the next part.
 fn push_marked<A: Allocator>(
     out: &mut String<A>,
     marks: &mut String<A>,
@@ -104,7 +93,6 @@ fn push_marked<A: Allocator>(
     Ok(last)
 }
 
-/// Appends a line, and carets below the part of it from `lo` to `hi`. `marks` is a buffer.
 fn push_marked_line<A: Allocator>(
     out: &mut String<A>,
     marks: &mut String<A>,
@@ -134,7 +122,6 @@ fn push_marked_line<A: Allocator>(
 }
 
 impl<'p> Context<'p> {
-    /// Creates the context of a source. `start` is the byte offset of its first line.
     pub(crate) fn new(source: &'p str, start: usize, around: Around) -> Context<'p> {
         Context {
             source,
@@ -145,7 +132,6 @@ impl<'p> Context<'p> {
         }
     }
 
-    /// Prints the lines that are still to be printed and end at the byte offset `end` or before it.
     pub(crate) fn print_owed<A: Allocator + Copy, W: Write>(
         &mut self,
         output: &mut Output<'_, A, W>,
@@ -166,8 +152,6 @@ impl<'p> Context<'p> {
         Ok(())
     }
 
-    /// Prints the line with a finding, which begins at the byte offset `line_at`, and lines before it that aren't printed yet.
-    /// `marks` is a buffer.
     pub(crate) fn print_finding<A: Allocator + Copy, W: Write>(
         &mut self,
         output: &mut Output<'_, A, W>,

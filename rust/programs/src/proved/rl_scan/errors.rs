@@ -17,12 +17,10 @@ use crate::rl_syntax::text::{begins, split_char};
 use crate::rattle_std::alloc::Allocator;
 use crate::rattle_std::io::Write;
 
-/// Whether both are true.
 pub(crate) fn both(a: bool, b: bool) -> bool {
     a && b
 }
 
-/// Returns the next token, or the next literal if only literals are needed.
 #[inline(always)]
 pub(crate) fn next_token<'t>(tokens: &mut Sources<'t>, all: bool) -> Option<SourceToken<'t>> {
     if all {
@@ -32,7 +30,6 @@ pub(crate) fn next_token<'t>(tokens: &mut Sources<'t>, all: bool) -> Option<Sour
     }
 }
 
-/// Reports an error. Returns whether the call allows it.
 fn report_fault<A: Allocator + Copy, W: Write>(
     page: &mut Page<'_, '_, A, W>,
     job: Job<'_>,
@@ -44,7 +41,6 @@ fn report_fault<A: Allocator + Copy, W: Write>(
     Ok(allowed)
 }
 
-/// Returns the identifier of an error that isn't in a literal.
 fn end_id(kind: LexKind) -> &'static str {
     match kind {
         LexKind::UnclosedQuote => "unclosed-quote",
@@ -53,7 +49,6 @@ fn end_id(kind: LexKind) -> &'static str {
     }
 }
 
-/// Reports an error that isn't in a literal. `piece` is the text to show. Returns whether the call allows the error.
 fn report_lex_error<A: Allocator + Copy, W: Write>(
     page: &mut Page<'_, '_, A, W>,
     job: Job<'_>,
@@ -71,7 +66,6 @@ fn report_lex_error<A: Allocator + Copy, W: Write>(
     report_fault(page, job, place, fault)
 }
 
-/// Reports the error that ends a source. Returns whether the call allows the error.
 pub(crate) fn report_end<A: Allocator + Copy, W: Write>(
     page: &mut Page<'_, '_, A, W>,
     job: Job<'_>,
@@ -81,13 +75,10 @@ pub(crate) fn report_end<A: Allocator + Copy, W: Write>(
     report_lex_error(page, job, error.kind, Place { lo, hi }, "")
 }
 
-// ---- literals that Rust's grammar accepts
-
 fn is_of_word(c: char) -> bool {
     c.is_ascii_alphanumeric() || c == '_'
 }
 
-/// Returns the byte offset where the reserved prefix of a literal begins. `before` is the text before the literal.
 fn prefix_start(before: &str, text: &str) -> usize {
     let front = before.trim_end_matches('#');
     match first_reserving_edition(before, text) {
@@ -96,8 +87,6 @@ fn prefix_start(before: &str, text: &str) -> usize {
     }
 }
 
-/// Returns the reason why Rust has no type for a literal with a suffix at the byte offset `suffix_at`. `before` is the text before the
-/// literal.
 fn type_error_at(
     before: &str,
     text: &str,
@@ -115,7 +104,6 @@ fn type_error_at(
     type_error_of(kind, text, magnitude, suffix, may_be_negated(before))
 }
 
-/// Whether a literal with the given parse result is quoted and has no suffix. Then it has a type.
 #[inline(always)]
 fn is_bare(text: &str, reading: &Reading) -> bool {
     match reading {
@@ -124,7 +112,6 @@ fn is_bare(text: &str, reading: &Reading) -> bool {
     }
 }
 
-/// Returns the reason why Rust has no type for a literal. `before` is the text before the literal.
 #[inline(always)]
 fn type_error_in(before: &str, text: &str, reading: &Reading) -> Option<TypeError> {
     match reading {
@@ -138,7 +125,6 @@ fn type_error_in(before: &str, text: &str, reading: &Reading) -> Option<TypeErro
     }
 }
 
-/// Returns the range in a literal where an integer above 128 bits becomes too large: the character after its digits.
 fn large_place(text: &str, reading: &Reading) -> Option<Place> {
     match reading {
         Reading::Integer(None, at) => {
@@ -156,8 +142,6 @@ fn large_place(text: &str, reading: &Reading) -> Option<Place> {
     }
 }
 
-/// Returns the range, the identifier and the message of the error of a literal that Rust has no type for: its suffix is wrong, or its
-/// value is out of range. `before` is the text before the literal.
 fn type_words(
     before: &str,
     text: &str,
@@ -173,7 +157,6 @@ fn type_words(
     }
 }
 
-/// Reports that Rust has no type for a literal. Returns whether the literal is accepted.
 #[inline(always)]
 fn report_type<'t, A: Allocator + Copy, W: Write>(
     page: &mut Page<'_, '_, A, W>,
@@ -201,7 +184,6 @@ fn report_type<'t, A: Allocator + Copy, W: Write>(
     report_fault(page, job, place.after(token.lo), fault)
 }
 
-/// Reports the reserved prefix of a literal. Returns whether the call allows it, or `None` if the literal has none.
 #[inline(always)]
 fn report_prefix<A: Allocator + Copy, W: Write>(
     page: &mut Page<'_, '_, A, W>,
@@ -210,7 +192,6 @@ fn report_prefix<A: Allocator + Copy, W: Write>(
 ) -> Result<Option<bool>, Failure<A>> {
     let source = page.source;
     let before = source.get(..token.lo).unwrap_or("");
-    // A reserved prefix ends with a word or a hash. Most literals follow neither.
     let last = source.as_bytes().get(token.lo.wrapping_sub(1));
     let is_joined = last.is_some_and(|b| matches!(*b, b'#' | b'_') || b.is_ascii_alphanumeric());
     if !is_joined || !job.edition.reserves(before, token.text) {
@@ -229,9 +210,6 @@ fn report_prefix<A: Allocator + Copy, W: Write>(
     Ok(Some(is_allowed))
 }
 
-// ---- invalid literals
-
-/// Reports a flaw of a literal. Returns whether the call allows the flaw.
 fn report_flaw<A: Allocator + Copy, W: Write>(
     page: &mut Page<'_, '_, A, W>,
     job: Job<'_>,
@@ -255,7 +233,6 @@ fn report_flaw<A: Allocator + Copy, W: Write>(
     report_fault(page, job, Place { lo, hi }.after(token.lo), fault)
 }
 
-/// Reports the flaws of a literal that the cursor returns. Returns whether the call allows all of them.
 fn report_later_flaws<A: Allocator + Copy, W: Write>(
     page: &mut Page<'_, '_, A, W>,
     job: Job<'_>,
@@ -275,14 +252,10 @@ fn report_later_flaws<A: Allocator + Copy, W: Write>(
     Ok(are_allowed)
 }
 
-// ---- sources
-
-/// Whether the text may be several tokens before 2021: `c"a"` is an identifier and a string there, and `'r#a'` a lifetime and more.
 fn is_literal_since_2021(text: &str) -> bool {
     begins(text, "c\"") || begins(text, "cr") || begins(text, "'r#")
 }
 
-/// Reports the errors of a literal. Returns whether it is accepted.
 #[inline(always)]
 fn report_literal<'t, A: Allocator + Copy, W: Write>(
     page: &mut Page<'_, '_, A, W>,
@@ -314,14 +287,12 @@ fn report_literal<'t, A: Allocator + Copy, W: Write>(
     }
 }
 
-/// Reports the errors of a token. Returns whether it is accepted.
 fn report_token<'t, A: Allocator + Copy, W: Write>(
     page: &mut Page<'_, '_, A, W>,
     follower: &mut Follower<'t>,
     job: Job<'_>,
     token: SourceToken<'t>,
 ) -> Result<bool, Failure<A>> {
-    // Without `strays`, every token is a literal.
     if job.strays && !token.is_literal() {
         if !matches!(token.form, SourceForm::Stray) {
             return Ok(true);
@@ -332,7 +303,6 @@ fn report_token<'t, A: Allocator + Copy, W: Write>(
     report_literal(page, follower, job, token)
 }
 
-/// Reports the errors of a source. Returns whether all its literals are accepted.
 pub(crate) fn report_errors<A: Allocator + Copy, W: Write>(
     page: &mut Page<'_, '_, A, W>,
     job: Job<'_>,

@@ -7,25 +7,17 @@ use crate::rl_files::is_control_invisible_or_bidi;
 use crate::rl_program::need_no_escapes;
 use crate::rattle_std::alloc::{AllocError, Allocator};
 
-/// The characters before a character in a line of text. A runner of GitHub takes a line for a command if the line contains `##[`,
-/// or if it begins with `::` after white space. So the last character of `##[` and of such a `::` is printed as an escape.
 #[derive(Clone, Copy)]
 pub(crate) enum Before {
-    /// Only white space.
     Space,
-    /// White space and a colon.
     Colon,
-    /// A `#`.
     Hash,
-    /// Two `#`.
     Hashes,
     Other,
-    /// The start of an annotation, which is a command as it is. A `%` is escaped in it.
     Annotation,
 }
 
 impl Before {
-    /// Returns the description after one more character.
     fn after(self, c: char) -> Before {
         match (self, c) {
             (Before::Annotation, _) => self,
@@ -37,26 +29,19 @@ impl Before {
         }
     }
 
-    /// Whether the character completes the start of a command.
     fn completes_command(self, c: char) -> bool {
         matches!((self, c), (Before::Colon, ':') | (Before::Hashes, '['))
     }
 }
 
-/// How the output shows characters that it doesn't show unchanged.
 #[derive(Clone, Copy)]
 pub(crate) enum Escapes {
-    /// As a literal does: `\n`, `\u{202e}`.
     Literal,
-    /// As a literal does, except that a tab is unchanged.
     Line,
-    /// As numbers: `<U+202E>`. LF, CR and tab are shown as `\n`, `\r` and `\t`.
     Numbers,
-    /// As a string of JSON does.
     Json,
 }
 
-/// Appends the escape of a character in a JSON string, as one or two code units of UTF-16.
 fn push_json_number<A: Allocator>(out: &mut String<A>, c: char) -> Appended {
     let code = c as u32;
     if code < 0x1_0000 {
@@ -67,7 +52,6 @@ fn push_json_number<A: Allocator>(out: &mut String<A>, c: char) -> Appended {
     write!(out, "\\u{high:04x}\\u{low:04x}")
 }
 
-/// Appends a character as an escape.
 fn push_hidden<A: Allocator>(out: &mut String<A>, escapes: Escapes, c: char) -> Appended {
     let code = c as u32;
     match (escapes, c) {
@@ -81,7 +65,6 @@ fn push_hidden<A: Allocator>(out: &mut String<A>, escapes: Escapes, c: char) -> 
     }
 }
 
-/// Appends a character, or its escape. `before` describes the characters before it. Returns the description after it.
 pub(crate) fn push_char<A: Allocator>(
     out: &mut String<A>,
     escapes: Escapes,
@@ -106,7 +89,6 @@ pub(crate) fn push_char<A: Allocator>(
     Ok(before.after(c))
 }
 
-/// Whether a text has only printable ASCII characters, and no `##[`.
 fn is_plain(text: &str) -> bool {
     let mut is_odd = false;
     let mut has_bracket = false;
@@ -117,7 +99,6 @@ fn is_plain(text: &str) -> bool {
     !is_odd && !(has_bracket && text.contains("##["))
 }
 
-/// Appends a text with escapes. `before` describes the characters before it.
 pub(crate) fn push_text<A: Allocator>(
     out: &mut String<A>,
     escapes: Escapes,
@@ -160,7 +141,6 @@ pub(crate) fn push_number<A: Allocator>(out: &mut String<A>, number: usize) -> A
     Ok(())
 }
 
-/// Appends a path as the value of a property of an annotation.
 pub(crate) fn push_property<A: Allocator>(out: &mut String<A>, path: &str) -> Appended {
     for c in path.chars() {
         match c {

@@ -5,7 +5,6 @@ use crate::rl_scan::hidden::character_id;
 use crate::rl_scan::literal::Literal;
 use crate::rl_restyle::Rule;
 
-/// A range of a source or of a literal, in bytes.
 #[derive(Clone, Copy)]
 pub(crate) struct Place {
     pub lo: usize,
@@ -13,7 +12,6 @@ pub(crate) struct Place {
 }
 
 impl Place {
-    /// Returns the range in a source, for a range in a literal that begins at the byte offset `at`.
     pub(crate) fn after(self, at: usize) -> Place {
         Place {
             lo: at.saturating_add(self.lo),
@@ -22,24 +20,18 @@ impl Place {
     }
 }
 
-/// An error in a literal, or between literals.
 #[derive(Clone, Copy)]
 pub(crate) struct Fault<'t> {
     pub id: &'static str,
     pub message: &'static str,
-    /// The text to show. It is empty where a source ends early.
     pub piece: &'t str,
-    /// The literal that contains the error.
     pub literal: Option<&'t str>,
 }
 
-/// A finding of a source.
 pub(crate) enum Finding<'t> {
     Literal(Literal<'t>),
     Error(Fault<'t>),
-    /// An invisible or bidirectional character.
     Hidden(char),
-    /// The change of a literal, and the rules each of which changes it.
     Change {
         old: &'t str,
         new: &'t str,

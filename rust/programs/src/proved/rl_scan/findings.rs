@@ -15,7 +15,6 @@ use crate::rattle_std::alloc::Allocator;
 use crate::rattle_std::io::Write;
 
 impl<'p, 'a, A: Allocator + Copy, W: Write> Page<'p, 'a, A, W> {
-    /// Reports a literal if the call lists it.
     fn report_literal(&mut self, token: SourceToken<'_>) -> Done<A> {
         let literal = Literal::parse(token.text);
         if !self.job.wants(literal.kind()) {
@@ -31,7 +30,6 @@ impl<'p, 'a, A: Allocator + Copy, W: Write> Page<'p, 'a, A, W> {
         }
     }
 
-    /// Reports the literals of a source. Returns the error that ends the source.
     fn report_literals(&mut self) -> Result<Option<LexError>, Failure<A>> {
         let mut tokens = Sources::new(self.source);
         for _ in 0..u64::MAX {
@@ -48,8 +46,6 @@ impl<'p, 'a, A: Allocator + Copy, W: Write> Page<'p, 'a, A, W> {
     }
 }
 
-/// Reports the findings of a source. Returns whether `--bad` accepts its literals, and the error that ends the source, unless it is a
-/// finding.
 pub(crate) fn report_findings<A: Allocator + Copy, W: Write>(
     page: &mut Page<'_, '_, A, W>,
     job: Job<'_>,

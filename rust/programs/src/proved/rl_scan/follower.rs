@@ -4,7 +4,6 @@
 use crate::rl_lexer::{SourceToken, Sources};
 use crate::rl_style::{Calls, advance_calls, is_in_call};
 
-/// A second reader of a source, which says what is in macro calls. It only moves if a finding depends on that.
 pub(crate) struct Follower<'t> {
     source: &'t str,
     tokens: Sources<'t>,
@@ -12,7 +11,6 @@ pub(crate) struct Follower<'t> {
 }
 
 impl<'t> Follower<'t> {
-    /// Creates a reader at the start of a source.
     pub(crate) fn new(source: &'t str) -> Follower<'t> {
         Follower {
             source,
@@ -21,12 +19,10 @@ impl<'t> Follower<'t> {
         }
     }
 
-    /// Returns the text before the byte offset `lo`.
     pub(crate) fn text_before(&self, lo: usize) -> Option<&'t str> {
         self.source.get(..lo)
     }
 
-    /// Returns the next token, and whether it is in a macro call.
     #[inline(always)]
     fn next(&mut self) -> Option<(SourceToken<'t>, bool)> {
         let Some(token) = self.tokens.next() else {
@@ -37,7 +33,6 @@ impl<'t> Follower<'t> {
         Some((token, is_inside))
     }
 
-    /// Whether the token at the byte offset `lo` is in a macro call. The offsets of later calls are greater.
     pub(crate) fn is_in_call_at(&mut self, lo: usize) -> bool {
         for _ in 0..u64::MAX {
             let Some((token, is_inside)) = self.next() else {

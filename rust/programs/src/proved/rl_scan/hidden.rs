@@ -9,10 +9,8 @@ use crate::rl_files::is_control_invisible_or_bidi;
 use crate::rattle_std::alloc::Allocator;
 use crate::rattle_std::io::Write;
 
-/// The number of bytes that are checked at once.
 const BLOCK: usize = 64;
 
-/// Returns the name of a bidirectional character, after a space, or an empty text for other characters.
 pub(crate) fn bidi_name(c: char) -> &'static str {
     match c {
         '\u{61c}' => " ARABIC LETTER MARK",
@@ -45,7 +43,6 @@ pub(crate) fn character_id(c: char) -> &'static str {
     }
 }
 
-/// Whether a character is invisible after the character `previous` and before the text `after`.
 pub(crate) fn hides(previous: char, c: char, after: &str) -> bool {
     if is_variation_selector(c) {
         return !takes_variation_selector(previous, c);
@@ -54,7 +51,6 @@ pub(crate) fn hides(previous: char, c: char, after: &str) -> bool {
     !is_layout && is_control_invisible_or_bidi(c)
 }
 
-/// Whether no byte can belong to an invisible character: all are printable ASCII, tabs or LFs.
 fn are_visible(bytes: &[u8]) -> bool {
     let mut is_odd = false;
     for byte in bytes {
@@ -64,8 +60,6 @@ fn are_visible(bytes: &[u8]) -> bool {
     !is_odd
 }
 
-/// Reports the invisible characters that begin in the first `len` bytes of `text`, which is the source from the byte offset `start`
-/// on. `previous` is the character before them. Returns the length of the text up to the end of the last character.
 fn report_in<A: Allocator + Copy, W: Write>(
     page: &mut Page<'_, '_, A, W>,
     text: &str,
@@ -90,7 +84,6 @@ fn report_in<A: Allocator + Copy, W: Write>(
     Ok((end, last))
 }
 
-/// Reports the invisible and bidirectional characters of a source.
 pub(crate) fn report_hidden<A: Allocator + Copy, W: Write>(
     page: &mut Page<'_, '_, A, W>,
 ) -> Done<A> {

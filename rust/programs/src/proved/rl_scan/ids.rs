@@ -9,18 +9,15 @@ use crate::rl_scan::style::is_near;
 use crate::rl_files::visible_text;
 use crate::rattle_std::alloc::{AllocError, Allocator};
 
-/// The identifiers of the findings of `--bad` that don't end a source.
 #[rustfmt::skip]
 const BAD_IDS: [&str; 38] = ["empty", "no-literal", "unfinished", "no-quote", "no-number", "unknown-escape", "unicode-escape-in-bytes", "no-hexadecimal-digit", "no-brace",
     "empty-braces", "too-many-digits", "past-ascii", "past-unicode", "surrogate", "nul", "not-ascii", "must-escape", "no-character", "two-characters", "no-exponent-digit",
     "bad-suffix", "integer-too-large", "minus", "too-many-hashes", "carriage-return", "early-quote", "extra-hash", "underscore-suffix", "no-digits", "digit-of-base",
     "based-float", "no-fraction-digit", "reserved-prefix", "quoted-suffix", "unknown-suffix", "float-suffix", "out-of-range", "stray-character"];
 
-/// The identifiers of the findings of `--invisible`.
 #[rustfmt::skip]
 const CHARACTER_IDS: [&str; 5] = ["bidirectional-character", "joiner", "variation-selector", "control-character", "invisible-character"];
 
-/// Returns the number in an identifier such as `U+200B`, or `None` for other identifiers.
 fn number_of(id: &str) -> Option<u32> {
     let digits = id.strip_prefix("U+")?;
     let count = digits.len();
@@ -30,12 +27,10 @@ fn number_of(id: &str) -> Option<u32> {
     u32::from_str_radix(digits, 16).ok()
 }
 
-/// Returns the character of an identifier such as `U+200B`, or `None` for other identifiers.
 pub(crate) fn character_of(id: &str) -> Option<char> {
     char::from_u32(number_of(id)?)
 }
 
-/// Returns the error for an unknown identifier. It names the identifier that `id` resembles, or else the expected ones.
 fn unknown_id<A: Allocator + Copy>(
     alloc: A,
     ids: &[&'static str],
@@ -64,7 +59,6 @@ fn check_bad_id<A: Allocator + Copy>(alloc: A, id: &str) -> Done<A> {
     Err(unknown_id(alloc, &BAD_IDS, id, expected)?)
 }
 
-/// Checks an identifier of invisible characters. `--invisible` must be able to report a character that it names.
 fn check_character_id<A: Allocator + Copy>(alloc: A, id: &str) -> Done<A> {
     if CHARACTER_IDS.contains(&id) {
         return Ok(());
@@ -80,7 +74,6 @@ fn check_character_id<A: Allocator + Copy>(alloc: A, id: &str) -> Done<A> {
     Err(unknown_id(alloc, &CHARACTER_IDS, id, expected)?)
 }
 
-/// Checks an identifier of `--allow`, which must be one of the mode's findings.
 pub(crate) fn check_id<A: Allocator + Copy>(alloc: A, mode: Mode, id: &str) -> Done<A> {
     match mode {
         Mode::Bad => check_bad_id(alloc, id),

@@ -16,7 +16,6 @@ use crate::rl_style::Style;
 use crate::rl_syntax::Kind;
 use crate::rattle_std::alloc::Allocator;
 
-/// The format of findings.
 #[derive(Clone, Copy)]
 pub(crate) enum Form {
     Text,
@@ -24,45 +23,31 @@ pub(crate) enum Form {
     Github,
 }
 
-/// The values of options that may be repeated.
 #[derive(Clone, Copy)]
 pub(crate) struct Lists<'a> {
-    /// The texts to search for.
     pub finds: &'a [&'a str],
-    /// The integers to search for.
     pub numbers: &'a [u128],
-    /// The identifiers of findings that don't count.
     pub allowed: &'a [&'a str],
-    /// The kinds of the literals that count, or none if all count. `None` is a literal without a value.
     pub kinds: &'a [Option<Kind>],
 }
 
-/// The work of a call of `rl_scan` on each file.
 #[derive(Clone, Copy)]
 pub(crate) struct Job<'a> {
     pub mode: Mode,
     pub lists: Lists<'a>,
-    /// Whether any suffix and any value is accepted.
     pub any_suffix: bool,
-    /// Whether stray characters are errors.
     pub strays: bool,
-    /// Whether any suffix and any value is accepted in macro calls.
     pub follows: bool,
     pub edition: Edition,
-    /// Whether a search ignores the case of ASCII letters.
     pub ignores_case: bool,
     pub whole_words: bool,
-    /// Whether literals are printed as written.
     pub as_written: bool,
     pub form: Form,
     pub color: bool,
-    /// The numbers of lines around each finding, if its line is printed.
     pub around: Option<Around>,
     pub lines: bool,
     pub bytes: bool,
-    /// Whether columns are counted in bytes.
     pub byte_columns: bool,
-    /// Whether findings are printed.
     pub shows: bool,
     pub quiet: bool,
     pub counts: bool,
@@ -71,7 +56,6 @@ pub(crate) struct Job<'a> {
     pub lists_files: bool,
     pub messages: bool,
     pub stats: bool,
-    /// Whether a text may have been passed as a path.
     pub may_be_text: bool,
     pub style: Style,
     pub macros: Macros,
@@ -86,12 +70,10 @@ fn edition_of(year: Option<&str>) -> Edition {
     }
 }
 
-/// Returns the number of lines that an option requests.
 fn lines_of<A: Allocator + Copy>(args: &Args<'_, A>, name: &str) -> Option<usize> {
     number_in(args.last(name)?)
 }
 
-/// Returns the numbers of lines around findings that a call requests.
 fn around_of<A: Allocator + Copy>(args: &Args<'_, A>) -> Option<Around> {
     let both = lines_of(args, "--context");
     let before = lines_of(args, "--before-context").or(both);
@@ -104,7 +86,6 @@ fn around_of<A: Allocator + Copy>(args: &Args<'_, A>) -> Option<Around> {
 }
 
 impl<'a> Job<'a> {
-    /// Reads the options of a call.
     pub(crate) fn of<A: Allocator + Copy>(
         args: &Args<'_, A>,
         lists: Lists<'a>,
@@ -154,24 +135,20 @@ impl<'a> Job<'a> {
         }
     }
 
-    /// Whether literals are rewritten.
     pub(crate) fn rewrites(&self) -> bool {
         self.mode.is_among(REWRITING)
     }
 
-    /// Returns the choice of the literals that are rewritten.
     pub(crate) fn choice(&self) -> Choice<'a> {
         let (macros, kinds) = (self.macros, self.lists.kinds);
         let kinds = if kinds.is_empty() { None } else { Some(kinds) };
         Choice { macros, kinds }
     }
 
-    /// Whether the positions in a file, or else in standard input, are lines and columns.
     pub(crate) fn shows_lines(&self, is_file: bool) -> bool {
         !self.bytes && (self.lines || is_file)
     }
 
-    /// Returns the column of a position, in characters or in bytes.
     pub(crate) fn column(&self, position: Position) -> usize {
         if self.byte_columns {
             position.byte_column()
@@ -180,7 +157,6 @@ impl<'a> Job<'a> {
         }
     }
 
-    /// Appends the code of a colour, if the output has colours.
     pub(crate) fn push_color<A: Allocator>(&self, out: &mut String<A>, code: &str) -> Appended {
         if self.color {
             out.push_str(code)
@@ -189,12 +165,10 @@ impl<'a> Job<'a> {
         }
     }
 
-    /// Whether errors with an identifier don't count.
     pub(crate) fn allows_error(&self, id: &str) -> bool {
         is_among(self.lists.allowed, id)
     }
 
-    /// Whether a finding doesn't count.
     pub(crate) fn allows(&self, finding: &Finding<'_>) -> bool {
         let allowed = self.lists.allowed;
         if allowed.is_empty() {
@@ -209,14 +183,11 @@ impl<'a> Job<'a> {
         }
     }
 
-    /// Whether literals of a kind count.
     pub(crate) fn wants(&self, kind: Option<Kind>) -> bool {
         let kinds = self.lists.kinds;
         kinds.is_empty() || kinds.iter().any(|wanted| *wanted == kind)
     }
 
-    /// Returns the job for errors of a file, which are lines of text. The types of literals aren't checked, but stray characters
-    /// are errors.
     pub(crate) fn for_errors(&self) -> Job<'a> {
         let mut job = *self;
         job.form = Form::Text;
@@ -228,7 +199,6 @@ impl<'a> Job<'a> {
         job
     }
 
-    /// Returns the exit status of a run without errors. `are_accepted` tells whether `--bad` accepts all literals.
     pub(crate) fn status(&self, findings: u64, are_accepted: bool) -> u8 {
         if self.lists_files {
             return 0;

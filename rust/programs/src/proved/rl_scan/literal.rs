@@ -9,13 +9,11 @@ use crate::rl_program::push_found_line;
 use crate::rl_syntax::Kind;
 use crate::rattle_std::alloc::{AllocError, Allocator};
 
-/// A literal of a source, or a literal token without a value.
 pub(crate) struct Literal<'t> {
     text: &'t str,
     found: Option<Found>,
 }
 
-/// Returns the bytes of a literal's value. They are empty if the literal isn't quoted.
 fn value_of<A: Allocator + Copy>(
     alloc: A,
     text: &str,
@@ -58,12 +56,10 @@ impl<'t> Literal<'t> {
         self.text
     }
 
-    /// Returns the literal's kind, or `None` if the literal has no value.
     pub(crate) fn kind(&self) -> Option<Kind> {
         self.found.map(|found| found.kind)
     }
 
-    /// Returns the number that an integer represents.
     pub(crate) fn integer(&self) -> Option<u128> {
         match self.found {
             Some(found) if matches!(found.kind, Kind::Int) => Some(found.magnitude),
@@ -71,7 +67,6 @@ impl<'t> Literal<'t> {
         }
     }
 
-    /// Returns the number if the literal is an integer without a suffix.
     pub(crate) fn bare_integer(&self) -> Option<u128> {
         match self.found {
             Some(found) if found.body.suffix_at == self.text.len() => self.integer(),
@@ -79,7 +74,6 @@ impl<'t> Literal<'t> {
         }
     }
 
-    /// Returns the text between the quotes, and its byte offset, if it is the literal's value as written.
     pub(crate) fn plain_value(&self) -> Option<(usize, &'t str)> {
         match self.found {
             Some(found)
@@ -91,7 +85,6 @@ impl<'t> Literal<'t> {
         }
     }
 
-    /// Returns the bytes of the literal's value. They are empty if the literal isn't quoted or has no value.
     pub(crate) fn value<A: Allocator + Copy>(&self, alloc: A) -> Result<Vec<u8, A>, AllocError> {
         match self.found {
             Some(found) => value_of(alloc, self.text, &found),
@@ -99,12 +92,10 @@ impl<'t> Literal<'t> {
         }
     }
 
-    /// Appends the line of the literal: its kind, its value and its suffix.
     pub(crate) fn push_line<A: Allocator + Copy>(&self, alloc: A, out: &mut String<A>) -> Appended {
         push_found_line(alloc, out, self.text, self.found)
     }
 
-    /// Returns the literal's suffix, or an empty text.
     pub(crate) fn suffix(&self) -> &'t str {
         match self.found {
             Some(found) => self.text.get(found.body.suffix_at..).unwrap_or(""),
@@ -113,7 +104,6 @@ impl<'t> Literal<'t> {
     }
 }
 
-/// Returns the integers that texts represent. A text that isn't an integer without a suffix is left out.
 pub(crate) fn integers_of<A: Allocator + Copy>(
     alloc: A,
     texts: &[&str],

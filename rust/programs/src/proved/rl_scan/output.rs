@@ -8,10 +8,8 @@ use crate::rl_program::write_bytes;
 use crate::rattle_std::alloc::Allocator;
 use crate::rattle_std::io::Write;
 
-/// The length, in bytes, of output that is written at once.
 const FULL: usize = 65_536;
 
-/// A stream, and the output that isn't written to it yet.
 pub(crate) struct Output<'p, A: Allocator, W> {
     stream: &'p mut W,
     pub text: String<A>,
@@ -25,14 +23,12 @@ impl<'p, A: Allocator + Copy, W: Write> Output<'p, A, W> {
         }
     }
 
-    /// Writes the output.
     pub(crate) fn send(&mut self) -> Done<A> {
         write_bytes(self.stream, self.text.as_bytes())?;
         self.text.clear();
         Ok(())
     }
 
-    /// Writes the output if there is enough of it.
     pub(crate) fn send_if_full(&mut self) -> Done<A> {
         if self.text.len() < FULL {
             return Ok(());
@@ -40,7 +36,6 @@ impl<'p, A: Allocator + Copy, W: Write> Output<'p, A, W> {
         self.send()
     }
 
-    /// Prints a text with escapes. `before` describes the characters before it.
     pub(crate) fn print(&mut self, escapes: Escapes, before: Before, text: &str) -> Done<A> {
         if text.len() < FULL {
             push_text(&mut self.text, escapes, before, text)?;
@@ -54,7 +49,6 @@ impl<'p, A: Allocator + Copy, W: Write> Output<'p, A, W> {
         Ok(())
     }
 
-    /// Prints a text as a JSON string. `name` precedes it.
     pub(crate) fn print_json(&mut self, name: &str, text: &str) -> Done<A> {
         self.text.push_str(name)?;
         self.text.push('"')?;
@@ -63,7 +57,6 @@ impl<'p, A: Allocator + Copy, W: Write> Output<'p, A, W> {
         Ok(())
     }
 
-    /// Prints bytes as a JSON array.
     pub(crate) fn print_array(&mut self, bytes: &[u8]) -> Done<A> {
         let mut is_first = true;
         self.text.push('[')?;

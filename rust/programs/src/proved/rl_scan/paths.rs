@@ -9,7 +9,6 @@ use crate::rl_scan::style::unread_file;
 use crate::rl_files::{Tree, push_listed_paths};
 use crate::rattle_std::alloc::{AllocError, Allocator};
 
-/// Checks that a call reads standard input at most once: as a source, a list or a style.
 fn check_input<A: Allocator + Copy>(alloc: A, args: &Args<'_, A>, paths: &[String<A>]) -> Done<A> {
     let mut count = 0_usize;
     for path in paths {
@@ -28,12 +27,6 @@ fn check_input<A: Allocator + Copy>(alloc: A, args: &Args<'_, A>, paths: &[Strin
     Ok(())
 }
 
-/// Returns the paths of a call, and those in the files of `--files-from`. Without a path and a list, the result is the current
-/// directory if `reads_here`, or else standard input.
-///
-/// # Errors
-///
-/// Returns an error if a list can't be read, if standard input would be read twice, or if an allocation fails.
 pub(crate) fn paths_of<A: Allocator + Copy, T: Tree>(
     alloc: A,
     args: &Args<'_, A>,
@@ -55,7 +48,6 @@ pub(crate) fn paths_of<A: Allocator + Copy, T: Tree>(
     Ok(paths)
 }
 
-/// Returns the extensions of the files to read in directories.
 pub(crate) fn extensions_of<'a, A: Allocator + Copy>(
     alloc: A,
     args: &Args<'a, A>,

@@ -12,27 +12,19 @@ use crate::rl_scan::position::Position;
 use crate::rattle_std::alloc::Allocator;
 use crate::rattle_std::io::Write;
 
-/// The findings of a source: their number, and their output.
 pub(crate) struct Page<'p, 'a, A: Allocator, W> {
     pub alloc: A,
     pub job: &'p Job<'a>,
     pub source: &'p str,
-    /// The number of findings.
     pub count: u64,
     pub output: Output<'p, A, W>,
-    /// A buffer for a line.
     pub line: String<A>,
-    /// The path of the source, or `None` for standard input.
     path: Option<&'p str>,
-    /// The start of each finding's output, which has the path. It is empty before the first finding.
     head: String<A>,
-    /// The position of the last finding.
     position: Position,
-    /// The lines around findings, if they are printed.
     context: Option<Context<'p>>,
 }
 
-/// Returns a path without `./` at its start. A path such as `.//a` stays, since the rest of it would be absolute.
 pub(crate) fn without_dot_slash(path: &str) -> &str {
     match path.strip_prefix("./") {
         Some(rest) => if rest.starts_with('/') { path } else { rest },
@@ -41,7 +33,6 @@ pub(crate) fn without_dot_slash(path: &str) -> &str {
 }
 
 impl<'p, 'a, A: Allocator + Copy, W: Write> Page<'p, 'a, A, W> {
-    /// Creates the page of a source. The path `-` is standard input.
     pub(crate) fn new(
         alloc: A,
         job: &'p Job<'a>,
@@ -64,7 +55,6 @@ impl<'p, 'a, A: Allocator + Copy, W: Write> Page<'p, 'a, A, W> {
         }
     }
 
-    /// Counts a finding and prints it, unless it is allowed.
     pub(crate) fn report_finding(&mut self, place: Place, finding: Finding<'_>) -> Done<A> {
         if self.job.allows(&finding) {
             return Ok(());
@@ -84,7 +74,6 @@ impl<'p, 'a, A: Allocator + Copy, W: Write> Page<'p, 'a, A, W> {
         self.output.send_if_full()
     }
 
-    /// Writes the output that isn't written yet. It must be called after the last finding.
     pub(crate) fn close(&mut self) -> Done<A> {
         if let Some(context) = &mut self.context {
             context.print_owed(&mut self.output, self.source.len())?;
@@ -92,7 +81,6 @@ impl<'p, 'a, A: Allocator + Copy, W: Write> Page<'p, 'a, A, W> {
         self.output.send()
     }
 
-    /// Returns the description of the characters before the words of a finding.
     pub(crate) fn within(&self) -> Before {
         match self.job.form {
             Form::Github => Before::Annotation,
@@ -100,7 +88,6 @@ impl<'p, 'a, A: Allocator + Copy, W: Write> Page<'p, 'a, A, W> {
         }
     }
 
-    /// Makes the start of each finding's output.
     fn push_head(&mut self) -> Appended {
         let Some(path) = self.path else {
             return Ok(());
@@ -125,7 +112,6 @@ impl<'p, 'a, A: Allocator + Copy, W: Write> Page<'p, 'a, A, W> {
         }
     }
 
-    /// Appends the path and the position of a finding as the start of a line of text.
     fn push_text_start(&mut self, place: Place) -> Appended {
         let out = &mut self.output.text;
         out.push_str(self.head.as_str())?;
@@ -143,7 +129,6 @@ impl<'p, 'a, A: Allocator + Copy, W: Write> Page<'p, 'a, A, W> {
         out.push_str(if self.path.is_some() { ": " } else { " " })
     }
 
-    /// Prints a finding as a line of text, with the source's lines around it.
     fn print_text(&mut self, place: Place, finding: &Finding<'_>) -> Done<A> {
         if self.context.is_some() || self.job.shows_lines(self.path.is_some()) {
             self.position = self.position.moved(self.source, place.lo);
@@ -167,7 +152,6 @@ impl<'p, 'a, A: Allocator + Copy, W: Write> Page<'p, 'a, A, W> {
         Ok(())
     }
 
-    /// Prints a finding as a JSON object.
     fn print_object(&mut self, place: Place, finding: &Finding<'_>) -> Done<A> {
         let start = self.position.moved(self.source, place.lo);
         let end = start.moved(self.source, place.hi);
@@ -192,7 +176,6 @@ impl<'p, 'a, A: Allocator + Copy, W: Write> Page<'p, 'a, A, W> {
         Ok(())
     }
 
-    /// Prints a finding as an annotation.
     fn print_annotation(&mut self, place: Place, finding: &Finding<'_>) -> Done<A> {
         let start = self.position.moved(self.source, place.lo);
         let end = start.moved(self.source, place.hi);

@@ -21,19 +21,13 @@ use crate::rl_program::{Ending, write_bytes};
 use crate::rattle_std::alloc::Allocator;
 use crate::rattle_std::io::Write;
 
-/// The standard streams, and the properties of them that a call depends on.
 pub struct Console<'o, 'e, W, E> {
-    /// Whether standard input isn't a file, a pipe or a socket.
     pub lacks_input: bool,
-    /// Whether standard output displays colours.
     pub has_colors: bool,
-    /// Standard output.
     pub out: &'o mut W,
-    /// Standard error.
     pub err: &'e mut E,
 }
 
-/// A call that is being run: its job, its streams, and its counts.
 pub(crate) struct Call<'o, 'e, 'a, A: Allocator, W, E> {
     pub alloc: A,
     pub job: Job<'a>,
@@ -43,9 +37,6 @@ pub(crate) struct Call<'o, 'e, 'a, A: Allocator, W, E> {
 }
 
 impl<'o, 'e, 'a, A: Allocator + Copy, W: Write, E: Write> Call<'o, 'e, 'a, A, W, E> {
-    // ---- errors of paths
-
-    /// Prints a line about a file on standard error, after the program's name and the file's path.
     pub(crate) fn complain(&mut self, path: &str, words: &str) -> Done<A> {
         if !self.job.messages {
             return Ok(());
@@ -59,7 +50,6 @@ impl<'o, 'e, 'a, A: Allocator + Copy, W: Write, E: Write> Call<'o, 'e, 'a, A, W,
         Ok(())
     }
 
-    /// Prints that a path can't be read or written.
     pub(crate) fn complain_why(&mut self, path: &str, why: PathError) -> Done<A> {
         let mut words = format!(in self.alloc; "{why}")?;
         if matches!(why, PathError::NotFound) && !path.is_empty() {
@@ -73,7 +63,6 @@ impl<'o, 'e, 'a, A: Allocator + Copy, W: Write, E: Write> Call<'o, 'e, 'a, A, W,
         self.complain(without_mark(path), words.as_str())
     }
 
-    /// Prints that a path can't be read, and counts it. A path that isn't UTF-8 is only skipped. Returns whether it is.
     fn report_unread(&mut self, path: &str, why: PathError) -> Result<bool, Failure<A>> {
         self.complain_why(path, why)?;
         if matches!(why, PathError::PathNotUtf8) {
@@ -84,9 +73,6 @@ impl<'o, 'e, 'a, A: Allocator + Copy, W: Write, E: Write> Call<'o, 'e, 'a, A, W,
         Ok(false)
     }
 
-    // ---- sources
-
-    /// Appends a path of `--files`, `-l` or `-c`, with a mark after it.
     fn push_file(&self, out: &mut String<A>, path: &str, mark: char) -> Appended {
         self.job.push_color(out, "\x1b[35m")?;
         if self.job.nul {
@@ -98,7 +84,6 @@ impl<'o, 'e, 'a, A: Allocator + Copy, W: Write, E: Write> Call<'o, 'e, 'a, A, W,
         out.push(if self.job.nul { '\0' } else { mark })
     }
 
-    /// Prints the path of a file, or the number of its findings.
     fn print_count(&mut self, path: &str, count: u64) -> Done<A> {
         let mut line = String::new(self.alloc);
         let is_input = path == "-";
@@ -115,7 +100,6 @@ impl<'o, 'e, 'a, A: Allocator + Copy, W: Write, E: Write> Call<'o, 'e, 'a, A, W,
         Ok(())
     }
 
-    /// Prints the findings of a source. Returns their number, and whether `--bad` accepts all literals.
     fn print_findings<'t>(
         &mut self,
         job: Job<'a>,
@@ -138,7 +122,6 @@ impl<'o, 'e, 'a, A: Allocator + Copy, W: Write, E: Write> Call<'o, 'e, 'a, A, W,
         Ok((count, are_accepted))
     }
 
-    /// Counts the findings of a source, and prints their number or the path.
     fn add_findings(&mut self, path: &str, count: u64) -> Done<A> {
         if count == 0 {
             return Ok(());
@@ -148,7 +131,6 @@ impl<'o, 'e, 'a, A: Allocator + Copy, W: Write, E: Write> Call<'o, 'e, 'a, A, W,
         self.print_count(path, count)
     }
 
-    /// Reads a source, prints its findings, and counts them. Returns whether `--bad` accepts all literals.
     fn report_source<'t, F: Replace>(
         &mut self,
         job: Job<'a>,
@@ -168,8 +150,6 @@ impl<'o, 'e, 'a, A: Allocator + Copy, W: Write, E: Write> Call<'o, 'e, 'a, A, W,
         Ok(are_accepted)
     }
 
-    /// Reads a file, prints its findings, and counts them. With `--files`, it prints only the path. Returns whether `--bad` accepts all
-    /// literals.
     fn report_file<T: Tree, F: Replace>(
         &mut self,
         job: Job<'a>,
@@ -197,7 +177,6 @@ impl<'o, 'e, 'a, A: Allocator + Copy, W: Write, E: Write> Call<'o, 'e, 'a, A, W,
         }
     }
 
-    /// Reads the file that a walk returns, or prints why it can't be read. Returns whether `--bad` accepts all literals.
     fn report_visit<T: Tree, F: Replace>(
         &mut self,
         job: Job<'a>,
@@ -211,7 +190,6 @@ impl<'o, 'e, 'a, A: Allocator + Copy, W: Write, E: Write> Call<'o, 'e, 'a, A, W,
         }
     }
 
-    /// Prints the findings of all files of a walk, and counts them. Returns whether `--bad` accepts all literals.
     fn report_files<T: Tree, F: Replace>(
         &mut self,
         tree: &T,
@@ -236,9 +214,6 @@ impl<'o, 'e, 'a, A: Allocator + Copy, W: Write, E: Write> Call<'o, 'e, 'a, A, W,
     }
 }
 
-// ---- calls
-
-/// Prints the findings of the selected files at `paths`, and the totals. Returns the exit status.
 fn run_walk<A: Allocator + Copy, T: Tree, W: Write, E: Write, F: Replace>(
     call: &mut Call<'_, '_, '_, A, W, E>,
     selection: Selection<'_>,
@@ -265,7 +240,6 @@ fn run_walk<A: Allocator + Copy, T: Tree, W: Write, E: Write, F: Replace>(
     Ok(job.status(call.tally.findings, are_accepted))
 }
 
-/// Prints the findings of the files at `paths`, and the totals. Returns the exit status.
 fn run_call<A: Allocator + Copy, T: Tree, W: Write, E: Write, F: Replace>(
     call: &mut Call<'_, '_, '_, A, W, E>,
     args: &Args<'_, A>,
@@ -283,7 +257,6 @@ fn run_call<A: Allocator + Copy, T: Tree, W: Write, E: Write, F: Replace>(
     run_walk(call, selection, tree, files, paths)
 }
 
-/// Runs a call with the given options. Returns its exit status.
 fn run_options<A: Allocator + Copy, T: Tree, W: Write, E: Write, F: Replace>(
     alloc: A,
     args: &Args<'_, A>,
@@ -319,7 +292,6 @@ fn run_options<A: Allocator + Copy, T: Tree, W: Write, E: Write, F: Replace>(
     run_call(&mut call, args, tree, files, &mut paths)
 }
 
-/// Parses the arguments and runs the call. Returns its exit status.
 fn parse_and_run<A: Allocator + Copy, T: Tree, W: Write, E: Write, F: Replace>(
     alloc: A,
     words: &[String<A>],
@@ -335,8 +307,6 @@ fn parse_and_run<A: Allocator + Copy, T: Tree, W: Write, E: Write, F: Replace>(
     run_options(alloc, &args, console, tree, files)
 }
 
-/// Runs `rl_scan` with the arguments `args`, of which the first is the program's name, and returns the result of the call. `tree` has
-/// the files that are read, and `files` replaces files.
 pub fn run_with_arguments<A: Allocator + Copy, T: Tree, W: Write, E: Write, F: Replace>(
     alloc: A,
     args: &[String<A>],

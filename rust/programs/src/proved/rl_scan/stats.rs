@@ -10,18 +10,14 @@ use crate::rl_restyle::{RULES, number_of, settable_rules};
 use crate::rattle_std::alloc::Allocator;
 use crate::rattle_std::io::Write;
 
-/// The counts of a run.
 #[derive(Clone, Copy)]
 pub(crate) struct Tally {
-    /// The number of files that were found, also of those that couldn't be read.
     pub visited: u64,
     pub read: u64,
     pub with_findings: u64,
     pub findings: u64,
     pub errors: u64,
-    /// For each rule, the number of literals that it changes.
     pub rules: [u64; RULES],
-    /// Whether a rewritten source was printed.
     pub prints_source: bool,
 }
 
@@ -39,7 +35,6 @@ impl Tally {
     }
 }
 
-/// Appends the numbers of literals that each rule changes, as lines or as a member of a JSON object.
 fn push_rule_counts<A: Allocator>(
     text: &mut String<A>,
     is_json: bool,
@@ -64,7 +59,6 @@ fn push_rule_counts<A: Allocator>(
 }
 
 impl<'o, 'e, 'a, A: Allocator + Copy, W: Write, E: Write> Call<'o, 'e, 'a, A, W, E> {
-    /// Prints the totals: after a rewritten source on standard error, and otherwise on standard output.
     pub(crate) fn print_totals(&mut self) -> Done<A> {
         let mut text = String::new(self.alloc);
         let (read, with_findings) = (self.tally.read, self.tally.with_findings);

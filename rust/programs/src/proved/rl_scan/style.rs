@@ -23,7 +23,6 @@ const KINDS: [Option<Kind>; 9] = [
     Some(Kind::Float), Some(Kind::Bool), None,
 ];
 
-/// Returns the kinds that a list names.
 pub(crate) fn kinds_of<A: Allocator>(
     alloc: A,
     list: &str,
@@ -37,10 +36,6 @@ pub(crate) fn kinds_of<A: Allocator>(
     Ok(kinds)
 }
 
-// ---- misspelled words
-
-/// Whether two words that begin with different bytes differ only by one typing error at their start: a byte too many, a byte too
-/// few, another byte, or two exchanged bytes.
 fn slips_here(said: &[u8], meant: &[u8]) -> bool {
     let less_said = said.get(1..).unwrap_or(said);
     let less_meant = meant.get(1..).unwrap_or(meant);
@@ -51,7 +46,6 @@ fn slips_here(said: &[u8], meant: &[u8]) -> bool {
     less_said == meant || said == less_meant || less_said == less_meant || is_swapped
 }
 
-/// Whether `word` is similar to `meant`: they differ at most by one typing error, or `word` is the start of `meant`.
 pub(crate) fn is_near(word: &str, meant: &str) -> bool {
     let (said, meant) = (word.as_bytes(), meant.as_bytes());
     for at in 0..said.len() {
@@ -64,9 +58,6 @@ pub(crate) fn is_near(word: &str, meant: &str) -> bool {
     true
 }
 
-// ---- the rules of a style
-
-/// Whether a value of `--rule` is a string without quotes: it consists of ASCII letters and `_`, and isn't `true` or `false`.
 fn is_bare_string(value: &str) -> bool {
     let bytes = value.as_bytes();
     bytes.iter().all(|b| b.is_ascii_alphabetic() || *b == b'_')
@@ -74,7 +65,6 @@ fn is_bare_string(value: &str) -> bool {
         && value != "false"
 }
 
-/// Returns the text of the style file that the values of `--rule` represent. It has a line for each value.
 fn settings_text<A: Allocator>(alloc: A, settings: &[&str]) -> Result<String<A>, AllocError> {
     let mut text = String::new(alloc);
     for setting in settings {
@@ -87,7 +77,6 @@ fn settings_text<A: Allocator>(alloc: A, settings: &[&str]) -> Result<String<A>,
     Ok(text)
 }
 
-/// Returns the error that a file can't be read.
 pub(crate) fn unread_file<A: Allocator + Copy>(
     alloc: A,
     file: &str,
@@ -97,7 +86,6 @@ pub(crate) fn unread_file<A: Allocator + Copy>(
     Ok(Failure::Said(format!(in alloc; "{shown}: {why}")?))
 }
 
-/// Returns the message of an error in the rules of a style.
 fn message_of(kind: StyleErrorKind) -> &'static str {
     match kind {
         StyleErrorKind::Syntax(kind) => kind.message(),
@@ -110,7 +98,6 @@ fn message_of(kind: StyleErrorKind) -> &'static str {
     }
 }
 
-/// Returns the error in the rules of a style. `name` is the path of their file, or `--rule`.
 fn style_failure<A: Allocator + Copy>(
     alloc: A,
     name: &str,
@@ -137,7 +124,6 @@ fn style_failure<A: Allocator + Copy>(
     Ok(Failure::Said(words))
 }
 
-/// Returns the error of the first number of digits without an effect: 0, or more digits than an integer of 128 bits has.
 fn size_error(text: &str) -> Option<StyleError<'_>> {
     let mut tokens = Sources::new(text);
     let mut names = (0_usize, 0_usize);
@@ -160,7 +146,6 @@ fn size_error(text: &str) -> Option<StyleError<'_>> {
     None
 }
 
-/// Whether a style has the rule `min_digits`, but no rule for digit groups.
 fn lacks_groups(style: &Style) -> bool {
     let Some(groups) = style.digit_groups else {
         return false;
@@ -168,7 +153,6 @@ fn lacks_groups(style: &Style) -> bool {
     groups.binary == 0 && groups.octal == 0 && groups.decimal == 0 && groups.hexadecimal == 0
 }
 
-/// Parses the rules of a style. Each rule must have an effect.
 fn parsed_style<A: Allocator + Copy>(
     alloc: A,
     name: &str,

@@ -14,10 +14,8 @@ use crate::rl_syntax::Kind;
 use crate::rattle_std::alloc::Allocator;
 use crate::rattle_std::io::Write;
 
-/// The maximum length, in bytes, of the text of an invalid literal in JSON.
 const LONGEST: usize = 1024;
 
-/// Appends the names of rules with a separator between them.
 fn push_names<A: Allocator>(out: &mut String<A>, separator: &str, rules: &[Rule]) -> Appended {
     let mut is_first = true;
     for rule in rules {
@@ -30,7 +28,6 @@ fn push_names<A: Allocator>(out: &mut String<A>, separator: &str, rules: &[Rule]
     Ok(())
 }
 
-/// Returns the digits in the line of a number, which is its kind, its digits, and its suffix.
 fn digits_in(line: &str) -> &str {
     let (_, rest) = line.split_once(' ').unwrap_or(("", ""));
     let (digits, _) = rest.split_once(' ').unwrap_or((rest, ""));
@@ -38,7 +35,6 @@ fn digits_in(line: &str) -> &str {
 }
 
 impl<'p, 'a, A: Allocator + Copy, W: Write> Page<'p, 'a, A, W> {
-    /// Prints the words of a finding in a line.
     pub(crate) fn print_words(&mut self, finding: &Finding<'_>) -> Done<A> {
         let (within, escapes) = (self.within(), Escapes::Literal);
         match finding {
@@ -77,7 +73,6 @@ impl<'p, 'a, A: Allocator + Copy, W: Write> Page<'p, 'a, A, W> {
         }
     }
 
-    /// Prints the value of a literal as JSON.
     fn print_value(&mut self, literal: &Literal<'_>) -> Done<A> {
         if let (Some(Kind::Str), Some((_, value))) = (literal.kind(), literal.plain_value()) {
             return self.output.print_json("", value);
@@ -103,7 +98,6 @@ impl<'p, 'a, A: Allocator + Copy, W: Write> Page<'p, 'a, A, W> {
         Ok(())
     }
 
-    /// Prints the members of an error.
     fn print_fault(&mut self, fault: &Fault<'_>) -> Done<A> {
         match fault.literal {
             Some(text) if text.len() > LONGEST => self.output.text.push_str(",\"text\":null")?,
@@ -118,7 +112,6 @@ impl<'p, 'a, A: Allocator + Copy, W: Write> Page<'p, 'a, A, W> {
         self.output.print_json(",\"piece\":", fault.piece)
     }
 
-    /// Prints the members of a finding in a JSON object.
     pub(crate) fn print_members(&mut self, finding: &Finding<'_>) -> Done<A> {
         match finding {
             Finding::Literal(literal) => {
