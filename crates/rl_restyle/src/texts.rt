@@ -14,10 +14,10 @@ use rl_syntax::Kind;
 use std::alloc::{AllocError, Allocator};
 
 /// The size in bytes of the buffer for the new text of a short literal.
-const SHORT: usize = 256;
+pub(crate) const SHORT: usize = 256;
 
 /// Returns the size in bytes of the buffer that [`rewrite_into`] needs for a literal with the text `text`.
-fn buffer_len(text: &str) -> Result<usize, AllocError>
+pub(crate) fn buffer_len(text: &str) -> Result<usize, AllocError>
     ensures { IfOk result (λ n. n ≡ 4 * length text.now + 1) }
 {
     let Some(most) = text.len().checked_mul(4) else {

@@ -90,7 +90,7 @@ fn peak_of(words: &[&str], path: &Path) -> usize {
     said.trim().parse().expect("it is a number")
 }
 
-/// Tests `--check`, `--diff` and `--fix` on a file of 20 MB. Each literal of the file is rewritten.
+/// Tests `--check`, `--diff` and `--fix` with `-q` on a file. Each literal of the file is rewritten.
 fn assert_rewritten(name: &str, text: &str) {
     let path = Path::new(env!("CARGO_TARGET_TMPDIR")).join(name);
     for mode in REWRITING {
@@ -104,8 +104,8 @@ fn assert_rewritten(name: &str, text: &str) {
 
 #[test]
 fn many_rewritten_literals() {
-    assert_rewritten("floats.rs", &format!("[{}]\n", "1E5,".repeat(5_000_000)));
-    let raw = "r#\"a\"#,".repeat(2_500_000);
+    assert_rewritten("floats.rs", &format!("[{}]\n", "1E5,".repeat(1_000_000)));
+    let raw = "r#\"a\"#,".repeat(500_000);
     assert_rewritten("raw.rs", &format!("[{raw}]\n"));
 }
 
@@ -113,4 +113,6 @@ fn many_rewritten_literals() {
 fn one_rewritten_literal() {
     let escapes = "\\'".repeat(10_000_000);
     assert_rewritten("escapes.rs", &format!("let a = \"{escapes}\";\n"));
+    let plain = "a".repeat(20_000_000);
+    assert_rewritten("hashes.rs", &format!("let a = r#\"{plain}\"#;\n"));
 }
