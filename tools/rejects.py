@@ -79,7 +79,7 @@ MACROS = """assert assert_eq assert_ne cfg column compile_error concat dbg debug
     unimplemented""".split()
 CORE_MACROS = [*MACROS, 'format', 'write', 'writeln', 'vec', 'prove']
 CORE_IMPLS = {
-    'Clone': 'impl Clone for Odd {\n}', 'Drop': 'impl<T> core::ops::Drop for Odd<T> {\n}', 'From': 'impl From<u8> for Odd {\n}',
+    'Clone': 'impl Clone for Odd {\n}', 'BitOr': 'impl<T> core::ops::BitOr for Odd<T> {\n}', 'From': 'impl From<u8> for Odd {\n}',
     'PartialEq': 'impl<T: Fn(u8) -> u8> PartialEq<Odd<T>> for Odd<T> {\n}', 'Add': 'impl<T>\nops::Add<T>\nfor Odd {\n}',
     **{name: f'impl {name} for Odd {{\n}}' for name in ('Hash', 'Ord', 'PartialOrd', 'Eq', 'Deref', 'DerefMut', 'Not', 'Neg', 'Default', 'AsRef',
                                                         'Borrow', 'Debug', 'TryFrom', 'IntoIterator', 'Hasher', 'Write', 'FromStr')},
