@@ -1,7 +1,7 @@
 """Tests the changes of sources that tools/render must reject: calls that could mean something else in Rust than in Rattle; words,
 macros and impls that its output can't contain; entries of its lists that name nothing; and files of its two folders that it doesn't
-write. It also tests changes of the renderer itself, by which its output loses or gets code. Each changed text takes the place of a file when the file is read, and changed folders are
-copies. No file of the repository is written.
+write. It also tests changes of the renderer itself, by which its output loses or gets code. Each changed text takes the place of a
+file when the file is read, and changed folders are copies. No file of the repository is written.
 
     python3 tools/rejects.py    prints each change that is rejected although it is valid, or isn't rejected, in 10 s; the last line
                                 counts both
