@@ -1,7 +1,7 @@
 """Tests the changes of sources that tools/render must reject: calls that could mean something else in Rust than in Rattle; words,
-macros and impls that its output can't contain; words that an eraser adds; entries of its lists that name nothing; and files of its
-two folders that it doesn't write. Each changed text takes the place of a file when the file is read, and changed folders are
-copies. No file of the repository is written.
+macros and impls that its output can't contain; entries of its lists that name nothing; and files of its two folders that it doesn't
+write. It also tests changes of the renderer itself, by which its output loses or gets code. Each changed text takes the place of a
+file when the file is read, and changed folders are copies. No file of the repository is written.
 
     python3 tools/rejects.py    prints each change that is rejected although it is valid, or isn't rejected, in 10 s; the last line
                                 counts both
@@ -79,7 +79,7 @@ MACROS = """assert assert_eq assert_ne cfg column compile_error concat dbg debug
     unimplemented""".split()
 CORE_MACROS = [*MACROS, 'format', 'write', 'writeln', 'vec', 'prove']
 CORE_IMPLS = {
-    'Clone': 'impl Clone for Odd {\n}', 'Drop': 'impl<T> core::ops::Drop for Odd<T> {\n}', 'From': 'impl From<u8> for Odd {\n}',
+    'Clone': 'impl Clone for Odd {\n}', 'BitOr': 'impl<T> core::ops::BitOr for Odd<T> {\n}', 'From': 'impl From<u8> for Odd {\n}',
     'PartialEq': 'impl<T: Fn(u8) -> u8> PartialEq<Odd<T>> for Odd<T> {\n}', 'Add': 'impl<T>\nops::Add<T>\nfor Odd {\n}',
     **{name: f'impl {name} for Odd {{\n}}' for name in ('Hash', 'Ord', 'PartialOrd', 'Eq', 'Deref', 'DerefMut', 'Not', 'Neg', 'Default', 'AsRef',
                                                         'Borrow', 'Debug', 'TryFrom', 'IntoIterator', 'Hasher', 'Write', 'FromStr')},

@@ -474,6 +474,6 @@ fn the_time_grows_with_the_input() {
 
 #[test]
 fn values_keep_their_state() {
-    let changed: [&str; 0] = changed!();
-    assert!(changed.is_empty());
+    let changed: &[&str] = &changed!();
+    assert_eq!(changed, [""; 0]);
 }
