@@ -103,7 +103,7 @@ def segments(row):
     return out + lines(*(run('rl_cursors::ranges::text_range', kind, given, at(body), *it) for it in ranges))
 
 
-def strict(row):
+def reading(row):
     given = text(row)
     flaw = run('rl_strict::reasons::explain', given)
     out = lines(flaw, some(run('rl_strict::flaws::Flaw::in_span', flaw[1], (7, 3, 9))) if flaw[0] else NONE)
@@ -203,7 +203,7 @@ FOUND = [f'rl_lenient::{it}' for it in (
 LEADING = [f'rl_cursors::{it}' for it in ('leading::leading_literal', 'leading::leading_signed_literal', 'groups::first_error')]
 COMMANDS = {
     'tokens': tokens, 'sources': sources, 'recovery': recovery, 'leading': each_of(*LEADING), 'found': each_of(*FOUND),
-    'segments': segments, 'strict': strict, 'flaws': flaws, 'pieces': pieces, 'types': types, 'before': before, 'written': written,
+    'segments': segments, 'reading': reading, 'flaws': flaws, 'pieces': pieces, 'types': types, 'before': before, 'written': written,
     'restyled': restyled, 'restylable': restylable,
     'source-literals': lambda row: calls('rl_cursors::source_literals::next_source_literal', new(SOURCES, row), last=(0, 2)),
     'literals': lambda row: calls('rl_cursors::next_literals::next_literal', new(TOKENS, row)),
