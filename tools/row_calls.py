@@ -86,12 +86,9 @@ def line(literal):
     return owned(run('rl_program::lit_line::output_line', ALLOC, at(literal))[1])
 
 
-def spanned(literal):
-    return f"{written('rust_literals::lit::copies::LitDebug::fmt', literal)} {place(lit('span', literal))}"
-
-
 def whole(literal):
-    return f'{spanned(literal)} {line(literal)}'
+    debug = written('rust_literals::lit::copies::LitDebug::fmt', literal)
+    return f"{debug} {place(lit('span', literal))} {line(literal)}"
 
 
 def number_part(method, number, kind):
