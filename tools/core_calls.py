@@ -45,8 +45,7 @@ def after(type_, cursor, *names):
 
 
 TOKENS, SOURCES, RECOVERY = 'rl_lexer::cursor::Tokens', 'rl_lexer::sources::Sources', 'rl_cursors::recovery::Recovery'
-LIST, SEGMENTS = 'rl_cursors::lists::ListLiterals', 'rl_cursors::segments::Segments'
-RESTYLABLES = 'rl_style::restylable::Restylables'
+LIST, SEGMENTS, RESTYLABLES = 'rl_cursors::lists::ListLiterals', 'rl_cursors::segments::Segments', 'rl_style::restylable::Restylables'
 
 
 def new(type_, row):
