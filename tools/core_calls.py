@@ -45,8 +45,7 @@ def after(type_, cursor, *names):
 
 
 TOKENS, SOURCES, RECOVERY = 'rl_lexer::cursor::Tokens', 'rl_lexer::sources::Sources', 'rl_cursors::recovery::Recovery'
-LIST, SEGMENTS = 'rl_cursors::lists::ListLiterals', 'rl_cursors::segments::Segments'
-RESTYLABLES = 'rl_style::restylable::Restylables'
+LIST, SEGMENTS, RESTYLABLES = 'rl_cursors::lists::ListLiterals', 'rl_cursors::segments::Segments', 'rl_style::restylable::Restylables'
 
 
 def new(type_, row):
@@ -103,7 +102,7 @@ def segments(row):
     return out + lines(*(run('rl_cursors::ranges::text_range', kind, given, at(body), *it) for it in ranges))
 
 
-def strict(row):
+def reading(row):
     given = text(row)
     flaw = run('rl_strict::reasons::explain', given)
     out = lines(flaw, some(run('rl_strict::flaws::Flaw::in_span', flaw[1], (7, 3, 9))) if flaw[0] else NONE)
@@ -203,7 +202,7 @@ FOUND = [f'rl_lenient::{it}' for it in (
 LEADING = [f'rl_cursors::{it}' for it in ('leading::leading_literal', 'leading::leading_signed_literal', 'groups::first_error')]
 COMMANDS = {
     'tokens': tokens, 'sources': sources, 'recovery': recovery, 'leading': each_of(*LEADING), 'found': each_of(*FOUND),
-    'segments': segments, 'strict': strict, 'flaws': flaws, 'pieces': pieces, 'types': types, 'before': before, 'written': written,
+    'segments': segments, 'reading': reading, 'flaws': flaws, 'pieces': pieces, 'types': types, 'before': before, 'written': written,
     'restyled': restyled, 'restylable': restylable,
     'source-literals': lambda row: calls('rl_cursors::source_literals::next_source_literal', new(SOURCES, row), last=(0, 2)),
     'literals': lambda row: calls('rl_cursors::next_literals::next_literal', new(TOKENS, row)),

@@ -2,6 +2,7 @@
 rust/programs/rows/tests/calls, and `COMMANDS` one for each command of `rl_rows`. Their results have the form of these rows.
 """
 import callers
+import core_calls
 from callers import ALLOC, BYTES, GLOBAL, INPUT, LIT_BOOL, STRING, at, implementation, run
 from proved import Pointer, bytes_of, string, text
 
@@ -55,12 +56,9 @@ def place(span):
     return f'{span[0]}:{between(span)}'
 
 
-def message(error):
-    return written('rl_tokens::error::ErrorDisplay::fmt', error)
-
-
 def error_of(error):
-    return f"{place(error[0])} {written('rl_tokens::error::ErrorKindDebug::fmt', error[1])}: {message(error)}\n"
+    kind, message = written('rl_tokens::error::ErrorKindDebug::fmt', error[1]), written('rl_tokens::error::ErrorDisplay::fmt', error)
+    return f'{place(error[0])} {kind}: {message}\n'
 
 
 def result(answer, shown):
@@ -70,10 +68,6 @@ def result(answer, shown):
 
 def numbers(values):
     return '[' + ', '.join(map(str, values)) + ']'
-
-
-def bool_word(value):
-    return str(value).lower()
 
 
 def token(row, span=HERE):
@@ -92,20 +86,13 @@ def line(literal):
     return owned(run('rl_program::lit_line::output_line', ALLOC, at(literal))[1])
 
 
-def spanned(literal):
-    return f"{written('rust_literals::lit::copies::LitDebug::fmt', literal)} {place(lit('span', literal))}"
-
-
 def whole(literal):
-    return f'{spanned(literal)} {line(literal)}'
-
-
-def number_call(method, kind, *values, types=()):
-    return run(f'rust_literals::number::Number::{method}', *values, types=literal_type(kind)[2] + types)
+    debug = written('rust_literals::lit::copies::LitDebug::fmt', literal)
+    return f"{debug} {place(lit('span', literal))} {line(literal)}"
 
 
 def number_part(method, number, kind):
-    return string(number_call(method, kind, at(number)))
+    return string(run(f'rust_literals::number::Number::{method}', at(number), types=literal_type(kind)[2]))
 
 
 def parts(found):
@@ -196,7 +183,7 @@ def c_string(row):
         return f"zero at {where} of {numbers(items(run('rl_tokens::c_string::NulError::into_vec', answer[1]), 1))}"
     held = at(answer[1])
     literal = quoted_new('CStr', held, types=(GLOBAL, GLOBAL))
-    same = result(literal, lambda it: result(quoted_value('CStr', it), lambda it: bool_word(
+    same = result(literal, lambda it: result(quoted_value('CStr', it), lambda it: core_calls.shown(
         run('rl_tokens::c_string::CStringPartialEq::eq', at(it), held)) + ' '))
     data = numbers(bytes_of(run('rl_tokens::c_string::CString::as_bytes', held)))
     return f"{data} {made('c_string', held)}{same}{literal_line('CStr', literal)}"
@@ -224,7 +211,7 @@ def parser(type_):
             return 'no trees'
         name, types, dicts = implementation('rl_tokens::parse::Token', type_)
         display = string(callers.library.call(f'{name}::display', types=types, dicts=dicts))
-        peeked = bool_word(buffer('peek', input_, types=(GLOBAL, type_)))
+        peeked = core_calls.shown(buffer('peek', input_, types=(GLOBAL, type_)))
         parsed = result(buffer('parse', input_, ALLOC, types=(GLOBAL, type_)), lambda _: 'ok\n')
         return f"{display}, {peeked}: {parsed}next {place(buffer('span', input_))}"
     return shown
@@ -235,7 +222,7 @@ def mark(row):
     group = buffer('group', input_)
     if group[0]:
         input_ = at(run('rl_tokens::token::Group::inside', group[1]))
-    peeked = bool_word(buffer('peek_punct', input_, ord('=')))
+    peeked = core_calls.shown(buffer('peek_punct', input_, ord('=')))
     taken_ = result(buffer('take_punct', input_, ord('=')), lambda _: 'ok\n')
     return f"equals sign, {peeked}: {taken_}next {place(buffer('span', input_))}"
 
@@ -277,7 +264,7 @@ def value_line(row):
 
 COMMANDS = {
     'text': lambda row: line(literal_of(row)), 'value': value_line, 'skip': lambda row: f"{run('rl_lexer::whitespace::skip', text(row))[1]}\n",
-    'strict': lambda row: bool_word(run('rl_grammar::strict::is_token', text(row))) + '\n',
+    'strict': lambda row: core_calls.shown(run('rl_grammar::strict::is_token', text(row))) + '\n',
     'read': output_lines('list::literal_lines'), 'attr': output_lines('attribute_lines::attribute_lines'),
 }
 ROWS = {

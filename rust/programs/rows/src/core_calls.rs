@@ -73,7 +73,7 @@ fn segments(text: &str) -> String {
     out + &lines!(range(0, half), range(half, len), range(half, half))
 }
 
-fn strict(text: &str) -> String {
+fn reading(text: &str) -> String {
     let flaw = explain(text);
     let mut out = lines!(flaw, flaw.map(|it| it.in_span(Span::new(7, 3, 9))));
     for ends in [LineEnds::Text, LineEnds::File] {
@@ -211,7 +211,10 @@ pub fn core_call(command: &str, text: &str) -> Option<String> {
         "recovery" => {
             steps!(Recovery::resume(text, Sources::new(text).rest()), next_recovered_literal; SourceStep::End)
         }
-        "literals" => steps!(Tokens::new(text), next_literal; None),
+        "literals" => {
+            let mut tokens = Tokens::new(text);
+            calls(|| next_literal(&mut tokens), Option::is_none)
+        }
         "list" => {
             steps!(ListLiterals::new(text), ListLiterals::next; ListStep::End | ListStep::Rejected(_))
         }
@@ -240,7 +243,7 @@ pub fn core_call(command: &str, text: &str) -> Option<String> {
             ) + &lines!(integer_parts(text), float_parts(text), bool_of(text))
         }
         "segments" => segments(text),
-        "strict" => strict(text),
+        "reading" => reading(text),
         "flaws" => flaws(text),
         "pieces" => Pieces::of(text).map_or(String::new(), |it| cursor!(it, next)),
         "types" => types(text),
