@@ -18,13 +18,7 @@ pub(crate) fn owned(text: Cow<'_, str>) -> Cow<'static, str> {
 /// Returns the text from the byte offset `suffix_at` to its end.
 #[inline(always)]
 pub(crate) fn suffix_of(text: &str, suffix_at: usize) -> &str {
-    let (lo, hi, plain) = (suffix_at, suffix_at, false);
-    let body = Body {
-        lo,
-        hi,
-        suffix_at,
-        plain,
-    };
+    let body = Body::up_to(suffix_at, false);
     parts::suffix_of(text, &body)
 }
 

@@ -19,20 +19,22 @@ fn written(front: &str, body: &str, write: impl FnOnce(&str, &mut [u8]) -> usize
 }
 
 /// Returns the value of a string whose body has escapes: the values of the body's segments, joined. The value is no longer than the
-/// body.
+/// body, which has an escape and so isn't empty.
 pub(crate) fn text_of(body: &str) -> String {
     let (mut out, mut rest) = (String::with_capacity(body.len()), body);
-    while !rest.is_empty() {
+    loop {
         let (value, after) = split_segment(Kind::Str, false, rest);
+        rest = after;
         match value {
             SegmentValue::Text(run) => out.push_str(run),
             SegmentValue::Char(c) => out.push(c),
             SegmentValue::Byte(_) => unreachable!("a string holds characters"),
             SegmentValue::Nothing => {}
         }
-        rest = after;
+        if rest.is_empty() {
+            return out;
+        }
     }
-    out
 }
 
 /// Returns the value of a byte string or a C string whose body has escapes.

@@ -188,7 +188,7 @@ mod tests {
     use super::{Shape, ValueEnd};
 
     /// Returns the value at the start of a text. In the text `{` represents a group in braces, `(` another group, `m` the keyword
-    /// `move`, `A` the keyword `as`, `d` the keyword `dyn`, `≤` a `<` that
+    /// `move`, `q` the keyword `async`, `A` the keyword `as`, `d` the keyword `dyn`, `≤` a `<` that
     /// opens angle brackets, `?` one that may open them, and `‹` a `<` directly before another punctuation character.
     fn value_of(text: &str) -> &str {
         let mut end = ValueEnd::default();
@@ -196,6 +196,7 @@ mod tests {
             ' ' => false,
             '{' => end.is_at(Shape::Braces),
             'm' => end.is_at(Shape::of_word("move")),
+            'q' => end.is_at(Shape::of_word("async")),
             'A' => end.is_at(Shape::of_word("as")),
             'd' => end.is_at(Shape::of_word("dyn")),
             '≤' => end.is_at(Shape::Open),
@@ -233,7 +234,7 @@ mod tests {
 
     #[test]
     fn nor_do_those_of_a_closure() {
-        let values = "|x, y| x § || x § m |x, y: z<u, v>| x < y § |x, y| -> z<u, v> { § |x| -> fn( -> z<u, v> { § |x, y| x | y\
+        let values = "|x, y| x § || x § m |x, y: z<u, v>| x < y § q |x, y| x § |x, y| -> z<u, v> { § |x| -> fn( -> z<u, v> { § |x, y| x | y\
  § &|x, y| x § || |x, y| x § x = |x, y| x";
         for value in values.split(" § ") {
             let text = std::format!("{value}, b | c, d");
