@@ -9,9 +9,9 @@ use crate::rl_style::{Restylable, Style, rewrite_into};
 use crate::rl_syntax::Kind;
 use crate::rattle_std::alloc::{AllocError, Allocator};
 
-const SHORT: usize = 256;
+pub(crate) const SHORT: usize = 256;
 
-fn buffer_len(text: &str) -> Result<usize, AllocError> {
+pub(crate) fn buffer_len(text: &str) -> Result<usize, AllocError> {
     let Some(most) = text.len().checked_mul(4) else {
         return Err(AllocError);
     };
