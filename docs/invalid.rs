@@ -1,4 +1,4 @@
-//! Invalid literals, for the first command of README.md. This file isn't compiled.
+//! Invalid literals, for the command of README.md. This file isn't compiled.
 
 const FOLDER: &str = "C:\dir";
 const FACE: char = '\u{1F6000}';
