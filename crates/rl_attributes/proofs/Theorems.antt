@@ -8,7 +8,8 @@ use Rattle.std.proofs.Common.{◌↔◌, List, All, Any}
 use Rattle.rl_attributes.specs.declared.attributes.Entry.{Entry}
 use Rattle.rl_attributes.specs.Attributes.{Attribute}
 use Rattle.rl_attributes.specs.Entries.{attribute_of, attributes_of}
-use Rattle.rl_attributes.specs.Laws.{AStringIsParsedFromItsText, ABoolIsParsedFromItsText, TheTextTellsTheKind, TheTextTellsTheSuffix, AMalformedLiteralHasNoReading, OnlyAnAllocationFailureRejectsAString, ABoolIsAccepted, KnownNamesAreTheSettings}
+use Rattle.rl_attributes.specs.Laws.{AStringIsParsedFromItsText, ABoolIsParsedFromItsText, TheTextTellsTheKind, TheTextTellsTheSuffix, AMalformedLiteralHasNoReading, OnlyAnAllocationFailureRejectsAString, ABoolIsAccepted, KnownNamesAreTheSettings, ARejectedNumberIsAtTheValue, ARejectedStringIsAtTheValue, ARejectedBoolIsAtTheValue}
+use Rattle.rl_attributes.proofs.ValuePlaces.{number_at, string_at, truth_at}
 use Rattle.rl_attributes.proofs.TextLemmas.{string_in_text, truth_reads, is_kind, suffix_is, malformed, string_memory, truth_fits, knows_one, one_known, all_map, all_unmap, any_map, any_unmap}
 
 pub a_string_is_parsed_from_its_text : {A B : Type 0} → AStringIsParsedFromItsText A B
@@ -42,3 +43,12 @@ all_entries_are_all_attributes Is es = (all_map attribute_of Is es, all_unmap at
 pub an_entry_is_an_attribute : {A : Type 0} (Is : Attribute → Type 0) (es : List (Entry A))
     → Any (λ e. Is (attribute_of e)) es ↔ Any Is (attributes_of es)
 an_entry_is_an_attribute Is es = (any_map attribute_of Is es, any_unmap attribute_of Is es)
+
+pub a_rejected_number_is_at_the_value : {A N E : Type 0} → ARejectedNumberIsAtTheValue A N E
+a_rejected_number_is_at_the_value = number_at
+
+pub a_rejected_string_is_at_the_value : {A : Type 0} → ARejectedStringIsAtTheValue A
+a_rejected_string_is_at_the_value = string_at
+
+pub a_rejected_bool_is_at_the_value : {A : Type 0} → ARejectedBoolIsAtTheValue A
+a_rejected_bool_is_at_the_value = truth_at

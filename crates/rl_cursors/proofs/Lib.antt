@@ -1,5 +1,6 @@
 pub mod NextLiteralLemmas
 pub mod NextValueLemmas
+pub mod OneNextLiteral
 pub mod SourceLiteralLemmas
 pub mod SegmentValues
 pub mod SegmentLemmas

@@ -1,5 +1,5 @@
 -- The statements of the laws of src/laws.rt, each as a definition.
-use Rattle.std.specs.Prelude.{List, ℕ}
+use Rattle.std.specs.Prelude.{◌≡◌, List, ℕ}
 use Rattle.std.specs.Str.{IsUtf8}
 use Rattle.rl_syntax.specs.declared.kind.Kind.{Kind}
 use Rattle.rl_syntax.specs.Quoted.{QuotedUnit}
@@ -7,7 +7,8 @@ use Rattle.rl_lexer.specs.Cursors.{CursorState}
 use Rattle.rl_lenient.specs.declared.found.Body.{Body}
 use Rattle.rl_lenient.specs.Founds.{IsQuotedAt}
 use Rattle.rl_cursors.specs.declared.next_literals.NextLiteral.{NextLiteral}
-use Rattle.rl_cursors.specs.NextLiterals.{TakesNextLiteral, IsReadLiteral}
+use Rattle.rl_lexer.specs.Laws.{token_parts}
+use Rattle.rl_cursors.specs.NextLiterals.{TakesNextLiteral, HasNoNextLiteral, IsReadLiteral}
 use Rattle.rl_cursors.specs.SegmentLaws.{AllMakeTheLiteral, AreOneSegment, PlacesKeepTheOrder, OffsetsAreIn}
 
 -- The segments that `Segments` returns for a literal fill the text between its quotes. Each segment begins where the
@@ -42,3 +43,14 @@ TheOffsetsOfBytesAreInTheBody =
 abbrev pub ATakenLiteralIsRead : Type 0
 ATakenLiteralIsRead =
     (old new : CursorState) (l : NextLiteral) → TakesNextLiteral old l new → IsReadLiteral l
+
+-- A cursor over a text has at most one next literal: one token, one minus before it, and one position after it.
+abbrev pub ACursorHasOneNextLiteral : Type 0
+ACursorHasOneNextLiteral =
+    (old a b : CursorState) (l m : NextLiteral) → TakesNextLiteral old l a → TakesNextLiteral old m b
+    → (token_parts l.token ≡ token_parts m.token) × (l.minus_at ≡ m.minus_at) × (a ≡ b)
+
+-- If a cursor consumes a literal, it isn't a cursor without a next literal.
+abbrev pub ATakenLiteralIsANextLiteral : Type 0
+ATakenLiteralIsANextLiteral =
+    (old new : CursorState) (l : NextLiteral) → TakesNextLiteral old l new → HasNoNextLiteral old → ⊥

@@ -1,6 +1,6 @@
 //! Laws of the segments of literals, and of the literals of lists. Each function does nothing, and its contract is the law.
 
-ghost use Rattle.rl_cursors.specs.Laws.{SegmentsMakeTheLiteral, ASegmentHasOneValue, ThePlacesOfBytesAreInOrder, TheOffsetsOfBytesAreInTheBody, ATakenLiteralIsRead};
+ghost use Rattle.rl_cursors.specs.Laws.{SegmentsMakeTheLiteral, ASegmentHasOneValue, ThePlacesOfBytesAreInOrder, TheOffsetsOfBytesAreInTheBody, ATakenLiteralIsRead, ACursorHasOneNextLiteral, ATakenLiteralIsANextLiteral};
 
 /// The segments that [`Segments`](crate::Segments) returns for a literal fill the text between its quotes. Each segment
 /// begins where the one before it ends. The values of all segments, joined, are the literal's value.
@@ -32,4 +32,11 @@ pub fn text_offsets_are_in_the_body()
 /// The parse result of a literal that [`next_literal`](crate::next_literal) returns is that of the literal's text.
 pub fn a_next_literal_is_parsed_as_its_text()
     ensures { ATakenLiteralIsRead }
+{}
+
+/// A cursor has at most one next literal: one token, one minus before it, and one position after it. A cursor that has a
+/// next literal isn't one that [`next_literal`](crate::next_literal) returns `None` for.
+pub fn a_cursor_has_one_next_literal()
+    ensures one { ACursorHasOneNextLiteral }
+    ensures never_both { ATakenLiteralIsANextLiteral }
 {}

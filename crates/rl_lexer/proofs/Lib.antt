@@ -27,6 +27,7 @@ pub mod TruthWords
 pub mod QuotedLexemes
 pub mod Continues
 pub mod MinusLaw
+pub mod NextLaws
 pub mod LexemeGaps
 pub mod SameTokens
 pub mod PrintedCuts

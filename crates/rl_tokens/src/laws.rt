@@ -7,7 +7,8 @@ ghost use Rattle.rl_tokens.specs.Lexing.{ATextLexesOrHasAnError, NeverBoth, OneL
 ghost use Rattle.rl_tokens.specs.PrintedTrees.{PrintedLiteralsLexToTheirTrees, ReprintedLiteralsLexToThemselves};
 
 pub use rl_lexer::laws::{
-    a_source_has_one_lexing, literals_dont_begin_with_a_minus, text_tokens_are_source_tokens,
+    a_cursor_has_one_next_token, a_source_has_one_lexing, literals_dont_begin_with_a_minus,
+    text_tokens_are_source_tokens,
 };
 pub use rl_syntax::laws::{
     a_minus_tells_the_sign, a_negated_strict_number_is_a_syn_literal,

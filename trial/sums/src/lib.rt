@@ -1,0 +1,4 @@
+//! Trial.
+#![tactic(auto)]
+
+pub mod sums;
