@@ -6,7 +6,7 @@
 
 #[cfg_attr(not(feature = "__rendered"), allow(dead_code))]
 #[allow(unused_imports, unused_variables)]
-#[allow(clippy::style, clippy::complexity, clippy::perf, clippy::pedantic)]
+#[allow(clippy::style, clippy::complexity, clippy::perf, clippy::pedantic, clippy::manual_unwrap_or_default)]
 #[rustfmt::skip]
 mod proved;
 pub mod rattle_std;

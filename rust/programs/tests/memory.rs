@@ -96,7 +96,10 @@ fn assert_rewritten(name: &str, text: &str) {
     for mode in REWRITING {
         fs::write(&path, text).expect("the file can be written");
         let peak = peak_of(&[mode, "-q"], &path);
-        assert!(peak <= 4096 + 3 * text.len() / 1024, "{name}: {mode}: {peak}");
+        assert!(
+            peak <= 4096 + 3 * text.len() / 1024,
+            "{name}: {mode}: {peak}"
+        );
         let is_new = fs::read(&path).expect("the file can be read") != text.as_bytes();
         assert_eq!(is_new, mode == "--fix", "{name}: {mode}");
     }

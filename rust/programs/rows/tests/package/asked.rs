@@ -3,7 +3,7 @@
 use crate::flaws::proved_flaw_in_file;
 use crate::lists::{range_at, words_of};
 use crate::literals::{check_same, Proved};
-use navyspindle::{parse_settings, Key, Lit, Number, SettingError, Settings};
+use navyspindle::{parse_settings, Key, Lit, Number, SettingError, SettingErrorKind, Settings};
 use navyspindle_programs::rattle_std::alloc::Global;
 use navyspindle_programs::rl_attributes::{self, Attrs};
 use navyspindle_programs::rl_tokens::{parse_all, Error, ErrorKind};
@@ -67,8 +67,12 @@ fn told<T: Display>(answer: Result<Option<T>, SettingError>) -> Told {
         Ok(value) => Ok(value.map(|it| it.to_string())),
         Err(error) => {
             let (words, range) = (error.kind().to_string(), error.range());
-            let line = format!("{words} at byte {}", range.start);
-            assert_eq!(error.to_string(), with_help(line, error.help()));
+            let line = with_help(format!("{words} at byte {}", range.start), error.help());
+            let printed = error.to_string();
+            let hint = printed.strip_prefix(&line).expect(&printed);
+            let is_hint = hint.starts_with(": did you mean `") && hint.ends_with("`?");
+            let is_unknown = matches!(error.kind(), SettingErrorKind::Unknown(_));
+            assert!(hint.is_empty() || is_unknown && is_hint, "{printed}");
             Err((words, range))
         }
     }
