@@ -18,14 +18,14 @@ use std::{fs, io};
 /// The maximum length of a file or of standard input: 1 GiB.
 pub const LONGEST: u64 = 1 << 30;
 
-/// The number of bytes that one call of a reader requests. The buffer is filled with zeros for each file.
-pub(crate) const PIECE: usize = 4096;
+/// The number of bytes that one call of a reader requests.
+const PIECE: usize = 8192;
 
 /// The maximum number of calls of a reader.
-pub(crate) const TURNS: u32 = u32::MAX;
+const TURNS: u32 = u32::MAX;
 
 /// The number of bytes of a text that are tested for UTF-8 first.
-const FIRST_TEST: usize = 16 * 1024;
+const FIRST_TEST: usize = 64 * 1024;
 
 /// The files of the operating system, and standard input at the path `-`. Nothing is proved about their contents.
 #[derive(Clone, Copy)]
@@ -84,13 +84,13 @@ fn next_test(due: usize, len: usize) -> usize {
     if len < due {
         return due;
     }
-    len.checked_mul(64).unwrap_or(usize::MAX)
+    len.saturating_add(len)
 }
 
 /// Returns all bytes of a reader.
 ///
-/// If they must be a text, they are tested for UTF-8 each time that their number is 64 times that of the last test. So a binary file is
-/// not read whole, and the tests take little time.
+/// If they must be a text, they are tested for UTF-8 each time that their number has doubled. So little more is read of a binary file
+/// than the text at its start.
 ///
 /// # Errors
 ///

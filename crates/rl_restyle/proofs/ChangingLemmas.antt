@@ -8,7 +8,7 @@ use Rattle.rl_style.specs.declared.style.Case.{Case}
 use Rattle.rl_style.specs.declared.style.DigitGroups.{DigitGroups}
 use Rattle.rl_style.specs.declared.style.Separator.{Separator}
 use Rattle.rl_style.specs.declared.style.Style.{Style}
-use Rattle.rl_restyle.specs.Changing.{AreChangingAmong, AreChangingRules, ChangesAlone, TakesRule, is_set, own_groups, rule_alone}
+use Rattle.rl_restyle.specs.Changing.{AreChangingAmong, AreChangingRules, TakesRule, is_set, own_groups, rule_alone}
 use Rattle.rl_restyle.specs.Rules.{settable_rules}
 use Rattle.rl_restyle.specs.declared.rule.Rule.{Rule}
 use Rattle.rl_restyle.specs.declared.rule.Rule.TheVariants.{HexDigits, DropUnderscores, DropLeadingZeros, SuffixSeparator, BinaryGroups, OctalGroups, DecimalGroups, HexadecimalGroups, MinDigits, FloatZero, ExponentLetter, DropExponentPlus, EscapeDigits, FewestEscapeDigits, DropAsciiEscapes, NamedEscapes, DropQuoteEscapes, FewestHashes, DropRaw, EscapeInvisible}
@@ -101,13 +101,23 @@ rule_unset style front old rule rules unset = (
   sym (append-nil rules),
 )
 
-pub rule_taken : (style : Style) (front old : List ℕ) (rule : Rule) (before after : List Rule)
-    → ChangesAlone style front old rule → after ≡ before ++ rule ∷ [] → TakesRule style front old rule before after
-rule_taken style front old rule before after changes pushed = (rule ∷ [], inl (changes, refl), pushed)
+-- A rule with a new text changes the literal. `rule_kept` is the lemma for a rule without a new text.
+pub rule_taken : {A : Type 0} (style own : Style) (front old : List ℕ) (rule : Rule) (before after : List Rule)
+    (made : Option (String A)) → own ≡ rule_alone style rule → is_some made ≡ true
+    → IsRewritten own front old (text_in made) → after ≡ before ++ rule ∷ []
+    → TakesRule style front old rule before after
+rule_taken style own front old rule before after None is some rewritten pushed = absurd (false≢true some)
+rule_taken style own front old rule before after (Some made) is some rewritten pushed =
+    let changed = subst (λ (z : Style). IsRewritten z front old (text_in (Some made))) is rewritten in
+    (rule ∷ [], inl ((chars (string_bytes made), changed.0, changed.1), refl), pushed)
 
-pub rule_kept : (style : Style) (front old : List ℕ) (rule : Rule) (rules : List Rule)
-    → (ChangesAlone style front old rule → ⊥) → TakesRule style front old rule rules rules
-rule_kept style front old rule rules unchanged = ([], inr (unchanged, refl), sym (append-nil rules))
+pub rule_kept : {A : Type 0} (style own : Style) (front old : List ℕ) (rule : Rule) (rules : List Rule)
+    (made : Option (String A)) → own ≡ rule_alone style rule → is_some made ≡ false
+    → IsRewritten own front old (text_in made) → TakesRule style front old rule rules rules
+rule_kept style own front old rule rules (Some made) is none rewritten = absurd (false≢true (sym none))
+rule_kept style own front old rule rules None is none rewritten =
+    let kept = subst (λ (z : Style). IsRewritten z front old None) is rewritten in
+    ([], inr ((λ changes. changes.2 (kept changes.0 changes.1)), refl), sym (append-nil rules))
 
 -- The invariant of the loop over the rules: the taken rules, with the changing ones among `rest`, are all changing rules.
 pub record AreTaken (style : Style) (front old : List ℕ) (rest taken : List Rule) : Type 0 where

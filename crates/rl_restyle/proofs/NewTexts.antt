@@ -1,5 +1,5 @@
 -- Lemmas about the new text of a literal, as the code creates it.
-use Rattle.rl_syntax.proofs.Common.{◌≡◌, ◌≢◌, ◌++◌, inl, chars-append, List, Ok, Err, Option, Result, Some, None, ℕ, sym, ◌∙◌, ap, subst, chars, encode_utf8_all, encodes-chars, string_bytes, IsUtf8, IfNone, IfOk, IfSome}
+use Rattle.rl_syntax.proofs.Common.{◌≡◌, ◌≢◌, ◌++◌, inl, length, take, drop, take-append_seam, chars-append, List, Ok, Err, Option, Result, Some, None, ℕ, sym, ◌∙◌, ap, subst, chars, encode_utf8_all, encodes-chars, string_bytes, IsUtf8, IfNone, IfOk, IfSome}
 use Rattle.std.specs.Prelude.{String}
 use Rattle.rl_strict.specs.StrictShapes.{IsToken}
 use Rattle.rl_strict.specs.StrictFlaws.{ExplainsStrictly}
@@ -29,6 +29,12 @@ no_other style front text flaw is new rewrites =
       strict = same.was;
     } in
     absurd (is.no_token token)
+
+-- If a vector is shortened to the number of bytes that were written into it, its items are the written bytes.
+pub all_items : (n : ℕ) (written items whole : List ℕ) → whole ≡ take n (written ++ drop (length written) items)
+    → length written ≡ n → whole ≡ written
+all_items n written items whole is long = is ∙ ap (λ z. take z (written ++ drop (length written) items)) (sym long)
+    ∙ take-append_seam written (drop (length written) items)
 
 -- Suppose that a literal may be rewritten, and that `before` is the source before the literal. If the code rewrites the
 -- literal after the text `before`, the result is the literal's new text in the source.

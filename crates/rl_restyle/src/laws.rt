@@ -15,7 +15,7 @@ pub fn only_rewritten_tokens_of_a_clean_source_change()
     ensures { KeepsTheCleanSource }
 {}
 
-/// A source has exactly one new text in a style. [`rewrite_source`](crate::rewrite_source) returns it.
+/// A source has exactly one new text and one list of edits in a style. [`rewrite_source`](crate::rewrite_source) returns them.
 pub fn a_source_has_one_text_in_a_style()
     ensures { HasOneText }
 {}

@@ -1,6 +1,6 @@
 //! Creates the new text of a literal in a style.
 
-ghost use Rattle.std.specs.Prelude.{◌≡◌, ◌≢◌, ◌≤◌, ◌+◌, ◌*◌, ℕ, List, length, string_bytes, IfNone, IfOk, IfSome, MatchBool};
+ghost use Rattle.std.specs.Prelude.{◌≡◌, ◌≢◌, ◌+◌, ◌*◌, ℕ, List, length, string_bytes, IfNone, IfOk, IfSome, MatchBool};
 ghost use Rattle.std.specs.Str.{chars};
 ghost use Rattle.rl_syntax.specs.Reading.{IsReadAs};
 ghost use Rattle.rl_restyle.specs.Places.{IsTextBetween};
@@ -13,11 +13,8 @@ use rl_style::{Restylable, Style, rewrite_into};
 use rl_syntax::Kind;
 use std::alloc::{AllocError, Allocator};
 
-/// The size in bytes of the buffer for the new text of a short literal.
-pub(crate) const SHORT: usize = 256;
-
 /// Returns the size in bytes of the buffer that [`rewrite_into`] needs for a literal with the text `text`.
-pub(crate) fn buffer_len(text: &str) -> Result<usize, AllocError>
+fn buffer_len(text: &str) -> Result<usize, AllocError>
     ensures { IfOk result (λ n. n ≡ 4 * length text.now + 1) }
 {
     let Some(most) = text.len().checked_mul(4) else {
@@ -44,28 +41,7 @@ fn other_text<A: Allocator>(alloc: A, old: &str, new: &str) -> Result<Option<Str
 }
 
 /// Returns the rewritten text of the literal `text` if it differs, and `None` otherwise. `front` is the text before the
-/// literal, and `out` a buffer.
-fn new_text_in<A: Allocator>(
-    alloc: A,
-    style: Style,
-    front: &str,
-    text: &str,
-    out: &mut [u8],
-) -> Result<Option<String<A>>, AllocError>
-    requires { 4 * length text.now + 1 ≤ length out.old }
-    ensures { IfOk result (λ new. IsRewritten style (chars front.now) (chars text.now) (text_in new)) }
-{
-    let Ok(len) = rewrite_into(front, text, style, out) else {
-        return Ok(None);
-    };
-    match std::str::from_utf8(&out[..len]) {
-        Ok(new) => other_text(alloc, text, new),
-        Err(_) => unreachable!(),
-    }
-}
-
-/// Returns the rewritten text of the literal `text` if it differs, and `None` otherwise. `front` is the text before the
-/// literal. Only the buffer of a long literal is allocated.
+/// literal.
 pub(crate) fn new_text<A: Allocator + Copy>(
     alloc: A,
     style: Style,
@@ -75,11 +51,14 @@ pub(crate) fn new_text<A: Allocator + Copy>(
     ensures { IfOk result (λ new. IsRewritten style (chars front.now) (chars text.now) (text_in new)) }
 {
     let room = buffer_len(text)?;
-    if room <= SHORT {
-        return new_text_in(alloc, style, front, text, &mut [0; SHORT]);
-    }
     let mut bytes = vec![in alloc; 0; room]?;
-    new_text_in(alloc, style, front, text, bytes.as_mut_slice())
+    let Ok(len) = rewrite_into(front, text, style, bytes.as_mut_slice()) else {
+        return Ok(None);
+    };
+    match std::str::from_utf8(&bytes.as_slice()[..len]) {
+        Ok(new) => other_text(alloc, text, new),
+        Err(_) => unreachable!(),
+    }
 }
 
 /// Whether the position of `literal` allows rewriting: `literal` can't be a field, and isn't in a macro call that `macros`

@@ -1,2 +1,1 @@
 pub mod FixLemmas
-pub mod AcceptLemmas

@@ -13,7 +13,8 @@ use Rattle.rl_style.specs.declared.style.Style.{Style}
 pub record IsFixedText (old new : List ℕ) : Type 0 where
   pub style : Style
   pub choice : Choice
-  pub restyles : Restyles style choice (chars old) (chars new)
+  pub edits : List (ℕ × ℕ × List ℕ)
+  pub restyles : Restyles style choice (chars old) (chars new) edits
 
 -- At most one file is replaced, the one at `path`: its bytes `old` become their rewritten text. `before` and `after` are all
 -- replacements of files.

@@ -1,6 +1,5 @@
 //! Writes characters, texts and numbers into the output: with escapes for invisible characters, for JSON, and for annotations.
 
-use crate::failure::Appended;
 use rl_files::is_control_invisible_or_bidi;
 use rl_program::need_no_escapes;
 use std::alloc::{AllocError, Allocator};
@@ -55,7 +54,7 @@ pub(crate) enum Escapes {
 }
 
 /// Appends the escape of a character in a JSON string, as one or two code units of UTF-16.
-fn push_json_number<A: Allocator>(out: &mut String<A>, c: char) -> Appended {
+fn push_json_number<A: Allocator>(out: &mut String<A>, c: char) -> Result<(), AllocError> {
     let code = c as u32;
     if code < 0x1_0000 {
         return write!(out, "\\u{code:04x}");
@@ -66,7 +65,11 @@ fn push_json_number<A: Allocator>(out: &mut String<A>, c: char) -> Appended {
 }
 
 /// Appends a character as an escape.
-fn push_hidden<A: Allocator>(out: &mut String<A>, escapes: Escapes, c: char) -> Appended {
+fn push_hidden<A: Allocator>(
+    out: &mut String<A>,
+    escapes: Escapes,
+    c: char,
+) -> Result<(), AllocError> {
     let code = c as u32;
     match (escapes, c) {
         (Escapes::Line, '\t') => out.push(c),
@@ -121,12 +124,14 @@ pub(crate) fn push_text<A: Allocator>(
     escapes: Escapes,
     before: Before,
     text: &str,
-) -> Appended {
-    let needs_none = match (escapes, before) {
-        (Escapes::Json, _) => need_no_escapes(text.as_bytes()),
-        (_, Before::Annotation) => false,
-        (_, Before::Space) => is_plain(text) && !text.contains("::"),
-        _ => is_plain(text),
+) -> Result<(), AllocError> {
+    let needs_none = match escapes {
+        Escapes::Json => need_no_escapes(text.as_bytes()),
+        _ => match before {
+            Before::Annotation => false,
+            Before::Space => is_plain(text) && !text.contains("::"),
+            _ => is_plain(text),
+        },
     };
     if needs_none {
         return out.push_str(text);
@@ -138,7 +143,10 @@ pub(crate) fn push_text<A: Allocator>(
     Ok(())
 }
 
-pub(crate) fn push_number<A: Allocator>(out: &mut String<A>, number: usize) -> Appended {
+pub(crate) fn push_number<A: Allocator>(
+    out: &mut String<A>,
+    number: usize,
+) -> Result<(), AllocError> {
     let mut digits = [b'0'; 20];
     let mut left = number;
     let mut start = digits.len();
@@ -159,7 +167,10 @@ pub(crate) fn push_number<A: Allocator>(out: &mut String<A>, number: usize) -> A
 }
 
 /// Appends a path as the value of a property of an annotation.
-pub(crate) fn push_property<A: Allocator>(out: &mut String<A>, path: &str) -> Appended {
+pub(crate) fn push_property<A: Allocator>(
+    out: &mut String<A>,
+    path: &str,
+) -> Result<(), AllocError> {
     for c in path.chars() {
         match c {
             ':' => out.push_str("%3A")?,

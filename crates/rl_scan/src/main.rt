@@ -11,7 +11,6 @@ mod escapes;
 mod failure;
 mod finding;
 mod findings;
-mod follower;
 mod generated;
 mod hidden;
 mod host;
@@ -85,7 +84,13 @@ fn main(rt: HostRuntime) -> ExitCode {
         out: &mut rt.stdout(),
         err: &mut rt.stderr(),
     };
-    let (tree, mut files) = (Host { rt: &rt }, Host { rt: &rt });
-    let ending = run_with_arguments(rt.alloc(), args.as_slice(), console, &tree, &mut files);
+    let host = Host { rt: &rt };
+    let ending = run_with_arguments(
+        rt.alloc(),
+        args.as_slice(),
+        console,
+        &host,
+        &mut Host { rt: &rt },
+    );
     finish(&rt, ending)
 }

@@ -1,7 +1,7 @@
 //! Output that is written in pieces, so that memory doesn't grow with its length.
 
 use crate::escapes::{Before, Escapes, push_char, push_number, push_text};
-use crate::failure::Done;
+use crate::failure::Failure;
 use rl_program::write_bytes;
 use std::alloc::Allocator;
 use std::io::Write;
@@ -25,14 +25,14 @@ impl<'p, A: Allocator + Copy, W: Write> Output<'p, A, W> {
     }
 
     /// Writes the output.
-    pub(crate) fn send(&mut self) -> Done<A> {
+    pub(crate) fn send(&mut self) -> Result<(), Failure<A>> {
         write_bytes(self.stream, self.text.as_bytes())?;
         self.text.clear();
         Ok(())
     }
 
     /// Writes the output if there is enough of it.
-    pub(crate) fn send_if_full(&mut self) -> Done<A> {
+    pub(crate) fn send_if_full(&mut self) -> Result<(), Failure<A>> {
         if self.text.len() < FULL {
             return Ok(());
         }
@@ -40,7 +40,12 @@ impl<'p, A: Allocator + Copy, W: Write> Output<'p, A, W> {
     }
 
     /// Prints a text with escapes. `before` describes the characters before it.
-    pub(crate) fn print(&mut self, escapes: Escapes, before: Before, text: &str) -> Done<A> {
+    pub(crate) fn print(
+        &mut self,
+        escapes: Escapes,
+        before: Before,
+        text: &str,
+    ) -> Result<(), Failure<A>> {
         if text.len() < FULL {
             push_text(&mut self.text, escapes, before, text)?;
             return Ok(());
@@ -54,7 +59,7 @@ impl<'p, A: Allocator + Copy, W: Write> Output<'p, A, W> {
     }
 
     /// Prints a text as a JSON string. `name` precedes it.
-    pub(crate) fn print_json(&mut self, name: &str, text: &str) -> Done<A> {
+    pub(crate) fn print_json(&mut self, name: &str, text: &str) -> Result<(), Failure<A>> {
         self.text.push_str(name)?;
         self.text.push('"')?;
         self.print(Escapes::Json, Before::Other, text)?;
@@ -63,7 +68,7 @@ impl<'p, A: Allocator + Copy, W: Write> Output<'p, A, W> {
     }
 
     /// Prints bytes as a JSON array.
-    pub(crate) fn print_array(&mut self, bytes: &[u8]) -> Done<A> {
+    pub(crate) fn print_array(&mut self, bytes: &[u8]) -> Result<(), Failure<A>> {
         let mut is_first = true;
         self.text.push('[')?;
         for byte in bytes {

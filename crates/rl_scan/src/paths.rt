@@ -2,13 +2,16 @@
 
 use crate::args::Args;
 use crate::checks::{extension_in, is_input};
-use crate::failure::{Done, Failure};
-use crate::style::unread_file;
-use rl_files::{Tree, push_listed_paths};
+use crate::failure::Failure;
+use rl_files::{Tree, push_listed_paths, visible_text};
 use std::alloc::{AllocError, Allocator};
 
 /// Checks that a call reads standard input at most once: as a source, a list or a style.
-fn check_input<A: Allocator + Copy>(alloc: A, args: &Args<'_, A>, paths: &[String<A>]) -> Done<A> {
+fn check_input<A: Allocator + Copy>(
+    alloc: A,
+    args: &Args<'_, A>,
+    paths: &[String<A>],
+) -> Result<(), Failure<A>> {
     let mut count = 0_usize;
     for path in paths {
         if is_input(path.as_str()) {
@@ -47,7 +50,8 @@ pub(crate) fn paths_of<A: Allocator + Copy, T: Tree>(
         paths.push(String::from_str(alloc, if reads_here { "." } else { "-" })?)?;
     }
     if let Err(unread) = push_listed_paths(alloc, tree, lists.as_slice(), &mut paths) {
-        return Err(unread_file(alloc, unread.file, unread.why)?);
+        let (shown, why) = (visible_text(alloc, unread.file)?, unread.why);
+        return Err(Failure::Said(format!(in alloc; "{shown}: {why}")?));
     }
     check_input(alloc, args, paths.as_slice())?;
     Ok(paths)

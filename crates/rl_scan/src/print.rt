@@ -1,15 +1,13 @@
 //! Prints the findings of a source: as lines of text, as JSON objects, or as annotations for GitHub.
 
-ghost use Rattle.std.specs.Prelude.{◌≡◌};
-
 use crate::context::Context;
 use crate::escapes::{Before, Escapes, push_number, push_property, push_text};
-use crate::failure::{Appended, Done};
+use crate::failure::Failure;
 use crate::finding::{Finding, Place};
 use crate::job::{Form, Job};
 use crate::output::Output;
 use crate::position::Position;
-use std::alloc::Allocator;
+use std::alloc::{AllocError, Allocator};
 use std::io::Write;
 
 /// The findings of a source: their number, and their output.
@@ -49,9 +47,7 @@ impl<'p, 'a, A: Allocator + Copy, W: Write> Page<'p, 'a, A, W> {
         path: &'p str,
         source: &'p str,
         stream: &'p mut W,
-    ) -> Page<'p, 'a, A, W>
-        ensures { result.source.now ≡ source.now }
-    {
+    ) -> Page<'p, 'a, A, W> {
         let position = Position::first(source);
         Page {
             alloc,
@@ -63,12 +59,19 @@ impl<'p, 'a, A: Allocator + Copy, W: Write> Page<'p, 'a, A, W> {
             path: if path == "-" { None } else { Some(path) },
             head: String::new(alloc),
             position,
-            context: job.around.map(|it| Context::new(source, position.at, it)),
+            context: match job.around {
+                Some(around) => Some(Context::new(source, position.at, around)),
+                None => None,
+            },
         }
     }
 
     /// Counts a finding and prints it, unless it is allowed.
-    pub(crate) fn report_finding(&mut self, place: Place, finding: Finding<'_>) -> Done<A> {
+    pub(crate) fn report_finding(
+        &mut self,
+        place: Place,
+        finding: Finding<'_>,
+    ) -> Result<(), Failure<A>> {
         if self.job.allows(&finding) {
             return Ok(());
         }
@@ -88,9 +91,9 @@ impl<'p, 'a, A: Allocator + Copy, W: Write> Page<'p, 'a, A, W> {
     }
 
     /// Writes the output that isn't written yet. It must be called after the last finding.
-    pub(crate) fn close(&mut self) -> Done<A> {
+    pub(crate) fn close(&mut self) -> Result<(), Failure<A>> {
         if let Some(context) = &mut self.context {
-            context.print_owed(&mut self.output, self.source.len())?;
+            context.print_end(&mut self.output)?;
         }
         self.output.send()
     }
@@ -104,7 +107,7 @@ impl<'p, 'a, A: Allocator + Copy, W: Write> Page<'p, 'a, A, W> {
     }
 
     /// Makes the start of each finding's output.
-    fn push_head(&mut self) -> Appended {
+    fn push_head(&mut self) -> Result<(), AllocError> {
         let Some(path) = self.path else {
             return Ok(());
         };
@@ -129,7 +132,7 @@ impl<'p, 'a, A: Allocator + Copy, W: Write> Page<'p, 'a, A, W> {
     }
 
     /// Appends the path and the position of a finding as the start of a line of text.
-    fn push_text_start(&mut self, place: Place) -> Appended {
+    fn push_text_start(&mut self, place: Place) -> Result<(), AllocError> {
         let out = &mut self.output.text;
         out.push_str(self.head.as_str())?;
         self.job.push_color(out, "\x1b[32m")?;
@@ -147,7 +150,7 @@ impl<'p, 'a, A: Allocator + Copy, W: Write> Page<'p, 'a, A, W> {
     }
 
     /// Prints a finding as a line of text, with the source's lines around it.
-    fn print_text(&mut self, place: Place, finding: &Finding<'_>) -> Done<A> {
+    fn print_text(&mut self, place: Place, finding: &Finding<'_>) -> Result<(), Failure<A>> {
         if self.context.is_some() || self.job.shows_lines(self.path.is_some()) {
             self.position = self.position.moved(self.source, place.lo);
         }
@@ -171,7 +174,7 @@ impl<'p, 'a, A: Allocator + Copy, W: Write> Page<'p, 'a, A, W> {
     }
 
     /// Prints a finding as a JSON object.
-    fn print_object(&mut self, place: Place, finding: &Finding<'_>) -> Done<A> {
+    fn print_object(&mut self, place: Place, finding: &Finding<'_>) -> Result<(), Failure<A>> {
         let start = self.position.moved(self.source, place.lo);
         let end = start.moved(self.source, place.hi);
         self.position = start;
@@ -196,7 +199,7 @@ impl<'p, 'a, A: Allocator + Copy, W: Write> Page<'p, 'a, A, W> {
     }
 
     /// Prints a finding as an annotation.
-    fn print_annotation(&mut self, place: Place, finding: &Finding<'_>) -> Done<A> {
+    fn print_annotation(&mut self, place: Place, finding: &Finding<'_>) -> Result<(), Failure<A>> {
         let start = self.position.moved(self.source, place.lo);
         let end = start.moved(self.source, place.hi);
         self.position = start;

@@ -5,7 +5,7 @@ ghost use Rattle.rl_files.specs.Replacements.{handed_too, replacing};
 ghost use Rattle.rl_scan.specs.Fixes.{FixesSource};
 
 use crate::diff::print_diff;
-use crate::errors::report_errors;
+use crate::errors::{Checks, report_errors};
 use crate::failure::Failure;
 use crate::finding::{Finding, Place};
 use crate::modes::Mode;
@@ -64,9 +64,11 @@ fn report_changes<A: Allocator + Copy, W: Write>(
 impl<'o, 'e, 'a, A: Allocator + Copy, W: Write, E: Write> Call<'o, 'e, 'a, A, W, E> {
     /// Prints the errors because of which a source isn't rewritten. Returns whether there are any.
     fn explains<'t>(&mut self, path: &'t str, source: &'t str) -> Result<bool, Failure<A>> {
-        let job = self.job.for_errors();
+        let job = self.job;
+        let job = job.for_errors();
         let mut page = Page::new(self.alloc, &job, path, source, self.err);
-        report_errors(&mut page, job)?;
+        let (types, strays) = (false, true);
+        report_errors(&mut page, Checks { types, strays })?;
         page.close()?;
         Ok(page.count > 0)
     }

@@ -1,11 +1,11 @@
 //! The totals of a run.
 
-use crate::failure::{Appended, Done};
+use crate::failure::Failure;
 use crate::job::Form;
 use crate::run::Call;
 use rl_program::write_bytes;
 use rl_restyle::{RULES, number_of, settable_rules};
-use std::alloc::Allocator;
+use std::alloc::{AllocError, Allocator};
 use std::io::Write;
 
 /// The counts of a run.
@@ -42,7 +42,7 @@ fn push_rule_counts<A: Allocator>(
     text: &mut String<A>,
     is_json: bool,
     counts: &[u64; RULES],
-) -> Appended {
+) -> Result<(), AllocError> {
     let mut is_first = true;
     if is_json {
         text.push_str(",\"rules\":{")?;
@@ -63,7 +63,7 @@ fn push_rule_counts<A: Allocator>(
 
 impl<'o, 'e, 'a, A: Allocator + Copy, W: Write, E: Write> Call<'o, 'e, 'a, A, W, E> {
     /// Prints the totals: after a rewritten source on standard error, and otherwise on standard output.
-    pub(crate) fn print_totals(&mut self) -> Done<A> {
+    pub(crate) fn print_totals(&mut self) -> Result<(), Failure<A>> {
         let mut text = String::new(self.alloc);
         let (read, with_findings) = (self.tally.read, self.tally.with_findings);
         let (findings, errors) = (self.tally.findings, self.tally.errors);
@@ -79,7 +79,8 @@ impl<'o, 'e, 'a, A: Allocator + Copy, W: Write, E: Write> Call<'o, 'e, 'a, A, W,
                 "files: {read}\nfiles with findings: {with_findings}\nfindings: {findings}\nfiles with an error: {errors}"
             )?;
         }
-        if self.job.rewrites() {
+        let job = self.job;
+        if job.rewrites() {
             push_rule_counts(&mut text, is_json, &self.tally.rules)?;
         }
         if is_json {

@@ -3,7 +3,6 @@
 use crate::args::Args;
 use crate::checks::list_contains;
 use crate::failure::Failure;
-use crate::position::Position;
 use rl_files::{PathError, Tree, push_visible, visible_text};
 use rl_lenient::parse_literal;
 use rl_lexer::{Sources, without_byte_order_mark};
@@ -62,6 +61,12 @@ pub(crate) fn is_near(word: &str, meant: &str) -> bool {
     true
 }
 
+/// Returns the part of an argument before the first `=`, or the whole argument.
+pub(crate) fn option_part(word: &str) -> &str {
+    let (option, _) = word.split_once('=').unwrap_or((word, ""));
+    option
+}
+
 // ---- the rules of a style
 
 /// Whether a value of `--rule` is a string without quotes: it consists of ASCII letters and `_`, and isn't `true` or `false`.
@@ -86,7 +91,7 @@ fn settings_text<A: Allocator>(alloc: A, settings: &[&str]) -> Result<String<A>,
 }
 
 /// Returns the error that a file can't be read.
-pub(crate) fn unread_file<A: Allocator + Copy>(
+pub(crate) fn unread<A: Allocator + Copy>(
     alloc: A,
     file: &str,
     why: PathError,
@@ -115,7 +120,12 @@ fn style_failure<A: Allocator + Copy>(
     text: &str,
     error: &StyleError<'_>,
 ) -> Result<Failure<A>, AllocError> {
-    let line = Position::first(text).moved(text, error.lo).line;
+    let mut line = 1_usize;
+    for byte in text.as_bytes().get(..error.lo).unwrap_or(b"".as_slice()) {
+        if *byte == b'\n' {
+            line = line.saturating_add(1);
+        }
+    }
     let mut words = visible_text(alloc, name)?;
     write!(words, ":{line}: ")?;
     if let Some(entry) = error.name {
@@ -196,11 +206,11 @@ pub(crate) fn style_of<A: Allocator + Copy, T: Tree>(
     if let Some(file) = args.last("--style") {
         let bytes = match tree.bytes(alloc, file) {
             Ok(bytes) => bytes,
-            Err(why) => return Err(unread_file(alloc, file, why)?),
+            Err(why) => return Err(unread(alloc, file, why)?),
         };
         return match std::str::from_utf8(bytes.as_slice()) {
             Ok(text) => parsed_style(alloc, file, without_byte_order_mark(text)),
-            Err(error) => Err(unread_file(alloc, file, PathError::NotUtf8(error.valid_up_to()))?),
+            Err(error) => Err(unread(alloc, file, PathError::NotUtf8(error.valid_up_to()))?),
         };
     }
     let rules = args.all(alloc, "--rule")?;

@@ -14,11 +14,11 @@ use crate::rattle_std::{fs, io};
 
 pub const LONGEST: u64 = 1 << 30;
 
-pub(crate) const PIECE: usize = 4096;
+const PIECE: usize = 8192;
 
-pub(crate) const TURNS: u32 = u32::MAX;
+const TURNS: u32 = u32::MAX;
 
-const FIRST_TEST: usize = 16 * 1024;
+const FIRST_TEST: usize = 64 * 1024;
 
 #[derive(Clone, Copy)]
 pub struct Host<'r, R> {
@@ -61,7 +61,7 @@ fn next_test(due: usize, len: usize) -> usize {
     if len < due {
         return due;
     }
-    len.checked_mul(64).unwrap_or(usize::MAX)
+    len.saturating_add(len)
 }
 
 pub(crate) fn read_all<A: Allocator, R: Read + Drop>(

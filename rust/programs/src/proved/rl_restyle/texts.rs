@@ -9,9 +9,7 @@ use crate::rl_style::{Restylable, Style, rewrite_into};
 use crate::rl_syntax::Kind;
 use crate::rattle_std::alloc::{AllocError, Allocator};
 
-pub(crate) const SHORT: usize = 256;
-
-pub(crate) fn buffer_len(text: &str) -> Result<usize, AllocError> {
+fn buffer_len(text: &str) -> Result<usize, AllocError> {
     let Some(most) = text.len().checked_mul(4) else {
         return Err(AllocError);
     };
@@ -30,22 +28,6 @@ fn other_text<A: Allocator>(alloc: A, old: &str, new: &str) -> Result<Option<Str
     Ok(Some(made))
 }
 
-fn new_text_in<A: Allocator>(
-    alloc: A,
-    style: Style,
-    front: &str,
-    text: &str,
-    out: &mut [u8],
-) -> Result<Option<String<A>>, AllocError> {
-    let Ok(len) = rewrite_into(front, text, style, out) else {
-        return Ok(None);
-    };
-    match crate::rattle_std::str::from_utf8(&out[..len]) {
-        Ok(new) => other_text(alloc, text, new),
-        Err(_) => unreachable!(),
-    }
-}
-
 pub(crate) fn new_text<A: Allocator + Copy>(
     alloc: A,
     style: Style,
@@ -53,11 +35,14 @@ pub(crate) fn new_text<A: Allocator + Copy>(
     text: &str,
 ) -> Result<Option<String<A>>, AllocError> {
     let room = buffer_len(text)?;
-    if room <= SHORT {
-        return new_text_in(alloc, style, front, text, &mut [0; SHORT]);
-    }
     let mut bytes = vec![in alloc; 0; room]?;
-    new_text_in(alloc, style, front, text, bytes.as_mut_slice())
+    let Ok(len) = rewrite_into(front, text, style, bytes.as_mut_slice()) else {
+        return Ok(None);
+    };
+    match crate::rattle_std::str::from_utf8(&bytes.as_slice()[..len]) {
+        Ok(new) => other_text(alloc, text, new),
+        Err(_) => unreachable!(),
+    }
 }
 
 fn is_rewritable(macros: Macros, literal: Restylable<'_>) -> bool {

@@ -37,9 +37,12 @@ impl Position {
         let from = if self.at <= at { self } else { first };
         let passed = source.get(from.at..at).unwrap_or("");
         match passed.rsplit_once('\n') {
-            Some((_, inside)) => Position {
+            Some((lines, inside)) => Position {
                 at,
-                line: from.line.saturating_add(count_line_feeds(passed)),
+                line: from
+                    .line
+                    .saturating_add(1)
+                    .saturating_add(count_line_feeds(lines)),
                 line_at: at.saturating_sub(inside.len()),
                 column: inside.chars().count().saturating_add(1),
             },

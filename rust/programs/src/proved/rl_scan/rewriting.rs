@@ -2,7 +2,7 @@
 //! Rewrites files, or prints the changes that would be made.
 
 use crate::rl_scan::diff::print_diff;
-use crate::rl_scan::errors::report_errors;
+use crate::rl_scan::errors::{Checks, report_errors};
 use crate::rl_scan::failure::Failure;
 use crate::rl_scan::finding::{Finding, Place};
 use crate::rl_scan::modes::Mode;
@@ -58,9 +58,11 @@ fn report_changes<A: Allocator + Copy, W: Write>(
 
 impl<'o, 'e, 'a, A: Allocator + Copy, W: Write, E: Write> Call<'o, 'e, 'a, A, W, E> {
     fn explains<'t>(&mut self, path: &'t str, source: &'t str) -> Result<bool, Failure<A>> {
-        let job = self.job.for_errors();
+        let job = self.job;
+        let job = job.for_errors();
         let mut page = Page::new(self.alloc, &job, path, source, self.err);
-        report_errors(&mut page, job)?;
+        let (types, strays) = (false, true);
+        report_errors(&mut page, Checks { types, strays })?;
         page.close()?;
         Ok(page.count > 0)
     }

@@ -5,10 +5,14 @@ use crate::rl_scan::finding::Place;
 use crate::rl_scan::job::Job;
 use crate::rl_scan::literal::Literal;
 use crate::rl_cursors::Segments;
+use crate::rl_syntax::Kind;
 use crate::rattle_std::alloc::{AllocError, Allocator};
 
 fn is_word_byte(byte: Option<&u8>) -> bool {
-    byte.is_some_and(|byte| byte.is_ascii_alphanumeric() || *byte == b'_' || *byte >= 128)
+    match byte {
+        Some(byte) => byte.is_ascii_alphanumeric() || *byte == b'_' || *byte >= 128,
+        None => false,
+    }
 }
 
 fn begins_with(rest: &[u8], sought: &[u8], ignores_case: bool) -> bool {
@@ -43,7 +47,11 @@ fn match_in(value: &[u8], job: &Job<'_>) -> Option<Place> {
     let mut best: Option<Place> = None;
     for sought in job.lists.finds {
         if let Some(lo) = first_in(value, sought.as_bytes(), job) {
-            if best.is_none_or(|place| lo < place.lo) {
+            let is_first = match best {
+                Some(place) => lo < place.lo,
+                None => true,
+            };
+            if is_first {
                 let hi = lo.saturating_add(sought.len());
                 best = Some(Place { lo, hi });
             }
@@ -57,8 +65,17 @@ fn text_match<A: Allocator + Copy>(
     job: &Job<'_>,
     literal: &Literal<'_>,
 ) -> Result<Option<Place>, AllocError> {
+    if matches!(
+        literal.kind(),
+        None | Some(Kind::Int | Kind::Float | Kind::Bool)
+    ) {
+        return Ok(None);
+    }
     if let Some((start, value)) = literal.plain_value() {
-        return Ok(match_in(value.as_bytes(), job).map(|place| place.after(start)));
+        return Ok(match match_in(value.as_bytes(), job) {
+            Some(place) => Some(place.after(start)),
+            None => None,
+        });
     }
     let value = literal.value(alloc)?;
     match match_in(value.as_slice(), job) {

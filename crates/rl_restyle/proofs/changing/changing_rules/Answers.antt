@@ -1,6 +1,6 @@
 use Rattle.rl_syntax.proofs.Common.{chars}
 use Rattle.rl_restyle.proofs.ChangingLemmas.{taken_all, taken_none, taken_step}
-use Rattle.rl_restyle.proofs.changing.changing_rules_in.Goals as goal
+use Rattle.rl_restyle.proofs.changing.changing_rules.Goals as goal
 
 pub loop-rule-init : goal.loop-rule-init
 loop-rule-init g c = taken_none c.args.style (chars c.args.front.now) (chars c.args.text.now) _ _ c.settable_rules-rest.ensures
