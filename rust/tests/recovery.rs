@@ -86,7 +86,7 @@ fn clones() {
     }
 }
 
-/// The same for lists: after a literal, after the last one, after an error, and at the end.
+/// Tests that a clone of `Literals` returns the same items as the original: after each literal, after an error, and at the end.
 #[test]
 fn clones_of_lists() {
     for (text, count) in [("1 2", 2), ("1 word", 2), ("1 (2", 2), ("", 0)] {

@@ -43,7 +43,7 @@ GROUPS = {
     "Rust's grammar": r'rl_theorem/specs/RustRules|rl_syntax/specs/(Spelling|Strict)',
     "`syn`'s grammar": r'rl_theorem/specs/SynRules|rl_syntax/specs/Numbers',
 }
-WORD = re.compile(r"«[^»]*»|[^\W\d][\w'-]*(?:\.[^\W\d][\w'-]*)*|[^\s\w(){}\[\].,;:\"«»]+")
+WORD = re.compile(r"[^\W\d][\w'-]*(?:\.[^\W\d][\w'-]*)*|[^\s\w(){}\[\].,;:\"]+")
 
 
 class Definition(NamedTuple):

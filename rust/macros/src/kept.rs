@@ -1,4 +1,4 @@
-//! What the values of the package keep. Some of it can be seen only inside of a macro.
+//! Tests of the state that errors, attributes and macro input keep. A part of this state is visible only inside of a procedural macro.
 
 use navyspindle::{Attrs, Lit, MacroError, Meta};
 use proc_macro::{Spacing, Span, TokenStream, TokenTree};
