@@ -11,9 +11,10 @@ same text, or both must reject it. The package must leave its own result unchang
 A row has a style as letters (model/style.py), the text before the literal, the literal, and the rewritten literal. The three texts
 are in hexadecimal. `-` is an empty style or text, `=` is an unchanged literal, and `!` is written if the text isn't a literal.
 rust/tests/style.rs tests the package with the rows that `--write N` writes. They are chosen from N short texts, as many long ones,
-and mistyped numbers: a row is written if it tests what no earlier row tests (`tested`).
+and mistyped numbers, and test all that these texts test (`tested`).
 """
 import functools
+import heapq
 import itertools
 import os
 import random
@@ -178,15 +179,21 @@ def tested(letters, front, text):
 
 
 def write_rows(dice, count):
-    """Writes the rows of `count` short texts, as many long ones, and mistyped numbers that test what no earlier row tests."""
+    """Writes few rows that test all that `count` short texts, as many long ones, and mistyped numbers test."""
     texts = dict.fromkeys([*dice.sample(sorted(set(short_texts())), count), *long_texts(dice, count), *mistyped()])
     every = [(style(dice), dice.choice(FRONTS), text) for text in texts]
-    seen, kept = set(), []
-    for row in every:
-        ways = tested(*row)
-        if not ways <= seen:
-            kept.append(row)
-        seen |= ways
+    kept, left = [], [(-len(ways), at, ways) for at, ways in enumerate(tested(*row) for row in every)]
+    heapq.heapify(left)
+    seen = set()
+    # The next row is one that tests the most of what no kept row tests.
+    while left:
+        _, at, ways = heapq.heappop(left)
+        ways = ways - seen
+        if ways and left and -len(ways) > left[0][0]:
+            heapq.heappush(left, (-len(ways), at, ways))
+        elif ways:
+            kept.append(every[at])
+            seen |= ways
     with open(ROWS, 'w', encoding='utf-8') as file:
         file.writelines(f'{line_of(*row)} {said_of(row)}\n' for row in kept)
     return len(kept)

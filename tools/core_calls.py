@@ -124,8 +124,8 @@ def flaws(row):
 
 
 def pieces(row):
-    found = run('rl_flaws::pieces::Pieces::of', text(row))
-    return calls('rl_flaws::pieces::Pieces::next', at(found[1])) if found[0] else ''
+    found = [run('rl_flaws::pieces::Pieces::of', text(row), ends) for ends in ENDS]
+    return ''.join(calls('rl_flaws::pieces::Pieces::next', at(it[1])) for it in found if it[0])
 
 
 def types(row):

@@ -75,8 +75,3 @@ def print_table(driver, cpu, rounds, rows):
     tables.begin('Rates', ('work', 'MB a second', 'ms', 'what it does'), note % (found[0][1].bytes, rounds))
     for name, (size, seconds) in found:
         tables.row(name, '%.0f' % (size / seconds / 1e6), '%.1f' % (1000 * seconds), WORKS[name])
-
-
-def read(rows):
-    """Returns the megabytes per second of each row, from the stored results."""
-    return {name: int(rate) for name, rate, *_ in rows}

@@ -272,13 +272,23 @@ impl Piece<'_> {
 /// assert_eq!(are_good, [true, false]);
 /// ```
 #[must_use = "an iterator does nothing until it is asked"]
+#[derive(Clone)]
 pub struct Pieces<'t> {
-    text: &'t str,
     cursor: rl_flaws::Pieces<'t>,
-    // The number of pieces that were already returned.
-    returned: usize,
     // The number of bytes of the value that the returned segments without a flaw give.
     value_offset: usize,
+}
+
+impl<'t> Pieces<'t> {
+    #[inline]
+    fn of(text: &'t str, ends: LineEnds) -> Option<Pieces<'t>> {
+        let cursor = rl_flaws::Pieces::of(text, ends)?;
+        let value_offset = 0;
+        Some(Pieces {
+            cursor,
+            value_offset,
+        })
+    }
 }
 
 impl<'t> Iterator for Pieces<'t> {
@@ -286,7 +296,6 @@ impl<'t> Iterator for Pieces<'t> {
 
     #[inline]
     fn next(&mut self) -> Option<Piece<'t>> {
-        self.returned += 1;
         match self.cursor.next()? {
             rl_flaws::Piece::Good(segment) => {
                 let segment = Segment::of(segment, self.value_offset);
@@ -299,18 +308,6 @@ impl<'t> Iterator for Pieces<'t> {
 }
 
 impl FusedIterator for Pieces<'_> {}
-
-/// The clone begins at the next piece. Cloning walks over the pieces that were already returned.
-impl<'t> Clone for Pieces<'t> {
-    #[inline]
-    fn clone(&self) -> Self {
-        let mut clone: Pieces<'t> = pieces(self.text).expect("its pieces were asked for");
-        for _ in 0..self.returned {
-            clone.next();
-        }
-        clone
-    }
-}
 
 impl fmt::Debug for Pieces<'_> {
     fn fmt(&self, f: &mut fmt::Formatter<'_>) -> fmt::Result {
@@ -325,8 +322,7 @@ impl fmt::Debug for Pieces<'_> {
 /// the pieces without a flaw before it. The pieces with a flaw are all [`flaws`] of the text. The last of them may be after the
 /// closing quote.
 ///
-/// The text is read as it is, so a CR LF in a string is a flaw. For a literal of a file, [`flaws_in_file`] returns the pieces with
-/// a flaw. If there are none, `Lit::segments` returns all pieces.
+/// The text is read as it is, so a CR LF in a string is a flaw. For a literal of a file, call [`pieces_in_file`].
 ///
 /// ```
 /// use navyspindle::{pieces, FlawKind, Piece, SegmentValue};
@@ -340,10 +336,21 @@ impl fmt::Debug for Pieces<'_> {
 #[inline]
 #[must_use]
 pub fn pieces(text: &str) -> Option<Pieces<'_>> {
-    Some(Pieces {
-        text,
-        cursor: rl_flaws::Pieces::of(text)?,
-        returned: 0,
-        value_offset: 0,
-    })
+    Pieces::of(text, LineEnds::Text)
+}
+
+/// Returns the pieces of a literal in a file, like [`pieces`]. The pieces with a flaw are those of [`flaws_in_file`]. A CR LF between
+/// the quotes is a segment with the value LF. In a raw string, it is part of the text, as in [`Lit::segments`](crate::Lit::segments).
+///
+/// ```
+/// use navyspindle::{pieces_in_file, Piece, SegmentValue};
+///
+/// let all: Vec<_> = pieces_in_file("\"\r\n\\q\"").unwrap().collect();
+/// assert!(matches!(&all[0], Piece::Good(it) if it.value == SegmentValue::Char('\n')));
+/// assert!(matches!(&all[1], Piece::Bad(it) if it.range() == (3..5)));
+/// ```
+#[inline]
+#[must_use]
+pub fn pieces_in_file(text: &str) -> Option<Pieces<'_>> {
+    Pieces::of(text, LineEnds::File)
 }

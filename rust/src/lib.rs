@@ -144,7 +144,9 @@ pub use config::parse_config;
 #[cfg(any(feature = "sources", feature = "settings"))]
 pub use error::{Part, SyntaxErrorKind};
 #[cfg(feature = "flaws")]
-pub use flaws::{flaws, flaws_in_file, guess_kind, pieces, Flaws, InvalidPiece, Piece, Pieces};
+pub use flaws::{
+    flaws, flaws_in_file, guess_kind, pieces, pieces_in_file, Flaws, InvalidPiece, Piece, Pieces,
+};
 pub use kind::Kind;
 #[cfg(feature = "sources")]
 pub use line_index::{LineColumn, LineIndex};

@@ -8,7 +8,7 @@ use crate::kind::Kind;
 use crate::lit::Lit;
 use crate::parse_error::ParseError;
 use crate::rl_lenient::number_forms::float_suffix;
-use crate::rl_lenient::{float_parts, integer_parts, is_signed, FloatParts};
+use crate::rl_lenient::{float_parts, integer_parts, is_signed};
 use crate::rl_syntax::scan::{len_before_near_mark, Marks};
 use crate::rl_syntax::IntegerType;
 use alloc::borrow::Cow;
@@ -267,11 +267,11 @@ number_type!(LitInt, "12" == 12.0, "-12");
 pub struct LitFloat<'t> {
     text: Cow<'t, str>,
     suffix_at: usize,
-    // The number of bytes at the start of the text that `base10_digits` returns unchanged.
-    plain_len: usize,
+    // The number of bytes before the suffix, and before an underscore there. `value` gives this text to std.
+    pub(crate) number_len: usize,
 }
 
-literal_type!(LitFloat, Float(plain_len), "1.5f32", "f32");
+literal_type!(LitFloat, Float(number_len), "1.5f32", "f32");
 number_type!(LitFloat, "1.5" == 1.5, "-1.5");
 
 impl<'t> LitInt<'t> {
@@ -354,7 +354,6 @@ impl<'t> LitInt<'t> {
         }
     }
 
-    #[inline]
     fn decimal(&self) -> String {
         let sign = if self.is_negative() { "-" } else { "" };
         format!("{sign}{}", self.magnitude())
@@ -451,11 +450,11 @@ impl<'t> LitFloat<'t> {
 
     #[inline]
     pub(crate) fn of(text: Cow<'t, str>, suffix_at: usize) -> Self {
-        let plain_len = plain_len(&text[..suffix_at]);
+        let is_after_underscore = text.as_bytes()[..suffix_at].ends_with(b"_");
         LitFloat {
             text,
             suffix_at,
-            plain_len,
+            number_len: suffix_at - usize::from(is_after_underscore),
         }
     }
 
@@ -473,7 +472,8 @@ impl<'t> LitFloat<'t> {
     #[inline]
     #[must_use]
     pub fn base10_digits(&self) -> Cow<'_, str> {
-        let (front, rest) = self.text[..self.suffix_at].split_at(self.plain_len);
+        let number = self.number_part();
+        let (front, rest) = number.split_at(plain_len(number));
         if rest.bytes().all(|byte| byte == b'_') {
             Cow::Borrowed(front)
         } else {
@@ -495,12 +495,6 @@ impl<'t> LitFloat<'t> {
         &self.text[..self.suffix_at]
     }
 
-    /// Returns the integer part, the fraction and the exponent of the float's text, as the proved code finds them.
-    #[inline]
-    fn parts(&self) -> Option<FloatParts<'_>> {
-        float_parts(&self.text)
-    }
-
     /// Returns the digits before the dot as written, without a sign.
     ///
     /// ```
@@ -512,7 +506,7 @@ impl<'t> LitFloat<'t> {
     #[inline]
     #[must_use]
     pub fn integer_part(&self) -> &str {
-        self.parts().map_or("", |parts| parts.integer)
+        float_parts(&self.text).map_or("", |parts| parts.integer)
     }
 
     /// Returns the digits after the dot as written, or `None` if there is no dot.
@@ -528,7 +522,7 @@ impl<'t> LitFloat<'t> {
     #[inline]
     #[must_use]
     pub fn fractional_part(&self) -> Option<&str> {
-        self.parts()?.fraction
+        float_parts(&self.text)?.fraction
     }
 
     /// Returns the text of the exponent after its letter, with a sign, or `None` if the float has no exponent.
@@ -543,6 +537,6 @@ impl<'t> LitFloat<'t> {
     #[inline]
     #[must_use]
     pub fn exponent_part(&self) -> Option<&str> {
-        self.parts()?.exponent
+        float_parts(&self.text)?.exponent
     }
 }

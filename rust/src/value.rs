@@ -319,16 +319,9 @@ impl fmt::Display for Reason {
     }
 }
 
-/// Parses `digits`, the decimal digits of a literal, as a number of the float type `N`. The literal's suffix begins at the byte
-/// offset `suffix_at`. An error has the range before the suffix.
-fn number_of<N: Number>(
-    digits: &str,
-    suffix_at: usize,
-) -> Result<N, (ValueErrorKind, Range<usize>)> {
-    match digits.parse::<N>() {
-        Ok(number) if number.is_number() => Ok(number),
-        _ => Err((ValueErrorKind::OutOfRange, 0..suffix_at)),
-    }
+/// Parses the decimal digits of a literal as a number of the float type `N`. Returns `None` if it is out of range.
+fn number_of<N: Number>(digits: &str) -> Option<N> {
+    digits.parse().ok().filter(N::is_number)
 }
 
 /// Creates the error of a value that was requested as the type `N`.
@@ -379,7 +372,8 @@ impl LitInt<'_> {
         } else if suffix != N::TYPE.as_str() || self.base() != Base::Decimal {
             Err((ValueErrorKind::Suffix, self.suffix_range()))
         } else {
-            number_of(&self.base10_digits(), suffix_at)
+            let number = number_of(&self.base10_digits());
+            number.ok_or((ValueErrorKind::OutOfRange, 0..suffix_at))
         };
         found.map_err(error_of::<N>)
     }
@@ -391,8 +385,8 @@ impl LitInt<'_> {
     #[inline]
     pub(crate) fn value_or_float<N: Number>(&self) -> Result<N, ValueError> {
         if N::TYPE.is_float() && self.suffix().is_empty() {
-            return number_of(&self.base10_digits(), self.suffix_range().start)
-                .map_err(error_of::<N>);
+            let error = (ValueErrorKind::OutOfRange, 0..self.suffix_range().start);
+            return number_of(&self.base10_digits()).ok_or_else(|| error_of::<N>(error));
         }
         self.value()
     }
@@ -425,7 +419,10 @@ impl LitFloat<'_> {
         } else if !suffix.is_empty() && suffix != N::TYPE.as_str() {
             Err((ValueErrorKind::Suffix, self.suffix_range()))
         } else {
-            number_of(&self.base10_digits(), suffix_at)
+            // std also reads `+` and `E`, so only a number with underscores is written again.
+            number_of(&self.text()[..self.number_len])
+                .or_else(|| number_of(&self.base10_digits()))
+                .ok_or((ValueErrorKind::OutOfRange, 0..suffix_at))
         };
         found.map_err(error_of::<N>)
     }

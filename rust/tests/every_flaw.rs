@@ -7,7 +7,8 @@ use navyspindle::FlawKind::{
     UnderscoreSuffix, UnicodeEscapeOutOfRange, UnknownEscape,
 };
 use navyspindle::{
-    flaws, flaws_in_file, guess_kind, is_token, pieces, InvalidPiece, Kind, Lit, Piece,
+    flaws, flaws_in_file, guess_kind, is_token, pieces, pieces_in_file, InvalidPiece, Kind, Lit,
+    Piece,
 };
 
 const TABLE: &str = include_str!("every_flaw.txt");
@@ -177,6 +178,39 @@ fn pieces_fill_the_literal() {
         assert_eq!(range(&all[0]).start, opener);
         assert_eq!(range(all.last().unwrap()).end, text.len() - 1 - hashes);
     }
+}
+
+/// In a file, CR LF is read as LF: the bad pieces of a literal are the flaws in the file, and the pieces without a flaw are segments.
+#[test]
+fn pieces_of_a_file() {
+    let rows: &[(&str, &[&str])] = &[
+        ("\"a\r\n\\q\"", &["1..2 0..1", "2..4 1..2", "!4..6"]),
+        ("\"\\\r\n \r\nb\r\"", &["1..7 0..0", "7..8 0..1", "!8..9"]),
+        ("b\"\r\n\\x4\r\n\"", &["2..4 0..1", "!4..9"]),
+        ("r#\"a\r\n\r\"#", &["3..6 0..3", "!6..7"]),
+        ("c\"\r\n\\\r\n\"_", &["2..4 0..1", "4..7 1..1", "!8..9"]),
+        ("'\r\n'", &["!1..3"]),
+        ("'\\q\r\n'_", &["!1..3", "!6..7"]),
+        ("\"\r", &["!1..2", "!2..2"]),
+    ];
+    for (text, expected) in rows {
+        let all: Vec<_> = pieces_in_file(text).unwrap().collect();
+        let shown = all.iter().map(|piece| match piece {
+            Piece::Good(it) => format!("{:?} {:?}", it.range, it.value_range),
+            other => format!("!{:?}", other.range()),
+        });
+        assert_eq!(shown.collect::<Vec<_>>(), *expected, "{text:?}");
+        let bad = all.iter().filter_map(|piece| match piece {
+            Piece::Bad(bad) => Some(*bad),
+            _ => None,
+        });
+        assert!(bad.eq(flaws_in_file(text)), "{text:?}");
+    }
+    let text = "\"a\r\n\\\r\n  b\\x41\"";
+    let literal = Lit::of_text(text);
+    let segments = literal.segments().unwrap();
+    assert!(pieces_in_file(text).unwrap().eq(segments.map(Piece::Good)));
+    assert!(pieces_in_file("1").is_none());
 }
 
 /// The pieces of a valid literal token are its segments, and its kind is the kind that it begins as.

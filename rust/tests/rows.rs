@@ -1,8 +1,8 @@
 //! Tests of the values of literals, in rows of texts and expected values.
 
 use navyspindle::{
-    is_token, parse_list, parse_settings, source, write_str, FlawKind, Kind, Lit, LitBool, LitByte,
-    LitByteStr, LitChar, LitFloat, LitInt, LitStr, NumberType, ParseErrorKind, SyntaxErrorKind,
+    parse_list, parse_settings, source, FlawKind, Kind, Lit, LitBool, LitByte, LitByteStr, LitChar,
+    LitFloat, LitInt, LitStr, NumberType, ParseErrorKind, SyntaxErrorKind,
 };
 use std::borrow::Cow;
 use std::collections::HashSet;
@@ -317,34 +317,6 @@ fn each_kind() {
 }
 
 #[test]
-fn each_error() {
-    let rows = [
-        ("word", SyntaxErrorKind::NotALiteral),
-        ("-word", SyntaxErrorKind::NoNumber),
-        ("/// d", SyntaxErrorKind::DocComment),
-        ("/* ", SyntaxErrorKind::UnclosedComment),
-        ("\"a", SyntaxErrorKind::UnclosedQuote),
-        ("'a", SyntaxErrorKind::Lifetime),
-        ("r#a", SyntaxErrorKind::RawIdentifier),
-        ("\u{0}", SyntaxErrorKind::StrayCharacter),
-        (")", SyntaxErrorKind::UnmatchedClose),
-        ("(", SyntaxErrorKind::Group),
-    ];
-    for (text, kind) in rows {
-        let text = format!("1 {text}");
-        let error = parse_list(&text).nth(1).unwrap().unwrap_err();
-        assert_eq!((error.kind(), error.offset()), (kind, 2), "{text}");
-        let in_source = source(&text).find_map(Result::err);
-        let stays = matches!(
-            kind,
-            SyntaxErrorKind::UnclosedComment | SyntaxErrorKind::UnclosedQuote
-        );
-        assert_eq!(in_source, stays.then_some(error), "{text}");
-    }
-    assert_eq!(HashSet::from(rows.map(|row| row.1)).len(), 10);
-}
-
-#[test]
 fn equal_by_text() {
     let found: HashSet<Lit> = parse_list("- /* a */ 1 -1 1 '\\q' true 1.0")
         .chain(source("'\\q' 1 true"))
@@ -473,43 +445,6 @@ fn what_has_no_reading() {
 }
 
 #[test]
-fn strict_tokens() {
-    for text in ["1", "\"a\"", "b'a'", "1.0e5", "c\"x\"", "true"] {
-        assert!(is_token(text), "{text}");
-    }
-    for text in ["", "-1", "a", "\"a", "1 "] {
-        assert!(!is_token(text), "{text}");
-    }
-}
-
-#[test]
-fn written_strings_are_read_back() {
-    let mut state = 7_u64;
-    for _ in 0..2_000 {
-        let text: String = (0..state % 40)
-            .filter_map(|_| {
-                state = state
-                    .wrapping_mul(6364136223846793005)
-                    .wrapping_add(1442695040888963407);
-                let bits = (state >> 33) as u32;
-                char::from_u32(if bits % 3 == 0 {
-                    bits % 0x110000
-                } else {
-                    bits % 0x90
-                })
-            })
-            .collect();
-        let written = write_str(&text);
-        assert!(is_token(&written), "{written}");
-        let Lit::Str(literal) = Lit::parse(&written).unwrap() else {
-            panic!()
-        };
-        assert_eq!((literal.value(), literal.suffix()), (Cow::from(&text), ""));
-        state = state.wrapping_add(1);
-    }
-}
-
-#[test]
 fn a_source() {
     let rows = |text: &str| -> Vec<String> {
         source(text)
@@ -535,33 +470,4 @@ fn a_source() {
         ["0..1 1", "unclosed block comment at byte 2"]
     );
     assert_eq!(rows("1 \"a"), ["0..1 1", "unclosed quote at byte 2"]);
-}
-
-#[test]
-fn other_values_are_written() {
-    for byte in 0..=255 {
-        let Ok(Lit::Byte(literal)) = navyspindle::write_byte(byte).parse() else {
-            panic!("{byte}")
-        };
-        assert_eq!(literal.value(), byte);
-    }
-    let bytes: Vec<u8> = (1..=255).collect();
-    let text = navyspindle::write_byte_str(&bytes);
-    let Ok(Lit::ByteStr(literal)) = Lit::parse(&text) else {
-        panic!("{text}")
-    };
-    assert_eq!(*literal.value(), bytes);
-    let c_string = std::ffi::CString::new(bytes).unwrap();
-    let text = navyspindle::write_c_str(&c_string);
-    let Ok(Lit::CStr(literal)) = Lit::parse(&text) else {
-        panic!("{text}")
-    };
-    assert_eq!(*literal.value(), *c_string.to_bytes());
-    for c in (0..=0x10ffff).step_by(7).filter_map(char::from_u32) {
-        let text = navyspindle::write_char(c);
-        let Ok(Lit::Char(literal)) = Lit::parse(&text) else {
-            panic!("{text}")
-        };
-        assert_eq!(literal.value(), c);
-    }
 }

@@ -1,8 +1,8 @@
 //! Tests of the traits that all types of literals, errors or iterators implement.
 
 use navyspindle::{
-    flaws, flaws_in_file, parse_list, pieces, rewrite_source, source, Case, FlawKind, Key, Kind,
-    Lit, LitFloat, LitInt, LitStr, ParseErrorKind, SettingErrorKind, Settings, Style,
+    flaws, flaws_in_file, parse_list, pieces_in_file, rewrite_source, source, Case, FlawKind, Key,
+    Kind, Lit, LitFloat, LitInt, LitStr, ParseErrorKind, SettingErrorKind, Settings, Style,
     SyntaxErrorKind, TypeError, ValueErrorKind,
 };
 use std::collections::HashSet;
@@ -53,7 +53,7 @@ fn iterators_are_cloned() {
         clones_go_on(|| literal.flaws(), 1);
     }
     clones_go_on(|| flaws_in_file("\"\r\n\\q\r\n\\y\r\n\\z\""), 3);
-    clones_go_on(|| pieces(r#""a\q\u{e9}\yb""#).unwrap(), 5);
+    clones_go_on(|| pieces_in_file("\"a\r\n\\q\u{e9}\\yb\"").unwrap(), 5);
     let style = Style::new().hex_digits(Case::Lower).fewest_hashes(true);
     let text = r###"f(0xAB, t.0xF, r##"b"##, 0xab, m!(0xCD)); "c"###;
     clones_go_on(|| rewrite_source(text, style), 4);

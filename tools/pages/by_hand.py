@@ -58,10 +58,10 @@ def stored_answer(call, text):
     """Returns the result that the table of a call has for a text, or nothing if it has no such row."""
     table, heading = STORED[call]
     rows = re.split(r'^# (.+)\n', read(f'rust/programs/rows/tests/calls/{table}.rows'), flags=re.M)
-    for row in rows[rows.index(heading) + 1].split('\n\n'):
-        lines = row.strip('\n').split('\n')
-        if '\n'.join(line[2:] for line in lines if line.startswith('<')) == text:
-            return '\n'.join(line[2:] for line in lines if line.startswith('>'))
+    for row in re.findall(r'(?:<.*\n)+(?:>.*\n)+', rows[rows.index(heading) + 1]):
+        given, expected = ('\n'.join(line[2:] for line in row.split('\n') if line[:1] == mark) for mark in '<>')
+        if given == text:
+            return expected
     return ''
 
 

@@ -155,7 +155,7 @@ def check_paths(tell):
 def check_words(tell):
     """Checks that each word in code font that looks like the name of a definition or a type is in a source."""
     sources = [*code_files(), *definition_files(), 'crates.txt', *paths('rust/src/**/*.rs')]
-    known = FOREIGN.union(*(re.findall(r'\w+', read(path)) for path in sources))
+    known = FOREIGN.union(*(re.findall(r'\w+', read(path)) for path in sources), *(path.split('.') for path in paths('crates/*/*/*.edit')))
     for page in [it for it in prose_pages() if it not in OF_OTHERS]:
         prose = re.sub(r'```.*?```', '', read(page), flags=re.S)
         for word in re.findall(r'`([A-Z]\w*[a-z]\w*|[a-z]\w*_\w+)`', prose):
@@ -293,6 +293,17 @@ def check_diagrams(tell):
             tell(f'{path}: there is no definition of this name')
 
 
+def check_map(tell):
+    """Checks that the map lists each crate once, in the table of its layer, and has the numbers of the crates."""
+    page = read('docs/MAP.md')
+    for name, count in re.findall(r'\*\*(\w+)\*\*: (\d+) crates', page) + re.findall('(The) ([0-9]+) crates', page):
+        rows = page.split('## The ')[1] if name == 'The' else page.split(f'\n{name}:\n\n')[1].split('\n\n')[0]
+        if len(re.findall(r'(?m)^\| `r\w+` \|', rows)) != int(count):
+            tell(f'docs/MAP.md: the tables have another number of crates than {name} {count}')
+    if sorted(re.findall(r'(?m)^\| `(r\w+)` \|', page)) != sorted(it.split('/')[1] for it in paths('crates/*/src')):
+        tell('docs/MAP.md: the tables have other crates than the folder crates')
+
+
 OF_PAGES = (
-    check_core, check_paths, check_snippets, check_definitions, check_names, check_words, check_owners,
+    check_core, check_map, check_paths, check_snippets, check_definitions, check_names, check_words, check_owners,
     check_errors, check_diagrams, check_limits, check_options, check_rules, check_habits, check_public_names)

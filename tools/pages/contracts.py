@@ -131,7 +131,7 @@ def section(crate):
 LAWS_PAGE, LAWS = 'docs/RATTLE.md', '## Laws and lemmas\n'
 SUBJECTS = {
     'rl_syntax': 'The two grammars', 'rl_lexer': 'Tokens', 'rl_tokens': 'Printed lists and token trees',
-    'rl_lenient': 'Literals that were found', 'rl_cursors': 'The ranges of values, and the literals of lists', 'rl_strict': 'Flaws', 'rl_flaws': 'All flaws, and the types of literals',
+    'rl_lenient': 'Literals that were found', 'rl_fronts': 'The literal at the start of token trees', 'rl_cursors': 'Cursors, and the ranges of values', 'rl_strict': 'Flaws', 'rl_flaws': 'All flaws, and the types of literals',
     'rl_writing': 'Written numbers and raw strings', 'rl_style': 'Literals that are rewritten',
     'rl_restyle': 'Sources that are rewritten', 'rust_literals': '`Lit` and its parsers', 'rl_attributes': 'Settings',
 }

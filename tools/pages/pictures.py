@@ -5,8 +5,7 @@ import re
 from .rules import FILES, code_of
 
 # Rules that a diagram shows by their parts, since they have parameters or stand for what is between quotes.
-PARTS = ('char_content string_content byte_content byte_string_content c_string_content char_inside str_inside byte_inside '
-         'byte_str_inside c_str_inside raw raw_to_last x_escape not_nul ascii_only digits some_digits with_prefix number '
+PARTS = ('str_inside byte_str_inside c_str_inside raw raw_to_last x_escape not_nul ascii_only digits some_digits number '
          'tested_number').split()
 # Rules of which there is no diagram: conditions on the text that follows, and the choice by kind.
 HIDDEN = 'digit no_prefix exponent_suffix literal as_contents syn_literal syn_suffix IsLiteral IsSynLiteral'.split()
@@ -86,7 +85,7 @@ class Drawing:
             return self.text(self.argument())
         if head in ('As', 'If'):
             self.argument()
-        if head in ('As', 'If', 'skip', 'Some'):
+        if head in ('As', 'If', 'Some'):
             return self.inner(re.sub(r'^λ \w+\. ', '', self.argument()))
         if head in ('Many', 'maybe'):
             return (ZeroOrMore if head == 'Many' else Optional)(self.inner(self.argument()))

@@ -9,28 +9,46 @@ from .items import code_files, items_of, paths, read
 from .snippets import blanked, closing
 
 PAGE, ROOT = 'docs/THEOREM.md', 'crates/rl_theorem/src/lib.rt'
+# The contracts beside the headline: the loop over a list, and reading a list again.
+BESIDE = {'literal_at', 'both_ways', 'read_again'}
 INTRODUCTION = """# The theorem
 
-For those who must decide whether to believe the headline. This page has all that the headline rests on: the contracts of
-[rl_theorem](../crates/rl_theorem/src/lib.rt), then each definition that they need, in groups, and the names of Rattle's standard
-library. `tools/docs --write` writes the page from the sources. It has {definitions} definitions and {types} types of the code, in
-{lines} lines, of which {comments} are comments. `rt check` in `crates/rl_theorem` proves the contracts.
+For those who must decide whether to believe the headline:
+
+{headline}
+
+This page has all that the headline rests on: the contracts of [rl_theorem](../crates/rl_theorem/src/lib.rt), then each definition
+that they need, in groups, and the names of Rattle's standard library. `rt check` in `crates/rl_theorem` proves the contracts.
+`tools/docs --write` writes the page from the sources, and counts:
+
+- The contracts without the loop over a list (`literal_at`, `both_ways`) and `read_again` need {headline_n} definitions in
+  {headline_n_lines} lines, of which {headline_n_code} aren't comments.
+- With `read_again`, these are {again} definitions in {again_lines} lines, of which {again_code} aren't comments.
+- All contracts need {all} definitions in {all_lines} lines, of which {all_code} aren't comments, and {types} types of the code in
+  {types_lines} lines.
 
 How to read it:
 
-- A text is a list of the codes of its characters. `chars` decodes bytes to such a list. `x.now` is the value of a borrowed argument.
+- A text is a list of the codes of its characters, and bytes are a list of numbers below 256. Both have the type `List ℕ`. `chars`
+  decodes bytes to a text. `x.now` is the value of a borrowed argument.
+- A *strict* text is a literal token of the Rust Reference, or `true` or `false`. *Trivia* are white space and plain comments. A
+  *printed list* is a text of literals one after another. The *contents* of a literal are its value. A *written value* is the literal
+  that a writer returns for a string, bytes, a C string, a byte or a character.
+- A token (`Literal`) and each of `LitStr`, `LitByteStr`, `LitCStr`, `LitByte`, `LitChar`, `LitInt` and `LitFloat` is a text in UTF-8,
+  held as bytes, and a span: `SpannedText`. A `LitBool` is a `bool` and a span. `Kept` is an error, and the value that is handed back.
 - `⊎` is *or*, `×` is *and* or *there is*, `→` is *for all* or *implies*, `≡` is *equals*, `⊥` is *false*, and `⊤` is *true*.
 - `pub record` begins a structure, or a statement that consists of its fields. `pub data` lists constructors. Other definitions
   consist of equations, of which the first that fits counts. `StrKind` and the like are the variants of `Kind`.
 - `∷` puts an element before a list, and `++` joins two lists. `codes "ab"` is the list of the codes of `a` and `b`.
+  `digits_onto m 10 false n []` is the digits of `n` in base ten, if `m` is above the number of the digits.
 - `IsTrue b` states that a test succeeds. `IfOk result (λ x. P)` states `P` of the value `x` if the result is `Ok`.
 - `Memory` is the error for a failed allocation. No contract states that an allocation fails if `Memory` is returned, or that one
   succeeds: Rattle's allocators promise neither. So a function that always returned `Memory` would fulfill each contract except that
   of `literal_at`, which allocates nothing, and that of `suffix_of`.
 - Each grammar consists of rules. Rust's are those of the Rust Reference, `syn`'s are those of its parser. Not all that `syn` parses is
   Rust's. That the rules are those of rustc and `syn` isn't proved, but [compared](COMPARISON.md).
-- The page leaves out the bodies of the functions, which only call the libraries. Nothing is stated about reading a text that isn't a
-  printed list.
+- The page leaves out the bodies of the functions, which only call the libraries. Except for `read_again`, nothing is stated about
+  reading a text that isn't a printed list.
 """
 # The groups of the definitions: a heading, and the files.
 GROUPS = {
@@ -68,8 +86,8 @@ def names_of(code):
     head = r"(?:(?:abbrev|unfoldable|pub|record|data) +)*([^\s:({]+)"
     if code.startswith(('mutual', 'abbrev mutual')):
         return [it for it in re.findall(rf'(?m)^  {head}', code) if it] + re.findall(r'(?m)^    (\w+) :', code)
-    first = re.match(head, re.sub(r'\Ainfix.*\n', '', code))[1]
-    return [first, *(re.findall(r'(?m)^  (\w+) :', code) if re.match(r'(?:pub )?data ', code) else [])]
+    first = re.match(head, re.sub(r'\A(?:infix.*\n)+', '', code))[1]
+    return [first, *(re.findall(r'(?m)^  (\S+) :', code) if re.search(r'(?m)^(?:pub )?data ', code) else [])]
 
 
 @functools.cache
@@ -120,10 +138,10 @@ def words_of(text):
         yield f'◌{word}◌'
 
 
-def definitions():
+def definitions(without=()):
     """Returns what the contracts need, in the order of first use, and the names of std that these use, by module."""
     found, standard = [], {}
-    clauses = ' '.join(said for it in items_of(ROOT) for _, _, said in clauses_of(ROOT, it))
+    clauses = ' '.join(said for it in items_of(ROOT) if it.name not in without for _, _, said in clauses_of(ROOT, it))
     waiting = collections.deque([(clauses, uses_of(read(ROOT)), {})])
     while waiting:
         text, imported, defined = waiting.popleft()
@@ -143,6 +161,17 @@ def group_of(path):
     return next(title for title, files in GROUPS.items() if re.search(files, path))
 
 
+def shown(it):
+    """Returns the text of a definition on the page: without the types of rules and the precedence of signs."""
+    return re.sub(r'(?m)^(infixr? .*|abbrev pub [\w◌⋅∣]+ : [^\n]*Rule)\n', '', it.text)
+
+
+def figures(name, found):
+    """Returns the numbers of some definitions, or of some types, for the head of the page."""
+    lines = [line for it in found for line in shown(it).split('\n') if line]
+    return {name: len(found), f'{name}_lines': len(lines), f'{name}_code': sum(not re.match(r' *(--|//)', it) for it in lines)}
+
+
 def page():
     """Returns the page, as in the sources."""
     functions = [line for it in items_of(ROOT) if it.kind == 'fn' for line in [*quoted(ROOT, it, {}), '']]
@@ -157,12 +186,12 @@ def page():
             mark = '//' if it.path.endswith('.rt') else '--'
             if it.path != last:
                 rows += [''] * bool(rows) + [f'{mark} {it.path.removeprefix("crates/")}:']
-            rows += [re.sub(r'(?m)^(infixr? .*|abbrev pub [\w◌⋅∣]+ : [^\n]*Rule)\n', '', it.text)]
+            rows += [shown(it)]
             last = it.path
     parts['Names of the standard library'] = [f'{module}: {", ".join(sorted(those))}' for module, those in sorted(standard.items())]
     body = ''.join('\n'.join([f'\n## {title}\n', '```text', *those, '```', '']) for title, those in parts.items())
-    types = sum(it.path.endswith('.rt') for it in found)
-    lines = [line for title in GROUPS for row in parts[title] for line in row.split('\n') if line and not line.endswith(('.antt:', '.rt:'))]
-    return INTRODUCTION.format(
-        definitions=len(found) - types, types=types, lines=len(lines),
-        comments=sum(bool(re.match(r' *(--|//)', it)) for it in lines)) + body
+    counts = figures('types', [it for it in found if it.path.endswith('.rt')])
+    for name, without in {'headline_n': BESIDE, 'again': BESIDE - {'read_again'}, 'all': ()}.items():
+        counts |= figures(name, [it for it in definitions(without)[0] if it.path.endswith('.antt')])
+    headline = re.search(r'(?m)^> .*', read('docs/PROVED.md'))[0]
+    return INTRODUCTION.format(headline=headline, **counts) + body

@@ -7,6 +7,8 @@ FN = re.compile(r'( *)(?:pub(?:\([^)]*\))? )?(?:const )?(?:unsafe )?(?:extern "C
 IMPL = re.compile(
     r"(?:unsafe )?impl(?:<.*?>)? (?:(?:\w+::)*(?P<trait>\w+)(?:<(?P<of>\w+).*?>)? for )?"
     r"(?:&(?:'\w+ )?(?:mut )?)?(?:\w+::)*(?P<type>\w+)")
+# An `if` of a function, with its condition and its one or two arms.
+IF = re.compile(r'(?m)^    if (?!let )([^\n{]+) \{\n((?: {8}[^\n]+\n)+)    \}(?: else \{\n((?: {8}[^\n]+\n)+)    \})?\n')
 # The text that a control inserts at the start of a body, and the largest number of lines of that body.
 NEEDLESS, SHORT = 'let _needless = true; ', 8
 
@@ -52,9 +54,10 @@ def function_at(crate, file, text, place):
     within = range(first, last + 1)
     owner, _ = block(lines, IMPL) if function[1] else (None, 0)
     if owner:
-        # A method is in the module of its type. If a trait is implemented for several types, its name contains the type.
-        trait = owner['trait'] or ''
-        owners = dict.fromkeys([owner['type'] + trait, owner['type'] + trait + (owner['of'] or '')])
+        # A method is in the module of its type, which begins with a capital letter. If a trait is implemented for several types, its
+        # name contains the type.
+        name = owner['type'][0].upper() + owner['type'][1:] + (owner['trait'] or '')
+        owners = dict.fromkeys([name, name + (owner['of'] or '')])
         return Function(tuple(f'::{it}::{function[2]}' for it in owners), file, within)
     return Function(('::'.join([crate, *modules_of(file), function[2]]),), file, within)
 
@@ -175,11 +178,26 @@ def short_bodies(folder):
                 yield file, body[0].strip(), len(body)
 
 
-def control_of(crate, folder, taken):
-    """Returns a control: a body whose change has no effect, in a function that isn't among those taken. A check that rejects it
-    would reject anything. Returns None if no function is short enough."""
+def needless(folder):
+    """Iterates over bodies with a statement that has no effect, the shortest first."""
     for file, first, _ in sorted(short_bodies(folder), key=lambda it: it[2]):
-        control = Edit('control', [(file, first, NEEDLESS + first)])
-        if not first.startswith('//') and control.why_bad(folder) is None and set(control.functions(crate, folder)).isdisjoint(taken):
-            return control
-    return None
+        if not first.startswith('//'):
+            yield Edit('control', [(file, first, NEEDLESS + first)])
+
+
+def turned(folder):
+    """Iterates over bodies of functions with a proof file in which the condition of an `if` is negated and its arms are swapped. The
+    branches have other names then, so the prover doesn't use the answers for them."""
+    for file in (f'src/{it}' for it in files_below(f'{folder}/src')):
+        text = read(f'{folder}/{file}')
+        for found in IF.finditer(text):
+            function = function_at('', file, text, found.start())
+            if function.names and os.path.isfile('/'.join([folder, 'proofs', *function.names[0].split('::')[1:], 'Answers.antt'])):
+                turn = f"    if !({found[1]}) {{\n{found[3] or ''}    }} else {{\n{found[2]}    }}\n"
+                yield Edit('control_turned', [(file, found[0], turn)])
+
+
+def first_apart(crate, folder, edits, taken):
+    """Returns the first of these edits that changes none of the functions that are taken, or None."""
+    fits = (it for it in edits if it.why_bad(folder) is None and taken.isdisjoint(it.functions(crate, folder)))
+    return next(fits, None)

@@ -1,15 +1,17 @@
-"""The record of the crates whose wrong bodies were all rejected."""
+"""The record of the crates none of whose wrong bodies is proved."""
 import os
 import subprocess
 
 from .crates import PARTS, lines_of
 from .edits import read, write
 
-HEAD = 'crate\tcommit\ttried\trejected'
+HEAD = 'crate\tcommit\ttried\trejected\tnot_proved'
+# Lines that are comments.
+COMMENT = '^[[:space:]]*(--|//)'
 # The parts of a crate on which the crates above it depend.
 SEEN_ABOVE = ('src', 'specs')
 # The files on which the verdicts for all crates depend.
-COMMON = ('HANDLES', 'tools/wrong', 'tools/trying')
+COMMON = ('HANDLES',)
 
 
 class Record:
@@ -40,19 +42,23 @@ class Record:
         A commit that the clone doesn't have, or that isn't an ancestor, doesn't count."""
         if name not in self.rows:
             return False
-        commit, tried, rejected = self.rows[name]
-        if tried != rejected or self.git('merge-base', '--is-ancestor', commit, 'HEAD').returncode != 0:
+        commit, tried, *counts = self.rows[name]
+        if int(tried) != sum(map(int, counts)) or self.git('merge-base', '--is-ancestor', commit, 'HEAD').returncode != 0:
             return False
         below = self.crates.below(name)
         paths = [*COMMON, *[f'crates/{name}/{part}' for part in (*PARTS, 'wrong')]]
         paths += [f'crates/{it}/{part}' for it in below for part in SEEN_ABOVE]
         return self.are_unchanged(commit, paths) and self.are_lines_unchanged(commit, [*below, name])
 
+    def has_all(self, name):
+        """Whether the crate's line has all numbers. A line by the older rule lacks the last one."""
+        return len(self.rows[name]) == len(HEAD.split('\t')) - 1
+
     def are_unchanged(self, commit, paths):
-        """Whether the files at these paths are those of the commit, without additional files."""
+        """Whether the files at these paths are those of the commit, except for comments, without additional files."""
         others = self.git('ls-files', '--others', '--exclude-standard', '--', *paths)
-        is_same = self.git('diff', '--quiet', commit, '--', *paths).returncode == 0
-        return is_same and others.returncode == 0 and not others.stdout
+        is_same = self.git('diff', '-I', COMMENT, commit, '--', *paths)
+        return is_same.returncode == 0 and not is_same.stdout and others.returncode == 0 and not others.stdout
 
     def are_lines_unchanged(self, commit, names):
         """Whether the lines of these crates in crates.txt are those of the commit."""

@@ -2,14 +2,14 @@
 import re
 import threading
 
-from .edits import control_of, read, with_regions, write
+from .edits import first_apart, needless, read, turned, with_regions, write
 from .holes import Holes
 
 # A check with more wrong bodies than these takes much memory.
 MOST = 40
 # A goal that is the condition of a call, and so isn't a clause of the function.
 REQUIRES = re.compile(r'-requires(-|$)')
-NOT_REJECTED = 'not rejected'
+NOT_REJECTED, NO_ANSWERS, CALLS = 'not rejected', 'only goals without the answers that proved them', 'only what a call asks'
 # The status of a check of a function that doesn't exist, or whose name several functions have.
 NO_SUCH = 2
 SAYING = threading.Lock()
@@ -25,11 +25,12 @@ class Trials:
         self.edits, self.changed, self.regions = [], {}, {}
         # The prover's names of functions.
         self.names = {}
-        self.control, self.is_controlled = None, False
+        # The controls, whose changes have no effect, and those that were judged. A check that rejects one would reject anything.
+        self.controls, self.controlled = set(), set()
         # Pairs of wrong bodies that one check can't judge, because a function that the first one changes calls one that the second
         # one changes.
         self.apart = set()
-        self.rejected, self.errors, self.checks = {}, 0, 0
+        self.rejected, self.unanswered, self.errors, self.checks = {}, {}, 0, 0
         for edit in edits:
             why = edit.why_bad(folder)
             if why:
@@ -41,15 +42,22 @@ class Trials:
         self.edits.append(edit)
         self.changed[edit], self.regions[edit] = edit.functions(self.crate, self.folder), edit.regions(self.folder)
 
-    def add_control(self):
-        """Adds a control to the first check: a body whose change has no effect. Returns whether there is one."""
+    def add_control(self, edits):
+        """Adds the first of these edits that changes no other function than the wrong bodies do, as a control of the first check.
+        Returns whether there is one."""
         taken = {function for functions in self.changed.values() for function in functions}
-        if not all(self.is_outside(it) for it in self.edits):
-            self.control = control_of(self.crate, self.folder, taken)
-        if self.control:
-            self.add(self.control)
+        is_tried = not all(self.is_outside(it) for it in self.edits)
+        control = first_apart(self.crate, self.folder, edits(self.folder), taken) if is_tried else None
+        if control:
+            self.add(control)
             self.edits.insert(0, self.edits.pop())
-        return self.control is not None
+            self.controls.add(control)
+        return control is not None
+
+    def add_controls(self):
+        """Adds the controls. Returns whether there is one in a function without a proof file."""
+        self.add_control(turned)
+        return self.add_control(needless)
 
     def say(self, edit, what):
         with SAYING:
@@ -62,15 +70,18 @@ class Trials:
     def report(self, edit, is_rejected, what):
         """Reports the result of a wrong body: rejected, with the goals that failed, or the reason why it isn't."""
         names = ', '.join(' or '.join(it.names) for it in self.changed[edit])
-        if edit is self.control:
-            self.is_controlled = True
-            if is_rejected or what != NOT_REJECTED:
+        if edit in self.controls:
+            self.controlled.add(edit)
+            if is_rejected or not what.startswith((NOT_REJECTED, NO_ANSWERS, CALLS)):
                 self.error(edit, f'it changes nothing of {names}, but came to this: {"rejected: " if is_rejected else ""}{what}')
             else:
-                self.say(edit, f'not rejected, as it has to be, since it changes nothing of {names}')
+                self.say(edit, f'{NOT_REJECTED}, as it has to be, since it changes nothing of {names}')
         elif is_rejected:
             self.rejected[edit] = what
             self.say(edit, f'rejected: {what}')
+        elif what.startswith(NO_ANSWERS):
+            self.unanswered[edit] = what
+            self.say(edit, f'not proved: {what}')
         else:
             self.error(edit, f'{what} (in {names or "no function"} of {", ".join(dict.fromkeys(file for file, _, _ in edit.pairs))})')
 
@@ -141,23 +152,25 @@ class Trials:
         if None in names:
             self.report(edit, False, 'the prover names no such function')
             return True
-        goals = {name: verdicts.goals(it) for name, it in zip(names, self.changed[edit])}
+        both = {name: verdicts.goals(it, f'{self.folder}/proofs') for name, it in zip(names, self.changed[edit])}
+        goals, lost = ({name: found[at] for name, found in both.items()} for at in (0, 1))
         is_clause = any(not REQUIRES.search(it) for found in goals.values() for it in found)
         own = [it for it in names if is_clause and goals[it] or verdicts.is_rejected(it)]
         shown = '; '.join(f"{name}: {', '.join(goals[name])}" for name in own)
-        if is_clause:
-            self.report(edit, True, shown)
-        elif any(goals[name] for name in own):
-            self.report(edit, False, f'only what a call asks: {shown}')
-        elif own:
-            self.report(edit, False, f'only proof files that name what is gone: {shown}')
         causes = {it for name in names for it in verdicts.causes(name)}
         others = [
             it for it in chosen
-            if it is not edit and not own
+            if it is not edit and not is_clause
             and not causes.isdisjoint(verdicts.name(function) for function in self.changed[it])]
         self.apart.update((edit, it) for it in others)
-        if not own and not others:
+        if is_clause:
+            self.report(edit, True, shown)
+        elif not others and any(goals[name] for name in own) and not any(lost.values()):
+            self.report(edit, False, f'{CALLS}: {shown}')
+        elif not others and own:
+            gone = '; '.join(f"{name}: {', '.join(lost[name])}" for name in own)
+            self.report(edit, False, f'{NO_ANSWERS}: {gone}')
+        elif not others:
             self.report(edit, False, NOT_REJECTED)
         return not others
 

@@ -4,4 +4,5 @@ pub mod FlatEntries
 pub mod FlatSettings
 pub mod NameKeys
 pub mod TextLemmas
+pub mod ValuePlaces
 pub mod Theorems

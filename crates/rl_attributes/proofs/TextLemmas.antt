@@ -46,9 +46,6 @@ pub all_unmap : {X Y : Type 0} (f : X → Y) (P : Y → Type 0) (xs : List X) �
 all_unmap f P xs h k d lt =
     subst P (get_or-map f xs k d (f d) lt) (h k (f d) (rw (length-map xs f) lt))
 
-pub all_map : {X Y : Type 0} (f : X → Y) (P : Y → Type 0) (xs : List X) → All (λ x. P (f x)) xs → All P (map f xs)
-all_map f P xs h = All-map P f xs h
-
 at_middle : {X : Type 0} (P : X → Type 0) (a : List X) (x : X) (b xs : List X) → All P xs → xs ≡ a ++ (x ∷ b) → P x
 at_middle P a x b xs all e =
     let in_rest : Contains (x ∷ b) x = (zero, omega arith, refl) in

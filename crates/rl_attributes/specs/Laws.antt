@@ -6,11 +6,11 @@ use Rattle.rl_syntax.specs.declared.kind.Kind.TheVariants.{Str as StrKind, Bool 
 use Rattle.rl_syntax.specs.Reading.{Contents, Characters, Truth as TruthContents, Reads, HasNoReading}
 use Rattle.rust_literals.specs.declared.lit.Lit.{Lit}
 use Rattle.rust_literals.specs.Literals.{kind_of, token_of}
-use Rattle.rust_literals.specs.LitParts.{HasLitSuffix}
+use Rattle.rust_literals.specs.LitParts.{HasLitSuffix, lit_span}
 use Rattle.rl_attributes.specs.declared.settings.Setting.{Setting}
 use Rattle.rl_attributes.specs.declared.settings.SettingError.{SettingError}
 use Rattle.rl_attributes.specs.Entries.{IsReadLit}
-use Rattle.rl_attributes.specs.Settings.{knows, IsStringSet, IsTruthSet, RejectsString, RejectsTruth}
+use Rattle.rl_attributes.specs.Settings.{knows, IsStringSet, IsTruthSet, RejectsString, RejectsTruth, span_of}
 use Rattle.rl_attributes.specs.TextSettings.{IsOneOf, setting_names, IsMemoryError}
 
 -- A theorem: if an attribute's value is a string without a suffix, the text of the value is parsed as that string.
@@ -60,3 +60,13 @@ KnownNamesAreTheSettings =
     (settings : List Setting) (name : List ℕ)
     → (IsTrue (knows settings name) → IsOneOf (setting_names settings) name)
     × (IsOneOf (setting_names settings) name → IsTrue (knows settings name))
+
+-- A theorem: the error for a value that must be a string is at the value.
+abbrev pub ARejectedStringIsAtTheValue : (A : Type 0) → Type 0
+ARejectedStringIsAtTheValue A =
+    (s : Setting) (l : Lit A) (e : SettingError A) → RejectsString s l e → span_of e ≡ lit_span l
+
+-- A theorem: the error for a value that must be a `bool` is at the value.
+abbrev pub ARejectedBoolIsAtTheValue : (A : Type 0) → Type 0
+ARejectedBoolIsAtTheValue A =
+    (s : Setting) (l : Lit A) (e : SettingError A) → RejectsTruth s l e → span_of e ≡ lit_span l

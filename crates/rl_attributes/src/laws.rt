@@ -1,7 +1,7 @@
 //! Theorems about the values of attributes and about settings. Each function here does nothing when it is called: its
 //! contract is a theorem.
 
-ghost use Rattle.rl_attributes.specs.Laws.{AStringIsParsedFromItsText, ABoolIsParsedFromItsText, TheTextTellsTheKind, TheTextTellsTheSuffix, AMalformedLiteralHasNoReading, OnlyAnAllocationFailureRejectsAString, ABoolIsAccepted, KnownNamesAreTheSettings};
+ghost use Rattle.rl_attributes.specs.Laws.{AStringIsParsedFromItsText, ABoolIsParsedFromItsText, TheTextTellsTheKind, TheTextTellsTheSuffix, AMalformedLiteralHasNoReading, OnlyAnAllocationFailureRejectsAString, ABoolIsAccepted, KnownNamesAreTheSettings, ARejectedStringIsAtTheValue, ARejectedBoolIsAtTheValue};
 
 use std::alloc::Allocator;
 
@@ -45,4 +45,11 @@ pub fn a_bool_is_accepted<A: Allocator>()
 /// Proves that a name is known to a list of settings exactly if one of the settings has that name.
 pub fn known_names_are_the_settings()
     ensures { KnownNamesAreTheSettings }
+{}
+
+/// Proves that the error for a value that isn't the string or the `bool` that its setting expects is at the value. The lemma
+/// `a_rejected_number_is_at_the_value` states the same of numbers.
+pub fn a_rejected_value_is_where_the_error_is<A: Allocator>()
+    ensures string { ARejectedStringIsAtTheValue A }
+    ensures truth { ARejectedBoolIsAtTheValue A }
 {}

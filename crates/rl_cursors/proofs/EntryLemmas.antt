@@ -1,5 +1,5 @@
 -- A name with dots is a slice of the input text: each of its identifiers and dots directly follows the one before it.
-use Rattle.rl_syntax.proofs.Common.{◌≡◌, ℕ, ◌+◌, ◌-◌, ◌≤◌, true, List, [], ◌∷◌, ◌++◌, length, length-append, append_assoc, take, slice_range, refl, sym, ◌∙◌, ap, subst, arith, encode_utf8_all, encode_ascii, encodes-append, encodes-chars, and_parts, Option, Some, None, IfSome, IfNone, take-append_seam, IsUtf8, IsCharBoundary}
+use Rattle.rl_syntax.proofs.Common.{◌≡◌, ℕ, ◌+◌, ◌-◌, true, List, [], ◌∷◌, ◌++◌, length, length-append, append_assoc, take, slice_range, refl, sym, ◌∙◌, ap, subst, arith, encode_utf8_all, encode_ascii, encodes-append, encodes-chars, and_parts, Option, Some, None, IfSome, IfNone, take-append_seam, IsUtf8, IsCharBoundary}
 use Rattle.std.proofs.lemmas.Str.{scalars-chars, IsCharBoundary-at_seam}
 use lib.Utf8.{scalars}
 use Prim.Native.Char.{code}
@@ -9,7 +9,7 @@ use Rattle.rl_lexer.specs.declared.cursor.Lexeme.{Lexeme}
 use Rattle.rl_lexer.specs.Cursors.{CursorState, TakesNext}
 use Rattle.rl_lexer.specs.Lexemes.{Lexeme as Tree, lexeme_text, form_of, MarkForm}
 use Rattle.rl_lexer.specs.Lexemes as lexemes
-use Rattle.rl_cursors.specs.SettingSteps.{TakesName, TakesMark}
+use Rattle.rl_cursors.specs.SettingSteps.{TakesName}
 use Rattle.rl_cursors.specs.EntrySteps.{TakesDot, JoinsName, AreNameParts, dotted, BeginsDottedName, TakesDottedName}
 use Rattle.rl_cursors.specs.declared.entries.DottedName.{DottedName}
 
@@ -199,10 +199,6 @@ name_text start t first hi name = ap (λ n. take n start.rest) (sym (name_len st
 
 pub slice_front : (r s : List ℕ) (n : ℕ) → r ≡ s → slice_range r 0 n ≡ take n s
 slice_front r s n e = ap (λ m. take m r) (let q : n - 0 ≡ n = omega arith in q) ∙ ap (λ x. take n x) e
-
--- If the next token is a punctuation character, the unread text isn't longer than the whole text.
-pub mark_fits : (c : ℕ) (old new : CursorState) → TakesMark c old new → length old.rest ≤ length old.text
-mark_fits c old new (l, takes, is) = omega (arith, takes.place)
 
 -- ---- each step of reading a name leaves the input text unchanged
 

@@ -1,8 +1,7 @@
 -- The open groups in the array that stores them, and the invariant of the loop over a text's tokens.
-use Rattle.rl_syntax.proofs.Common.{◌≡◌, ℕ, ◌+◌, ◌<◌, ◌≤◌, ◌⊎◌, inl, inr, Bool, true, false, not, ◌&&◌, ◌||◌, List, [], ◌∷◌, ◌++◌, length, map, drop, get_or, Option, Some, None, IfSome, IfNone, refl, sym, ◌∙◌, ap, subst, arith, chars-nil, chars, IsUtf8}
+use Rattle.rl_syntax.proofs.Common.{◌≡◌, ℕ, ◌+◌, ◌<◌, ◌⊎◌, inl, inr, Bool, true, false, not, ◌&&◌, ◌||◌, List, [], ◌∷◌, ◌++◌, length, map, drop, get_or, Option, Some, None, IfSome, IfNone, refl, sym, ◌∙◌, ap, subst, arith, chars-nil, chars, IsUtf8}
 use Rattle.std.specs.Prelude.{MatchOption}
 use Rattle.std.proofs.lemmas.List.{drop_more}
-use Rattle.std.proofs.Math.ListN.{drop_of_length-le}
 use Rattle.rl_syntax.specs.Texts.{IsTail, is_among}
 use Rattle.rl_syntax.proofs.TailLemmas.{tail_step}
 use Rattle.rl_lexer.specs.Skipping.{Skipped}
@@ -12,19 +11,15 @@ use Rattle.rl_lexer.specs.declared.lex_error.LexError.{LexError}
 use Rattle.rl_lexer.specs.declared.cursor.Lexeme.{Lexeme as Borrowed}
 use Rattle.rl_lexer.specs.Lexemes.{LexemeBefore, Lexeme, DelimiterLexeme, lexeme_text, IsLexeme, LexemeForm, form_of, delimiters}
 use Rattle.rl_lexer.specs.Cursors.{form_view, CursorState, TakesNext, IsFirstError}
-use Rattle.rl_lexer.specs.Cuts.{LexedToken, LexesUpTo, OpenGroup, open_groups, after_form, is_opener, is_closer, closes, error_place, BeginsLexeme, BeginsNoLexeme, ErrorAt, HasFirstError}
+use Rattle.rl_lexer.specs.Cuts.{LexedToken, LexesUpTo, OpenGroup, open_groups, after_form, is_opener, is_closer, closes, error_place, EndsInGroup, OpensTooDeep, BeginsLexeme, BeginsNoLexeme, ErrorAt, HasFirstError}
 use Rattle.rl_lexer.proofs.CutLemmas.{open_more}
 use Rattle.rl_lexer.proofs.LexemeFronts.{among}
 use Rattle.rl_lexer.proofs.ErrorKinds.{rest_place}
 use Rattle.rl_cursors.specs.declared.groups.Opened.{Opened}
-use Rattle.rl_cursors.specs.Groups.{open_view, ClosesOther, OpensPast, StopsForm, EndsOpen}
+use Rattle.rl_cursors.specs.Groups.{open_view, ClosesOther, StopsForm}
 use Rattle.rl_cursors.specs.WholeCuts.{IsCutWhole}
 
 -- ---- the array of open groups
-
--- The open groups are stored in an array from an index on. If the index is the array's length or greater, no group is open.
-pub none_from : (xs : List Opened) (start : ℕ) → length xs ≤ start → map open_view (drop start xs) ≡ []
-none_from xs start h = ap (map open_view) (drop_of_length-le xs {i = start} h)
 
 -- The open groups are stored in an array from an index on, innermost first. The first group is at the index, and the others
 -- follow.
@@ -99,7 +94,7 @@ all_passed text rest groups has ends none = record {
 
 -- If a group is open at the end of the text, the error `UnclosedGroup` is the text's first error.
 pub ends_open : (text rest : List ℕ) (groups : List OpenGroup) (e : LexError) → IsUtf8 text → HasPassed text rest groups
-    → rest ≡ [] → EndsOpen groups e → HasFirstError (chars text) e.kind e.at
+    → rest ≡ [] → EndsInGroup groups e → HasFirstError (chars text) e.kind e.at
 ends_open text rest groups e is has nothing ends =
     let P : LexKind → Type 0 = λ k. HasFirstError (chars text) k e.at in
     subst P (sym ends.kind)
@@ -119,7 +114,7 @@ closes_wrong groups (DelimiterLexeme c) after is h =
     ap (λ b. b && not (closes groups c)) (closer_is c is h.0) ∙ ap not h.1
 closes_wrong groups l after is h = absurd h
 
-opens_deep : (groups : List OpenGroup) (l : Lexeme) (after : List ℕ) → OpensPast groups (form_of l)
+opens_deep : (groups : List OpenGroup) (l : Lexeme) (after : List ℕ) → OpensTooDeep groups (form_of l)
     → ErrorAt TooDeep groups (lexeme_text l ++ after)
 opens_deep groups (DelimiterLexeme c) after h = h
 opens_deep groups l after h = absurd h
@@ -163,12 +158,12 @@ told_end old new stays none (inr (after, before)) = absurd (none after
 
 -- If the loop over a text's tokens returns an error for an open group at the text's end, this is the text's first error.
 pub error_at_end : (text rest : List ℕ) (groups : List OpenGroup) (r : Option LexError) → IsUtf8 text
-    → HasPassed text rest groups → rest ≡ [] → MatchOption r (groups ≡ []) (EndsOpen groups)
+    → HasPassed text rest groups → rest ≡ [] → MatchOption r (groups ≡ []) (EndsInGroup groups)
     → IfSome r (λ e. HasFirstError (chars text) e.kind e.at)
 error_at_end text rest groups None is has ends h = tt
 error_at_end text rest groups (Some e) is has ends h = ends_open text rest groups e is has ends h
 
 pub whole_at_end : (text rest : List ℕ) (groups : List OpenGroup) (r : Option LexError) → HasPassed text rest groups
-    → rest ≡ [] → MatchOption r (groups ≡ []) (EndsOpen groups) → IfNone r (IsCutWhole (chars text))
+    → rest ≡ [] → MatchOption r (groups ≡ []) (EndsInGroup groups) → IfNone r (IsCutWhole (chars text))
 whole_at_end text rest groups None has ends h = all_passed text rest groups has ends h
 whole_at_end text rest groups (Some e) has ends h = tt

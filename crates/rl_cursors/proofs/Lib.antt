@@ -1,6 +1,9 @@
+pub mod NextLaws
+pub mod OneNextLiteral
 pub mod NextLiteralLemmas
 pub mod NextValueLemmas
 pub mod SourceLiteralLemmas
+pub mod Linters
 pub mod SegmentValues
 pub mod SegmentLemmas
 pub mod SegmentStarts

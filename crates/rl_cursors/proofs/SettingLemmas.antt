@@ -1,22 +1,14 @@
 -- Lemmas about errors for missing parts of settings: the token or the text's end in the place of the part, and the end of a
 -- token tree.
-use Rattle.rl_syntax.proofs.Common.{◌≡◌, ◌≢◌, ℕ, ◌+◌, ◌-◌, ◌≤◌, inl, inr, Bool, true, false, List, [], ◌∷◌, length, refl, ◌∙◌, ◌==◌, ap, subst, arith, chars, if◌then◌else◌}
+use Rattle.rl_syntax.proofs.Common.{◌≡◌, ◌≢◌, ℕ, ◌+◌, ◌-◌, ◌≤◌, Bool, true, false, List, [], ◌∷◌, length, ◌∙◌, ◌==◌, ap, subst, arith, if◌then◌else◌}
 use Rattle.rl_lexer.specs.declared.cursor.Lexeme.{Lexeme}
 use Rattle.rl_lexer.specs.declared.lex_error.LexKind.{LexKind}
 use Rattle.rl_lexer.specs.declared.lex_error.LexKind.TheVariants.{Memory}
-use Rattle.rl_lexer.specs.declared.lexeme.Form.{Form as FoundForm}
 use Rattle.rl_lexer.specs.declared.lexeme.Form.TheVariants as found
 use Rattle.rl_lexer.specs.Cursors.{CursorState, TakesNext, form_view}
 use Rattle.rl_lexer.specs.Lexemes.{LexemeForm, LiteralForm, IdentifierForm, DelimiterForm, MarkForm}
-use Rattle.rl_lexer.specs.Cuts.{BeginsNoLexeme, OpenGroup, ErrorAt, is_opener}
+use Rattle.rl_lexer.specs.Cuts.{OpenGroup, ErrorAt, is_opener}
 use Rattle.rl_cursors.specs.SettingSteps.{depth_after, EndsInside}
-
--- If the code finds that a token isn't an identifier, the token isn't an identifier by the definitions either.
-pub other_name : (f : FoundForm) → (f ≡ found.Identifier → ⊥) → form_view f ≡ IdentifierForm → ⊥
-other_name found.Literal h e = absurd (cc)
-other_name found.Identifier h e = h refl
-other_name (found.Delimiter c) h e = absurd (cc)
-other_name (found.Mark c) h e = absurd (cc)
 
 -- An error that a text causes isn't an allocation failure.
 pub no_memory : (kind : LexKind) (r : List ℕ) → ((groups : List OpenGroup) → ErrorAt kind groups r) → kind ≡ Memory → ⊥
@@ -54,13 +46,3 @@ pub leads_more : (depth end first_depth first_end : ℕ) (t new first : CursorSt
     → Leads (depth_after (form_view l.form) depth) l.hi new first_depth first_end first
 leads_more depth end first_depth first_end t new first l some takes leads hi (inside, are) =
     leads hi (l ∷ inside, (some, (new, takes, are)))
-
--- If no group is open after a token, the token tree ends at the end of this token.
-pub ends_closed : (depth end first_depth first_end : ℕ) (t first : CursorState) → depth ≡ 0
-    → Leads depth end t first_depth first_end first → EndsInside first_depth first_end first end
-ends_closed depth end first_depth first_end t first none leads = leads end ([], (inl none, refl))
-
--- If no token begins at the cursor's position, the token tree ends where the last token ends.
-pub ends_stuck : (depth end first_depth first_end : ℕ) (t first : CursorState) → BeginsNoLexeme (chars t.rest)
-    → Leads depth end t first_depth first_end first → EndsInside first_depth first_end first end
-ends_stuck depth end first_depth first_end t first none leads = leads end ([], (inr none, refl))

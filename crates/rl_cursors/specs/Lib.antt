@@ -3,8 +3,10 @@ pub mod SegmentLaws
 pub mod ValueOffsets
 pub mod Ranges
 pub mod NextLiterals
+pub mod NextTokens
 pub mod Lists
 pub mod SourceLiterals
+pub mod Linters
 pub mod Mirrors
 pub mod Laws
 pub mod Leading

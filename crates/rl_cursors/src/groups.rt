@@ -3,7 +3,7 @@
 ghost use Rattle.std.specs.Prelude.{◌≡◌, ◌≤◌, ◌<◌, ◌∷◌, [], length, Some, IfSome, IfNone, MatchOption, MatchBool};
 ghost use Rattle.std.specs.Str.{chars};
 ghost use Rattle.rl_lexer.specs.Cursors.{form_view};
-ghost use Rattle.rl_lexer.specs.Cuts.{is_pair, closes, popped, after_form, HasFirstError};
+ghost use Rattle.rl_lexer.specs.Cuts.{is_pair, closes, popped, after_form, EndsInGroup, HasFirstError};
 ghost use Rattle.rl_cursors.specs.WholeCuts.{IsCutWhole};
 
 use rl_lexer::{Form, LexError, LexKind, Tokens, is_opener};
@@ -41,7 +41,7 @@ fn is_pair(opener: char, closer: char) -> bool
 }
 
 impl Groups {
-    ghost use Rattle.rl_cursors.specs.Groups.{open_in, StopsForm, EndsOpen, IsInnermost};
+    ghost use Rattle.rl_cursors.specs.Groups.{open_in, StopsForm, IsInnermost};
 
     /// Creates the state without open groups.
     fn new() -> Groups
@@ -118,7 +118,7 @@ impl Groups {
 
     /// Returns the error for a text that ends while a group is open, or `None` if no group is open.
     fn error_at_end(&self) -> Option<LexError>
-        ensures { MatchOption result (open_in self.now ≡ []) (EndsOpen (open_in self.now)) }
+        ensures { MatchOption result (open_in self.now ≡ []) (EndsInGroup (open_in self.now)) }
     {
         match self.innermost() {
             Some(group) => Some(LexError::new(LexKind::UnclosedGroup, group.at)),

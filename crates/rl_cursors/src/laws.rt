@@ -1,6 +1,7 @@
 //! Laws of the segments of literals, and of the literals of lists. Each function does nothing, and its contract is the law.
 
 ghost use Rattle.rl_cursors.specs.Laws.{OffsetsInvertThePlaces, SegmentsMakeTheLiteral, ASegmentHasOneValue, ThePlacesOfBytesAreInOrder, TheOffsetsOfBytesAreInTheBody, ATakenLiteralIsRead};
+ghost use Rattle.rl_cursors.specs.NextTokens.{ACursorHasOneNextLiteral, ACursorHasOneNextPosition, ACursorHasOneNextToken, ACursorStaysLexed, ASourceCursorHasOneNextPosition, ASourceCursorHasOneNextToken, ATakenLiteralIsANextLiteral};
 
 /// The segments that [`Segments`](crate::Segments) returns for a literal fill the text between its quotes. Each segment
 /// begins where the one before it ends. The values of all segments, joined, are the literal's value.
@@ -38,4 +39,23 @@ pub fn value_offsets_invert_text_offsets()
 /// The parse result of a literal that [`next_literal`](crate::next_literal) returns is that of the literal's text.
 pub fn a_next_literal_is_parsed_as_its_text()
     ensures { ATakenLiteralIsRead }
+{}
+
+/// A cursor has one next token, or none, and one position after the token. So `TakesNext` for [`Tokens`](rl_lexer::Tokens),
+/// and `TakesSource` for [`Sources`](rl_lexer::Sources), fix the form, the text and the byte range of the token, and the next
+/// cursor. For the next cursor, the text before the cursor has to be lexed into tokens: this is so for a new cursor, and
+/// after each token.
+pub fn a_cursor_has_one_next_token()
+    ensures token { ACursorHasOneNextToken }
+    ensures position { ACursorHasOneNextPosition }
+    ensures stays { ACursorStaysLexed }
+    ensures source_token { ASourceCursorHasOneNextToken }
+    ensures source_position { ASourceCursorHasOneNextPosition }
+{}
+
+/// A cursor has at most one next literal: one token, one minus before it, and one position after it. A cursor that has a
+/// next literal isn't one that [`next_literal`](crate::next_literal) returns `None` for.
+pub fn a_cursor_has_one_next_literal()
+    ensures one { ACursorHasOneNextLiteral }
+    ensures never_both { ATakenLiteralIsANextLiteral }
 {}

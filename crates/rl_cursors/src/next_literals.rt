@@ -2,6 +2,8 @@
 
 ghost use Rattle.std.specs.Prelude.{◌≡◌, ◌≢◌, ◌<◌, [], None, length, IfSome, IfNone};
 ghost use Rattle.rl_lexer.specs.Cursors.{form_view};
+ghost use Rattle.rl_cursors.specs.declared.next_literals.NextLiteral.{NextLiteral};
+ghost use Rattle.rl_cursors.specs.declared.next_literals.ListStep.TheVariants.{Literal};
 ghost use Rattle.rl_cursors.specs.NextLiterals.{TakesNextLiteral, HasNoNextLiteral, IsReadLiteral, token_rejection, RejectsNext, StepsList};
 
 use rl_lenient::found::parse_bool_literal;
@@ -152,7 +154,9 @@ fn rejection_at(tokens: &Tokens<'_>) -> Rejection
 /// of the list follows, consumes nothing, and returns the list's error or end. Nothing is allocated.
 #[inline(always)]
 pub fn next_list_literal<'t>(tokens: &mut Tokens<'t>) -> ListStep<'t>
-    ensures { StepsList tokens.old result tokens.new }
+    ensures steps { StepsList tokens.old result tokens.new }
+    ensures shorter { (literal : NextLiteral) → result ≡ Literal literal
+        → length tokens.new.rest < length tokens.old.rest }
 {
     if tokens.rest().is_empty() {
         return ListStep::End;

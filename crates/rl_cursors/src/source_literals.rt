@@ -1,5 +1,9 @@
 //! A function that returns the next literal of a whole Rust source.
 
+ghost use Rattle.std.specs.Prelude.{◌≡◌, ◌<◌, Option, length};
+ghost use Rattle.rl_lexer.specs.declared.sources.SourceToken.{SourceToken};
+ghost use Rattle.rl_lenient.specs.declared.found.Found.{Found};
+ghost use Rattle.rl_cursors.specs.declared.source_literals.SourceStep.TheVariants.{Literal};
 ghost use Rattle.rl_cursors.specs.SourceLiterals.{StepsSource};
 
 use rl_lenient::{Found, parse_literal};
@@ -22,7 +26,9 @@ pub enum SourceStep<'t> {
 /// the error. Nothing is allocated.
 #[inline(always)]
 pub fn next_source_literal<'t>(tokens: &mut Sources<'t>) -> SourceStep<'t>
-    ensures { StepsSource tokens.old result tokens.new }
+    ensures steps { StepsSource tokens.old result tokens.new }
+    ensures shorter { (token : SourceToken) (found : Option Found) → result ≡ Literal token found
+        → length tokens.new.rest < length tokens.old.rest }
 {
     match tokens.next_literal() {
         Some(token) => SourceStep::Literal(token, parse_literal(token.text)),

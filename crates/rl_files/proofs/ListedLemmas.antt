@@ -1,7 +1,6 @@
 -- Lemmas about files that list paths, and about the first one that can't be read.
-use Rattle.std.proofs.Common.{◌≡◌, ℕ, ◌+◌, ◌<◌, ◌==◌, Bool, true, false, All, List, [], ◌∷◌, ◌++◌, length, get_or, take, drop, refl, sym, ap, ◌∙◌, take-append-drop, suc, rules}
+use Rattle.std.proofs.Common.{◌≡◌, ℕ, ◌+◌, ◌<◌, ◌==◌, Bool, true, false, All, List, [], ◌∷◌, ◌++◌, length, get_or, take, drop, sym, ap, ◌∙◌, take-append-drop}
 use Rattle.std.specs.List.{flat_map}
-use Rattle.std.proofs.lemmas.Bool.{false≢true}
 use Rattle.std.proofs.lemmas.List.{drop_more}
 use Rattle.std.proofs.lemmas.List.Splits.{slice_split_none, slice_split_at}
 use Rattle.rl_files.specs.Listed.{AreWithAllListed, IsFirstUnread, listed_name, names_between}
@@ -26,14 +25,6 @@ name_ends list between at within hit none =
 pub one_name : (list : List ℕ) (between : ℕ) → All (λ x. ends between x ≡ false) list
     → names_between between list ≡ listed_name list ++ names_between between []
 one_name list between none = ap (flat_map listed_name) (slice_split_none (ends between) list none)
-
--- An empty list has no paths.
-pub no_names : (list : List ℕ) (between : ℕ) → (length list == 0) ≡ true → names_between between list ≡ []
-no_names [] between none = refl
-no_names (b ∷ bs) between none = absurd (false≢true (sym (not_zero (length bs)) ∙ none))
-  where
-    not_zero : (n : ℕ) → (suc n == 0) ≡ false
-    not_zero n = search rules
 
 -- The invariant of the loop over lists: `rest` are the lists that aren't read yet, and `some` the paths so far. With the paths of
 -- the other lists, they are all paths.

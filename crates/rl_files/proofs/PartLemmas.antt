@@ -1,7 +1,7 @@
 -- Lemmas about the names in a path, and the parts of a pattern. Slashes separate them.
-use Rattle.std.proofs.Common.{◌≡◌, ◌≢◌, ℕ, ◌+◌, ◌-◌, ◌<◌, ◌≤◌, ◌==◌, ◌&&◌, not, Bool, true, false, List, [], ◌∷◌, ◌++◌, take, drop, length, slice_index, refl, sym, ap, ◌∙◌, subst, arith, cond, codes, take_all, length-drop, rules, eq-eqb, ne_eqb, All}
+use Rattle.std.proofs.Common.{◌≡◌, ◌≢◌, ℕ, ◌+◌, ◌-◌, ◌<◌, ◌≤◌, ◌==◌, ◌&&◌, not, Bool, true, false, List, [], ◌∷◌, ◌++◌, take, drop, length, slice_index, refl, sym, ap, ◌∙◌, subst, arith, cond, take_all, length-drop, rules, eq-eqb, ne_eqb, All}
 use Rattle.std.proofs.lemmas.Grind.{common_steps}
-use Rattle.std.proofs.lemmas.Bool.{cond-false, cond-true, false≢true}
+use Rattle.std.proofs.lemmas.Bool.{cond-false, false≢true}
 use Rattle.std.proofs.lemmas.List.Elements.{All-nil, All-cons, All-append}
 use Rattle.std.proofs.lemmas.List.Splits.{slice_split_at, slice_split_none}
 use Rattle.std.specs.List.{onto_first}
@@ -62,23 +62,6 @@ pub pattern_more : (pattern part after : List ℕ) → path_parts pattern ≡ pa
     → pattern_parts pattern ≡ part ∷ pattern_parts after
 pattern_more pattern part after cut = ap with_inside cut
     ∙ cond-false _ _ _ (and_false (is_double_star part) (length (path_parts after) == 0) (some_part after))
-
--- If the last part of a pattern is `**`, a part `*` follows it. The lemma `pattern_last` is about any other last part.
-pub pattern_inside : (pattern part : List ℕ) → path_parts pattern ≡ part ∷ [] → is_double_star part ≡ true
-    → pattern_parts pattern ≡ part ∷ pattern_parts (codes "*")
-pattern_inside pattern part cut stars = ap with_inside cut ∙ cond-true _ _ _ (both (is_double_star part) stars)
-  where
-    both : (a : Bool) → a ≡ true → (a && true) ≡ true
-    both true e = refl
-    both false e = e
-
-pub pattern_last : (pattern part : List ℕ) → path_parts pattern ≡ part ∷ [] → is_double_star part ≡ false
-    → pattern_parts pattern ≡ part ∷ []
-pattern_last pattern part cut other = ap with_inside cut ∙ cond-false _ _ _ (none (is_double_star part) other)
-  where
-    none : (a : Bool) → a ≡ false → (a && true) ≡ false
-    none true e = e
-    none false e = refl
 
 -- If all parts of a pattern have matched, the pattern matches the path exactly if no name of the path is left.
 pub path_ends : (pattern path : List (List ℕ)) (left : Option (Bor (List ℕ))) (none : Bool) → is_some left ≡ not none

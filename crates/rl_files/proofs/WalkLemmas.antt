@@ -1,5 +1,5 @@
 -- Lemmas about the order of names, and about the steps of a walk.
-use Rattle.std.proofs.Common.{◌≡◌, inl, inr, ℕ, ◌+◌, ◌<◌, List, [], ◌∷◌, ◌++◌, length, refl, sym, ap, ◌∙◌, subst, arith}
+use Rattle.std.proofs.Common.{◌≡◌, inl, inr, ℕ, ◌+◌, ◌<◌, List, [], ◌∷◌, ◌++◌, length, sym, ap, ◌∙◌, subst, arith}
 use Rattle.std.specs.Prelude.{Vec, Option, Some, None, Ok, Err, IfSome, ◌⊎◌}
 use Rattle.std.specs.List.Sorted.{IsSorted, IsPermutation}
 use Rattle.std.specs.Cmp.Lexicographic.{slice_cmp}
@@ -12,7 +12,7 @@ use Rattle.rl_files.specs.declared.walk.Selection.{Selection}
 use Rattle.rl_files.specs.declared.walk.WalkError.TheVariants.{TooManyDirectories}
 use Rattle.rl_files.specs.declared.tree.PathError.{PathError}
 use Rattle.rl_files.specs.declared.tree.PathError.TheVariants.{NotADirectory, OutOfMemory}
-use Rattle.rl_files.specs.Walks.{Waypoint, AtDirectory, AtFile, AtBadPath, Visited, FileAt, ErrorAt, Visits, VisitsNothing, VisitsFile, VisitsBadPath, EntersDirectory, MissesDirectory, IsGivenFile, WalksOn, VisitsFirst, VisitsNone, EntersInOrder, EntersInTurn, EntersNone, EntersNext, EndsEarly, given_length, waypoints_in}
+use Rattle.rl_files.specs.Walks.{Waypoint, AtDirectory, AtFile, AtBadPath, FileAt, ErrorAt, Visits, VisitsNothing, VisitsFile, VisitsBadPath, EntersDirectory, MissesDirectory, IsGivenFile, WalksOn, VisitsFirst, VisitsNone, EntersInOrder, EntersInTurn, EntersNone, EntersNext, EndsEarly, given_length, waypoints_in}
 
 -- If names are in order, the lists of their bytes are in order.
 abbrev pub name_cmp : {A : Type 0} → Vec ℕ A → Vec ℕ A → Ordering
@@ -93,16 +93,6 @@ go_enter selection None old mid rest new given path names on is found enters = t
 go_enter selection (Some w) old mid rest new given path names on is found (sorted, order, new_is) = λ visited m. on visited
     (subst (λ (z : List Waypoint). Visits selection w z visited) (sym is) (EntersDirectory names sorted found order
     (subst (λ (z : List Waypoint). Visits selection w z visited) new_is m)))
-
--- For any entries to visit, some list of results of the walk exists. For example, an allocation failure may be the
--- result of each directory.
-pub some_visits : (selection : Selection) (w : World) (waypoints : List Waypoint) → (visits : List Visited) × Visits selection w waypoints visits
-some_visits selection w [] = ([], VisitsNothing)
-some_visits selection w (AtFile path ∷ rest) = let more = some_visits selection w rest in (FileAt path ∷ more.0, VisitsFile more.1)
-some_visits selection w (AtBadPath path why ∷ rest) = let more = some_visits selection w rest in
-    (ErrorAt path why ∷ more.0, VisitsBadPath more.1)
-some_visits selection w (AtDirectory given path ∷ rest) = let more = some_visits selection w rest in
-    (ErrorAt path OutOfMemory ∷ more.0, MissesDirectory OutOfMemory (inl refl) more.1)
 
 -- The walk has entered `turns` directories one right after another, and has returned nothing meanwhile.
 abbrev pub HasEntered : Selection → Option World → List Waypoint → ℕ → List Waypoint → Type 0

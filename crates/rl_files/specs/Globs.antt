@@ -62,6 +62,7 @@ pattern_left (Some pattern) = pattern_parts pattern.now
 abbrev pub path_matches : List (List ℕ) → List (List ℕ) → Bool
 path_matches patterns names = all_match is_double_star name_matches patterns names
 
+-- Whether a path ends with a slash, as the path of a directory does.
 abbrev pub ends_in_slash : List ℕ → Bool
 ends_in_slash path = ends_with ◌==◌ path (codes "/")
 

@@ -1,5 +1,5 @@
 -- Files and directories in memory.
-use Rattle.std.specs.Prelude.{ℕ, cond, List, [], ◌∷◌, map, Ok, Err}
+use Rattle.std.specs.Prelude.{ℕ, cond, List, [], ◌∷◌, Ok, Err}
 use Rattle.std.specs.Str.{bytes_eq}
 use Rattle.std.specs.declared.result.Result.{Result}
 use denote.Ref.{Bor}
@@ -8,17 +8,15 @@ use Rattle.rl_files.specs.declared.tree.PathError.TheVariants.{NotFound, NotADir
 use Rattle.rl_files.specs.declared.memory.MemoryFile.{MemoryFile}
 use Rattle.rl_files.specs.declared.memory.MemoryDirectory.{MemoryDirectory}
 use Rattle.rl_files.specs.declared.memory.MemoryTree.{MemoryTree}
+use Rattle.rl_files.specs.Globs.{borrowed_texts}
 use Rattle.rl_files.specs.Trees.{World}
 
 abbrev pub held : Result (Bor (List ℕ)) PathError → Result (List ℕ) PathError
 held (Ok bytes) = Ok bytes.now
 held (Err why) = Err why
 
-abbrev pub words : List (Bor (List ℕ)) → List (List ℕ)
-words names = map (λ name. name.now) names
-
 abbrev pub listed : Result (Bor (List (Bor (List ℕ)))) PathError → Result (List (List ℕ)) PathError
-listed (Ok names) = Ok (words names.now)
+listed (Ok names) = Ok (borrowed_texts names.now)
 listed (Err why) = Err why
 
 -- The bytes of the first file in a list that has the path `path`.

@@ -1,21 +1,13 @@
 -- The contents of a tree of files. Paths, names and contents are lists of bytes.
-use Rattle.std.specs.Prelude.{◌≡◌, ◌⊎◌, ℕ, List, map, String, string_bytes, Vec, Option, IfSome}
+use Rattle.std.specs.Prelude.{ℕ, List, map, String, string_bytes, Vec}
 use Rattle.std.specs.declared.result.Result.{Result}
-use Rattle.std.specs.declared.result.Result.TheVariants.{Ok, Err}
 use Rattle.rl_files.specs.declared.tree.PathError.{PathError}
-use Rattle.rl_files.specs.declared.tree.PathError.TheVariants.{OutOfMemory}
 
 -- The contents of a tree of files. `bytes` returns the bytes of the file at a path, or the reason why it can't be read. `names`
 -- returns the names in a directory, in any order. If the name of a directory is UTF-8, a slash follows it.
 pub record World : Type 0 where
   pub bytes : List ℕ → Result (List ℕ) PathError
   pub names : List ℕ → Result (List (List ℕ)) PathError
-
--- The result of reading a tree of files is the one that the tree's contents determine, if the contents are known. An
--- error may also be an allocation failure.
-abbrev pub Finds : {X : Type 0} → Option World → (World → Result X PathError) → Result X PathError → Type 0
-Finds holds look (Ok found) = IfSome holds (λ w. look w ≡ Ok found)
-Finds holds look (Err error) = (error ≡ OutOfMemory) ⊎ IfSome holds (λ w. look w ≡ Err error)
 
 -- The bytes of each string in a list.
 abbrev pub string_texts : {A : Type 0} → List (String A) → List (List ℕ)

@@ -18,7 +18,7 @@ use Rattle.rl_files.specs.declared.walk.WalkEntry.TheVariants.{Directory, File, 
 use Rattle.rl_files.specs.declared.walk.Selection.{Selection}
 use Rattle.rl_files.specs.declared.walk.Visit.{Visit}
 use Rattle.rl_files.specs.declared.walk.Visit.TheVariants as visit
-use Rattle.rl_files.specs.Globs.{is_excluded, borrowed_texts}
+use Rattle.rl_files.specs.Globs.{ends_in_slash, is_excluded, borrowed_texts}
 use Rattle.rl_files.specs.PathTexts.{bytes_shown, is_marked, unmarked}
 use Rattle.rl_files.specs.Trees.{World}
 
@@ -50,10 +50,6 @@ path_error_message WriteFailed = codes "write failed"
 abbrev pub walk_error_message : WalkError → List ℕ
 walk_error_message walk.OutOfMemory = codes "out of memory"
 walk_error_message walk.TooManyDirectories = codes "too many directories"
-
--- Whether a name or a path is that of a directory: it ends with a slash.
-abbrev pub is_directory : List ℕ → Bool
-is_directory name = ends_with ◌==◌ name (codes "/")
 
 -- Whether a name ends with a dot and the extension `extension`.
 abbrev pub has_extension : List ℕ → List ℕ → Bool
@@ -93,11 +89,11 @@ may_be_directory name = not (is_utf8 name) && not (has_letter_extension name)
 abbrev pub is_wanted : Selection → Bool → List ℕ → Bool
 is_wanted selection in_package name =
     (selection.all || not (is_left_out in_package name))
-    && (is_directory name || (has_one_of (borrowed_texts selection.extensions.now) name || may_be_directory name))
+    && (ends_in_slash name || (has_one_of (borrowed_texts selection.extensions.now) name || may_be_directory name))
 
 -- The path of a name in a directory.
 abbrev pub path_in : List ℕ → List ℕ → List ℕ
-path_in directory name = cond (is_directory directory) directory (directory ++ codes "/") ++ name
+path_in directory name = cond (ends_in_slash directory) directory (directory ++ codes "/") ++ name
 
 -- An entry that a walk still has to visit. `AtDirectory` is the path of a directory below one that the user passed,
 -- with the length of the passed directory in the path. Without that length, the user passed the path itself, which may
@@ -133,13 +129,13 @@ given_waypoints paths = map given_waypoint paths
 -- The length, with a slash, of the directory that the user passed. If the first argument is `None`, that directory is
 -- `path`. Otherwise `path` is below that directory, and the first argument is the length.
 abbrev pub given_length : Option ℕ → List ℕ → ℕ
-given_length None path = cond (is_directory path) (length path) (length path + 1)
+given_length None path = cond (ends_in_slash path) (length path) (length path + 1)
 given_length (Some from) path = from
 
 -- The entry to visit for a path below the directory that the user passed. `from` is the length of this directory.
 abbrev pub waypoint_at : ℕ → List ℕ → Waypoint
 waypoint_at from path = cond (is_utf8 path)
-    (cond (is_directory path) (AtDirectory (Some from) path) (AtFile path))
+    (cond (ends_in_slash path) (AtDirectory (Some from) path) (AtFile path))
     (AtBadPath (bytes_shown path) PathNotUtf8)
 
 -- Whether an excluding pattern matches the path of a name in a directory. The first `from` bytes of the path aren't

@@ -181,8 +181,8 @@ fn is_path_match(first: Stop<Option<&[u8]>, Option<&[u8]>>) -> bool
     matches!(stop, Stop::Decided(true))
 }
 
-/// Whether a path ends with a slash.
-fn ends_in_slash(path: &[u8]) -> bool
+/// Whether a path ends with a slash, as the path of a directory does.
+pub fn ends_in_slash(path: &[u8]) -> bool
     ensures { result ≡ slash_ends path.now }
 {
     path.ends_with(b"/".as_slice())

@@ -18,14 +18,14 @@ use std::{fs, io};
 /// The maximum length of a file or of standard input: 1 GiB.
 pub const LONGEST: u64 = 1 << 30;
 
-/// The number of bytes that one call of a reader requests.
-const PIECE: usize = 8192;
+/// The number of bytes that one call of a reader requests. The buffer is filled with zeros for each file.
+pub(crate) const PIECE: usize = 4096;
 
 /// The maximum number of calls of a reader.
-const TURNS: u32 = u32::MAX;
+pub(crate) const TURNS: u32 = u32::MAX;
 
 /// The number of bytes of a text that are tested for UTF-8 first.
-const FIRST_TEST: usize = 64 * 1024;
+const FIRST_TEST: usize = 256 * 1024;
 
 /// The files of the operating system, and standard input at the path `-`. Nothing is proved about their contents.
 #[derive(Clone, Copy)]
@@ -84,13 +84,13 @@ fn next_test(due: usize, len: usize) -> usize {
     if len < due {
         return due;
     }
-    len.saturating_add(len)
+    len.saturating_mul(64)
 }
 
-/// Returns all bytes of a reader.
+/// Returns all bytes of a reader. The list has room for `room` bytes from the start.
 ///
-/// If they must be a text, they are tested for UTF-8 each time that their number has doubled. So little more is read of a binary file
-/// than the text at its start.
+/// If they must be a text, they are tested for UTF-8 each time that their number is 64 times that of the last test. So a binary file is
+/// not read whole, and the tests take little time.
 ///
 /// # Errors
 ///
@@ -100,12 +100,15 @@ pub(crate) fn read_all<A: Allocator, R: Read + Drop>(
     alloc: A,
     mut reader: R,
     is_text: bool,
+    room: usize,
 ) -> Result<Vec<u8, A>, PathError>
     ensures bytes { IfOk result (λ bytes. IfSome (R.remaining reader) (λ all. bytes.items ≡ all)) }
     ensures limit { IfOk result (λ bytes. length bytes.items ≤ LONGEST) }
     ensures error { IfErr result (λ error. IfSome (R.remaining reader) (IsTrueOf is_text error)) }
 {
-    let mut bytes = Vec::new(alloc);
+    let Ok(mut bytes) = Vec::with_capacity(alloc, room) else {
+        return Err(PathError::OutOfMemory);
+    };
     let mut piece = [0_u8; PIECE];
     let mut due = FIRST_TEST;
     for _ in 0..TURNS {
@@ -138,10 +141,12 @@ pub(crate) fn read_file<A: Allocator, R: Files>(
         Ok(file) => file,
         Err(e) => return Err(error_of(e.kind())),
     };
-    match file.metadata() {
-        Ok(about) if about.len() > LONGEST => Err(PathError::TooLong),
-        _ => read_all(alloc, file, is_text),
-    }
+    let room = match file.metadata() {
+        Ok(about) if about.len() > LONGEST => return Err(PathError::TooLong),
+        Ok(about) => (about.len() as usize).min(FIRST_TEST),
+        Err(_) => 0,
+    };
+    read_all(alloc, file, is_text, room)
 }
 
 /// Returns all bytes of standard input, if the path is `-`, or of the file at the path.
@@ -152,7 +157,7 @@ fn read_path<A: Allocator, R: Files + Input>(
     is_text: bool,
 ) -> Result<Vec<u8, A>, PathError> {
     if path == "-" {
-        return read_all(alloc, rt.reader(), is_text);
+        return read_all(alloc, rt.reader(), is_text, 0);
     }
     read_file(rt, alloc, path, is_text)
 }

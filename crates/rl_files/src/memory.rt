@@ -3,7 +3,8 @@
 ghost use Rattle.std.specs.Prelude.{◌≡◌, IfOk};
 ghost use Rattle.rl_files.specs.Replacements.{replacing, replacement_of, why_unwritable};
 ghost use Rattle.rl_files.specs.Trees.{names_bytes};
-ghost use Rattle.rl_files.specs.MemoryTrees.{held, listed, words, file_at, directory_at};
+ghost use Rattle.rl_files.specs.Globs.{borrowed_texts};
+ghost use Rattle.rl_files.specs.MemoryTrees.{held, listed, file_at, directory_at};
 
 use crate::replace::Replace;
 use crate::tree::{PathError, Tree};
@@ -81,7 +82,7 @@ fn copy_names<A: Allocator + Copy>(
     alloc: A,
     names: &[&[u8]],
 ) -> Result<Vec<Vec<u8, A>, A>, AllocError>
-    ensures { IfOk result (λ copy. names_bytes copy.items ≡ words names.now) }
+    ensures { IfOk result (λ copy. names_bytes copy.items ≡ borrowed_texts names.now) }
 {
     let mut copy = Vec::new(alloc);
     let mut rest = names;

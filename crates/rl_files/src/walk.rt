@@ -6,9 +6,9 @@ ghost use Rattle.std.specs.List.{list_all};
 ghost use Rattle.std.specs.Str.{is_utf8 as utf8};
 ghost use Rattle.rl_files.specs.Globs.{is_excluded as excluded, borrowed_texts};
 ghost use Rattle.rl_files.specs.Trees.{names_bytes, string_texts};
-ghost use Rattle.rl_files.specs.Walks.{has_extension as has_ending, has_letter_extension as ends_in_letters, are_of_package as of_package, is_left_out as left_out, is_wanted as wanted, has_one_of as has_ending_of, is_directory as directory, may_be_directory as maybe_directory, given_length as base, path_in as path_of, waypoint, waypoint_at, visited, waypoints_of, waypoints_in, given_waypoint, given_waypoints, EndsEarly, EntersInOrder, WalksOn, VisitsFirst, VisitsNone};
+ghost use Rattle.rl_files.specs.Walks.{has_extension as has_ending, has_letter_extension as ends_in_letters, are_of_package as of_package, is_left_out as left_out, is_wanted as wanted, has_one_of as has_ending_of, may_be_directory as maybe_directory, given_length as base, path_in as path_of, waypoint, waypoint_at, visited, waypoints_of, waypoints_in, given_waypoint, given_waypoints, EndsEarly, EntersInOrder, WalksOn, VisitsFirst, VisitsNone};
 
-use crate::glob::is_excluded;
+use crate::glob::{ends_in_slash, is_excluded};
 use crate::path_texts::{escaped, escaped_non_utf8_path};
 use crate::tree::{PathError, Tree};
 use std::alloc::{AllocError, Allocator, Global};
@@ -88,13 +88,6 @@ impl<A: Allocator> Model for Walk<A> {
     ghost Value = { List Waypoint };
 
     ghost view = { λ w. reverse (map waypoint w.pending.items) };
-}
-
-/// Whether a name or a path is that of a directory: it ends with a slash.
-fn is_directory(name: &[u8]) -> bool
-    ensures { result ≡ directory name.now }
-{
-    name.ends_with(b"/".as_slice())
 }
 
 /// Whether a name ends with a dot and `extension`.
@@ -182,7 +175,7 @@ fn is_wanted(selection: Selection<'_>, in_package: bool, name: &[u8]) -> bool
     ensures { result ≡ wanted selection.entry in_package name.now }
 {
     (selection.all || !is_left_out(in_package, name))
-        && (is_directory(name) || has_one_of(selection.extensions, name) || may_be_directory(name))
+        && (ends_in_slash(name) || has_one_of(selection.extensions, name) || may_be_directory(name))
 }
 
 /// Returns the path of a name in a directory.
@@ -195,7 +188,7 @@ pub(crate) fn path_in<A: Allocator>(
 {
     let mut path = Vec::new(alloc);
     path.extend_from_slice(directory.as_bytes())?;
-    if !is_directory(directory.as_bytes()) {
+    if !ends_in_slash(directory.as_bytes()) {
         path.extend_from_slice(b"/".as_slice())?;
     }
     path.extend_from_slice(name)?;
@@ -216,7 +209,7 @@ fn argument_len(from: Option<usize>, path: &str) -> usize
 {
     match from {
         Some(from) => from,
-        None if is_directory(path.as_bytes()) => path.len(),
+        None if ends_in_slash(path.as_bytes()) => path.len(),
         None => path.len() + 1,
     }
 }
@@ -249,7 +242,7 @@ fn pending_of<A: Allocator>(alloc: A, from: usize, path: &[u8]) -> Result<WalkEn
             return Ok(WalkEntry::BadPath(escaped(alloc, path)?, PathError::PathNotUtf8));
         }
     };
-    if is_directory(path) {
+    if ends_in_slash(path) {
         return Ok(WalkEntry::Directory(Some(from), text));
     }
     Ok(WalkEntry::File(text))

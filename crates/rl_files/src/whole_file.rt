@@ -6,11 +6,11 @@ ghost use Rattle.std.specs.Fs.{permissions_mode};
 ghost use Rattle.rl_files.specs.Replacements.{path_beside as beside, is_group_right as group_right, may_have_list as list_possible, why_not_replaced};
 ghost use Rattle.rl_files.specs.SystemErrors.{write_error, create_error};
 
-use crate::host::{error_of, read_file};
+use crate::host::{PIECE, TURNS, error_of, read_file};
 use crate::tree::PathError;
 use std::alloc::{AllocError, Allocator};
-use std::fs::{Metadata, OpenFile, OpenOptions, Permissions};
-use std::io::{ErrorKind, Write};
+use std::fs::{File, Metadata, OpenFile, OpenOptions, Permissions};
+use std::io::{ErrorKind, Read, Write};
 use std::os::unix::fs::{MetadataExt, OpenOptionsExt, PermissionsExt, chown};
 use std::rt::Files;
 use std::{fs, io};
@@ -179,26 +179,34 @@ fn check_writable<R: Files>(rt: &R, path: &str) -> Result<(), PathError> {
     }
 }
 
-/// Returns an error if the file at `path` doesn't have the bytes `old`.
-fn check_unchanged<A: Allocator, R: Files>(
-    rt: &R,
-    alloc: A,
-    path: &str,
-    old: &[u8],
-) -> Result<(), PathError> {
-    if read_file(rt, alloc, path, false)?.as_slice() == old {
-        Ok(())
-    } else {
-        Err(PathError::Changed)
+/// Returns an error if the file at `path` doesn't have the bytes `old`. The file is read in pieces.
+fn check_unchanged<R: Files>(rt: &R, path: &str, old: &[u8]) -> Result<(), PathError> {
+    let mut file = match File::open(rt, path) {
+        Ok(file) => file,
+        Err(e) => return Err(error_of(e.kind())),
+    };
+    let mut piece = [0_u8; PIECE];
+    let mut rest = old;
+    for _ in 0..TURNS {
+        match file.read(&mut piece) {
+            Ok(0) if rest.is_empty() => return Ok(()),
+            Ok(0) => return Err(PathError::Changed),
+            Ok(count) => match rest.strip_prefix(&piece[..count]) {
+                Some(after) => rest = after,
+                None => return Err(PathError::Changed),
+            },
+            Err(e) if e.kind() == ErrorKind::Interrupted => {}
+            Err(e) => return Err(error_of(e.kind())),
+        }
     }
+    Err(PathError::ReadFailed)
 }
 
 /// Writes the new file and renames it to `path`, if the file at `path` still has the bytes `old`.
 ///
 /// The file's number, length and time of change are compared directly before the rename, since another program may write to the file while its bytes are read.
-fn fill_and_rename<A: Allocator, R: Files>(
+fn fill_and_rename<R: Files>(
     rt: &R,
-    alloc: A,
     file: &mut R::File,
     beside: &str,
     path: &str,
@@ -210,7 +218,7 @@ fn fill_and_rename<A: Allocator, R: Files>(
         return Err(write_error_of(e.kind()));
     }
     let before = stamp_of(rt, path)?;
-    check_unchanged(rt, alloc, path, old)?;
+    check_unchanged(rt, path, old)?;
     check_stamp(before, stamp_of(rt, path)?)?;
     match fs::rename(rt, beside, path) {
         Ok(()) => Ok(()),
@@ -345,7 +353,6 @@ pub(crate) fn replace_file<A: Allocator + Copy, R: Files + Alloc>(
     let done = match keep_owner(rt, beside.as_str(), owner_of(&about)) {
         Ok(()) => fill_and_rename(
             rt,
-            alloc,
             &mut file,
             beside.as_str(),
             real.as_str(),

@@ -195,18 +195,10 @@ passes_on t s f r closing c before e part = (
   λ y. before.1 (subst (λ z. ReachesQuote z closing) (sym e) (part.1 y)),
 )
 
-pub quote_begins : (how : LineEnds) (t closing : List ℕ) → ReachesQuote t (read_of how closing)
-    → first_passes is_apostrophe closing ≡ true
-quote_begins how t closing r = sym (first_of how is_apostrophe refl closing) ∙ r.is_quote
-
 -- ---- a text that begins with two single quotes
 
 two_quotes : (t cs : List ℕ) → t ≡ 39 ∷ cs → begins_two_quotes t ≡ begins_char 39 cs
 two_quotes t cs e = ap begins_two_quotes e
-
-no_two_quotes : (t : List ℕ) → first_passes (λ c. c == 39) t ≡ false → begins_two_quotes t ≡ false
-no_two_quotes [] h = refl
-no_two_quotes (c ∷ cs) h = ap (λ b. b && begins_char 39 cs) h
 
 pub second_closes : (how : LineEnds) (t second : List ℕ) → t ≡ 39 ∷ second → begins_char 39 second ≡ true
     → IsClosedBy (read_of how t) (read_of how second)
@@ -214,7 +206,3 @@ second_closes how t second e quote =
     let q = (quote_read how t second 39 e refl).0 in
     let two = two_quotes (read_of how t) (read_of how second) q ∙ first_of how (λ c. c == 39) refl second ∙ quote in
     subst (λ b. ClosesBy b (read_of how t) (read_of how second)) (sym two) q
-
-pub no_quote : (how : LineEnds) (t : List ℕ) → first_passes (λ c. c == 39) t ≡ false
-    → begins_two_quotes (read_of how t) ≡ false
-no_quote how t none = no_two_quotes (read_of how t) (first_of how (λ c. c == 39) refl t ∙ none)

@@ -108,9 +108,6 @@ number_kind t k text s m n (inr o) = inr o.0
 
 -- ---- a type and an error exclude each other
 
-no_name : (t : NumberType) → NamesType [] t → ⊥
-no_name t h = some_name [] t h refl
-
 one_float : (s : List ℕ) (t u : NumberType) → IsTypeOfFloat s t → IsTypeOfFloat s u → t ≡ u
 one_float s t u (inl a) (inl b) = one_type s t u a b
 one_float s t u (inl a) (inr b) = absurd (some_name s t a b.0)

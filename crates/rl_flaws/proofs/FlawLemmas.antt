@@ -30,16 +30,6 @@ open_left how o rest len piece (Inside p after) r f = record {
 
 -- ---- the unchecked text after a flaw, as two tests of the code determine it
 
-pub after_single : (how : LineEnds) (o : Opened) (inside piece : List ℕ) (left : Left) (b d : Bool) → b ≡ false
-    → d ≡ true → FollowsCharacter how o.kind inside left → IsLeftAfter b d how o inside piece left
-after_single how o inside piece left b d e h f = subst (λ z. IsLeftAfter z d how o inside piece left) (sym e)
-    (subst (λ z. IsLeftAfter false z how o inside piece left) (sym h) f)
-
-pub after_other : (how : LineEnds) (o : Opened) (inside piece : List ℕ) (left : Left) (b d : Bool) → b ≡ false
-    → d ≡ false → left ≡ Nothing → IsLeftAfter b d how o inside piece left
-after_other how o inside piece left b d e h f = subst (λ z. IsLeftAfter z d how o inside piece left) (sym e)
-    (subst (λ z. IsLeftAfter false z how o inside piece left) (sym h) f)
-
 -- ---- the flaws of a character or byte literal
 
 -- For a character or byte literal, the text before the content is only the opening delimiter, without hashes.

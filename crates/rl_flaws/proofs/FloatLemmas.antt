@@ -92,9 +92,6 @@ zeros_least x y (a ∷ us) h = zeros_least (x * 10 + 0) (y * 10 + digit_value a)
 
 -- ---- numbers whose first digits have one power of ten
 
-same_digit : (d b : ℕ) → (d == b) ≡ true → d ≡ b
-same_digit d b h = eqb-true d b h
-
 less_digit : (b d : ℕ) → is_ascii_digit b ≡ true → is_ascii_digit d ≡ true → nat_lt b d ≡ true
     → digit_value b < digit_value d
 less_digit b d hb hd h =

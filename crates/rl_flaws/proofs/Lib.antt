@@ -9,6 +9,7 @@ pub mod ClosingLemmas
 pub mod ClosedLemmas
 pub mod FlawLemmas
 pub mod FileCuts
+pub mod FilePieces
 pub mod WholeLemmas
 pub mod FirstFlaws
 pub mod FlawLaws

@@ -1,10 +1,10 @@
 -- The type of a literal according to its parse result.
-use Rattle.rl_syntax.proofs.Common.{◌≡◌, ℕ, ◌^◌, ◌-◌, ◌<◌, ◌≢◌, ◌++◌, ◌∙◌, Bool, List, Option, Some, None, IfNone, refl, sym, ap, arith, rules, subst, inl, inr, length, take, chars, chars-IsAscii, chars-append, chars-nil, IsUtf8, AllByRecursion, length-append, take-append_seam}
+use Rattle.rl_syntax.proofs.Common.{◌≡◌, ℕ, ◌^◌, ◌-◌, ◌<◌, ◌++◌, ◌∙◌, Bool, List, Option, Some, None, IfNone, refl, sym, ap, arith, rules, subst, inl, inr, length, take, chars, chars-IsAscii, chars-append, chars-nil, IsUtf8, AllByRecursion, length-append, take-append_seam}
 use Rattle.rl_lenient.proofs.Names.{Kind, Float}
 use Rattle.std.proofs.ByRecursion.{IsAscii-from_all}
 use Rattle.rl_flaws.specs.FloatRange.{IsAtLeast, numeral_of}
 use Rattle.rl_flaws.specs.NumberTypes.{greatest_of, infinite_from, number_name}
-use Rattle.rl_flaws.specs.TypeErrors.{HasType, IsFinite, IsInfinite, IsInRange, IsTypeOfFloat, NamesType}
+use Rattle.rl_flaws.specs.TypeErrors.{HasType, IsFinite, IsInfinite, IsInRange, IsTypeOfFloat}
 use Rattle.rl_syntax.specs.declared.integer_type.IntegerType.TheVariants.{U8, U16, U32, U64, U128, Usize, I8, I16, I32, I64, I128, Isize}
 use Rattle.rl_flaws.specs.declared.number_types.NumberType.{NumberType}
 use Rattle.rl_flaws.specs.declared.number_types.NumberType.TheVariants.{Integer, F32, F64}
@@ -86,9 +86,3 @@ pub finite_float : (t : NumberType) (n : Bool) (text numeral suffix : List ℕ) 
 finite_float t n text numeral suffix none same finite =
     let (least, is) = least_of t n none in
     (least, is, λ reaches. finite (least, is, subst (λ z. IsAtLeast least z) same reaches))
-
--- If the type that a float's suffix selects is an integer type, the suffix is the name of this type.
-pub integer_suffix : (s : List ℕ) (t : NumberType) (n : Bool) → IsTypeOfFloat s t → greatest_of t n ≢ None
-    → (u : NumberType) × NamesType s u × (greatest_of u n ≢ None)
-integer_suffix s t n (inl named) some = (t, named, some)
-integer_suffix s t n (inr none) some = absurd (some (ap (λ u. greatest_of u n) none.1))

@@ -1,11 +1,11 @@
 -- The results of parsing the content of a quoted literal.
-use Rattle.rl_flaws.proofs.Names.{◌≡◌, ◌≢◌, ◌≤◌, ◌<◌, ◌+◌, encode_utf8_all, encodes-append, encodes-chars, length, length-append, IsUtf8, ◌⊎◌, ℕ, true, false, List, [], ◌∷◌, ◌++◌, Some, None, refl, sym, ap, subst, ◌∙◌, inl, inr, both_ways, append_assoc, arith, replicate, chars, Kind, is_single, is_string, raw_opener, is_apostrophe, BeginsStrictUnit, BeginsStrictUnits, QuotedForm, CookedForm, RawForm, SingleForm, byte_len, form_opener, has_form, FoundOpener, found_opener, opener_at, front_complete, unit_rest, quoted_single, unit_rest_complete, unit_rest_sound, FlawAt, FlawKind, LineEnds, Text, IsRestOf, StopsAsRead, read_of, SuffixFlaw, CarriageReturn, EmptyBraces, MustEscape, NoBrace, NoHexDigit, NoUnicode, NotAscii, Nul, HexEscapeOutOfRange, UnicodeEscapeOutOfRange, Surrogate, TooManyDigits, UnknownEscape, is_flaw_of_unit, IsFlawAt, raw_stop, suffix_read_at, found_flaw, IsUnitUpTo, IsInsideUpTo, OpensSingle, OpensString, HasForm, front_of}
+use Rattle.rl_flaws.proofs.Names.{◌≡◌, ◌≢◌, ◌≤◌, ◌<◌, ◌+◌, encode_utf8_all, encodes-append, encodes-chars, length, length-append, IsUtf8, ◌⊎◌, ℕ, true, false, List, [], ◌∷◌, ◌++◌, Some, None, refl, sym, ap, ◌∙◌, inl, inr, both_ways, append_assoc, arith, replicate, chars, Kind, is_single, is_string, raw_opener, is_apostrophe, BeginsStrictUnit, QuotedForm, CookedForm, RawForm, SingleForm, byte_len, form_opener, has_form, FoundOpener, found_opener, opener_at, front_complete, unit_rest, quoted_single, unit_rest_complete, unit_rest_sound, FlawAt, FlawKind, LineEnds, IsRestOf, Option, first_of, StopsAsRead, read_of, SuffixFlaw, CarriageReturn, EmptyBraces, MustEscape, NoBrace, NoHexDigit, NoUnicode, NotAscii, Nul, HexEscapeOutOfRange, UnicodeEscapeOutOfRange, Surrogate, TooManyDigits, UnknownEscape, is_flaw_of_unit, IsFlawAt, suffix_read_at, found_flaw, IsUnitUpTo, OpensSingle, OpensString, HasForm, front_of}
 use Rattle.rl_lenient.proofs.Names.{first_passes}
 use Rattle.rl_strict.specs.LineEnds.{IsGoodUnit, IsOfStretch}
 use Rattle.rl_strict.proofs.ReadQuoted.{judged_by}
 use Rattle.rl_strict.proofs.ReadLemmas.{form_flaw}
-use Rattle.rl_flaws.proofs.RawLemmas.{raw_up_to}
-use Rattle.rl_strict.proofs.StrictCookedFlaws.{no_unit}
+use Rattle.rl_strict.proofs.EndLemmas.{single_of}
+use Rattle.std.proofs.Common.{option_map}
 
 -- ---- the content of a character or byte literal
 
@@ -15,28 +15,28 @@ unit_at_front k t closing s h =
     let f = unit_rest_sound k t closing (quoted_single k s) h in
     record { unit = f.unit; is_unit = f.is_unit; ends = f.may_end; text_is = f.text_is }
 
-pub unit_up_to : (k : Kind) (t closing : List ℕ) → is_single k ≡ true → IsGoodUnit k t closing → IsUnitUpTo k t closing
-unit_up_to k t closing s (inl (h, q)) = inl (unit_at_front k t closing s h, q)
-unit_up_to k t closing s (inr (same, none)) = inr (
-  same,
-  λ rest b q.
-      let e : unit_rest k t ≡ Some rest = ap (unit_rest k) b.text_is
-      ∙ unit_rest_complete k b.unit rest b.is_unit b.ends in
-      both_ways (first_passes is_apostrophe rest) (none rest e) q,
+pub unit_up_to : (how : LineEnds) (k : Kind) (t closing : List ℕ) → is_single k ≡ true → IsGoodUnit k t closing
+    → IsUnitUpTo k (read_of how t) (read_of how closing)
+unit_up_to how k t closing s (inl (h, q)) = inl (
+  unit_at_front k (read_of how t) (read_of how closing) s (single_of how k t s ∙ ap (option_map (read_of how)) h),
+  first_of how is_apostrophe refl closing ∙ q,
 )
-
--- ---- the content of a literal in a text that isn't from a file
-
-pub cooked_up_to : (how : LineEnds) (k : Kind) (h t r : List ℕ) → BeginsStrictUnits k (read_of how t) (read_of how r)
-    → unit_rest k (read_of how r) ≡ None → how ≡ Text → IsInsideUpTo CookedForm k h t r
-cooked_up_to how k h t r run stuck e = (
-  subst (λ z. BeginsStrictUnits k (read_of z t) (read_of z r)) e run,
-  no_unit k r (subst (λ z. unit_rest k (read_of z r) ≡ None) e stuck),
+unit_up_to how k t closing s (inr (same, none)) = inr (
+  ap (read_of how) same,
+  λ rest b q. go rest (unit_rest k t) refl (sym (single_of how k t s) ∙ ap (unit_rest k) b.text_is
+      ∙ unit_rest_complete k b.unit rest b.is_unit b.ends) q,
 )
-
-pub raw_in_text : (how : LineEnds) (k : Kind) (h t r : List ℕ) → is_string k ≡ true
-    → read_of how r ≡ raw_stop k h (read_of how t) → how ≡ Text → IsInsideUpTo RawForm k h t r
-raw_in_text how k h t r s stop e = raw_up_to k h t r s (subst (λ z. read_of z r ≡ raw_stop k h (read_of z t)) e stop)
+  where
+    go : (rest : List ℕ) (o : Option (List ℕ)) → unit_rest k t ≡ o → option_map (read_of how) (unit_rest k t) ≡ Some rest
+        → first_passes is_apostrophe rest ≡ true → ⊥
+    go rest None e h q =
+        let left : None ≡ Some rest = sym (ap (option_map (read_of how)) e) ∙ h in
+        absurd (cc)
+    go rest (Some r) e h q =
+        let left : Some (read_of how r) ≡ Some rest = sym (ap (option_map (read_of how)) e) ∙ h in
+        let same : read_of how r ≡ rest = cc in
+        both_ways (first_passes is_apostrophe r) (none r e)
+        (sym (first_of how is_apostrophe refl r) ∙ ap (first_passes is_apostrophe) same ∙ q)
 
 -- ---- the flaw that is found after the opening delimiter is a flaw of the whole text
 

@@ -1,11 +1,12 @@
 -- The pieces of a quoted literal, valid and invalid. A valid piece is a segment of the valid text before the next flaw. An
 -- invalid piece is the text to show for a flaw.
-use Rattle.std.specs.Prelude.{◌≡◌, ◌+◌, ℕ, List, [], ◌++◌, length, Option, None, Some, MatchOption}
+use Rattle.std.specs.Prelude.{◌≡◌, ◌+◌, ℕ, List, [], ◌++◌, length, Option, None, Some, MatchOption, IsTrue}
 use Rattle.std.specs.Str.{chars}
 use Rattle.rl_syntax.specs.Texts.{byte_len}
 use Rattle.rl_syntax.specs.declared.kind.Kind.{Kind}
 use Rattle.rl_cursors.specs.Segments.{HasUnitsLeft, SegmentsState, TakesSegment}
 use Rattle.rl_lenient.specs.declared.quoted_forms.QuotedForm.{QuotedForm}
+use Rattle.rl_strict.specs.LineEnds.{is_seam_of, read_of}
 use Rattle.rl_strict.specs.StrictFlawKinds.{is_raw_form}
 use Rattle.rl_flaws.specs.Flawed.{FlawsState, GivesFlaw}
 use Rattle.rl_flaws.specs.Inside.{IsInsideUpTo}
@@ -22,7 +23,8 @@ pub record PiecesState : Type 0 where
   pub flaws : FlawsState
 
 -- The cursor's segments are the segments of the valid text inside the open literal, with their byte offsets. The valid text
--- ends at the next flaw or at the closing delimiter.
+-- ends at the next flaw or at the closing delimiter. In a file, CR LF is read as LF, and the valid text doesn't end between
+-- them. The segments are those of the text as written.
 pub record IsGoodInside (kind : Kind) (flaws : FlawsState) (s : SegmentsState) : Type 0 where
   pub form : QuotedForm
   pub hashes : List ℕ
@@ -30,7 +32,8 @@ pub record IsGoodInside (kind : Kind) (flaws : FlawsState) (s : SegmentsState) :
   pub front_is : flaws.front ≡ front_of form kind hashes
   pub closing : List ℕ
   pub text_is : chars flaws.rest ≡ chars s.rest ++ closing
-  pub up_to : IsInsideUpTo form kind hashes (chars flaws.rest) closing
+  pub up_to : IsInsideUpTo form kind hashes (read_of flaws.ends (chars flaws.rest)) (read_of flaws.ends closing)
+  pub seam : IsTrue (is_seam_of flaws.ends (chars s.rest) closing)
   pub place : s.at + length s.rest + byte_len closing ≡ flaws.len
   pub kind_is : s.kind ≡ kind
   pub plain_is : s.plain ≡ is_raw_form form

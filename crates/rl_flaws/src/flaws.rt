@@ -4,7 +4,6 @@ ghost use Rattle.std.specs.Prelude.{◌≡◌, ◌&&◌, ◌<◌, [], false, not
 ghost use Rattle.std.specs.Str.{chars};
 ghost use Rattle.rl_syntax.specs.Quoted.{is_single, is_string};
 ghost use Rattle.rl_strict.specs.Readings.{ExplainsOf};
-ghost use Rattle.rl_strict.specs.declared.line_ends.LineEnds.TheVariants.{Text};
 ghost use Rattle.rl_flaws.specs.BadPieces.{is_flaw_after_quote, is_flaw_of_unit};
 ghost use Rattle.rl_flaws.specs.declared.flaws.Left.TheVariants.{Inside, Closed, Nothing};
 ghost use Rattle.rl_flaws.specs.Flawed.{AreFlawsOf, FlawsState, GivesFlaw, TakesFlaw, left_count};
@@ -82,7 +81,7 @@ pub fn next_flaw_inside<'t>(
         < left_count (state_of ends len (Inside opened.entry rest.entry))) }
     ensures left { IsLeft len result.left }
     ensures same { StaysOpen opened.entry result.left }
-    ensures good { ends ≡ Text → IsGoodLeft len (Inside opened.entry rest.entry) result.good.now result.end }
+    ensures good { IsGoodLeft ends len (Inside opened.entry rest.entry) result.good.now result.end }
 {
     let stretch = parse_quoted_content(ends, opened, rest);
     let good = before(rest, stretch.closing);
@@ -135,7 +134,7 @@ pub fn next_flaw<'t>(ends: LineEnds, len: usize, left: Left<'t>) -> NextFlaw<'t>
     ensures less { IfSome result.bad (λ bad. left_count (state_of ends len result.left) < left_count (state_of ends len left.entry)) }
     ensures left { IsLeft len result.left }
     ensures same { IsSameLiteral left.entry result.left }
-    ensures good { ends ≡ Text → IsGoodLeft len left.entry result.good.now result.end }
+    ensures good { IsGoodLeft ends len left.entry result.good.now result.end }
 {
     match left {
         Left::Inside(opened, rest) => next_flaw_inside(ends, len, opened, rest),

@@ -31,12 +31,13 @@ fn is_raw(form: QuotedForm) -> bool
 }
 
 /// A cursor over the pieces of a quoted literal that may be invalid, from its opening delimiter on. The pieces are the valid
-/// segments, and the flaws between them. Nothing is allocated.
+/// segments, and the flaws between them. In a file, CR LF is read as LF. Nothing is allocated.
 ///
 /// The invalid pieces are all flaws that a [`Flaws`](crate::Flaws) cursor finds in the text. A valid literal token has only
 /// valid pieces, its segments.
-#[derive(Drop)]
+#[derive(Clone, Drop)]
 pub struct Pieces<'t> {
+    ends: LineEnds,
     kind: Kind,
     plain: bool,
     // The byte offset where `good`, the valid text before the next flaw, ends.
@@ -53,7 +54,7 @@ impl<'t> Model for Pieces<'t> {
 
     ghost Value = { PiecesState };
 
-    ghost view = { λ s. pieces_of s.kind s.plain s.end s.good.now s.bad s.len s.left };
+    ghost view = { λ s. pieces_of s.ends s.kind s.plain s.end s.good.now s.bad s.len s.left };
 
     ghost invariant = { λ s. ArePiecesLeft s.kind s.plain s.end s.good.now s.len s.left };
 }
@@ -62,17 +63,17 @@ impl<'t> Pieces<'t> {
     ghost use Rattle.rl_flaws.specs.Flawed.{AreFlawsOf, FlawsState};
     ghost use Rattle.rl_flaws.specs.Looks.{OpensSingle, OpensString};
     ghost use Rattle.rl_flaws.specs.Pieces.{BeginsPart, GivesPiece};
-    ghost use Rattle.rl_strict.specs.declared.line_ends.LineEnds.TheVariants.{Text};
 
     /// Creates a cursor over the pieces of `text`, or returns `None` if `text` doesn't begin as a quoted literal.
-    pub fn of(text: &'t str) -> Option<Pieces<'t>>
-        ensures some { IfSome result (λ s. (flaws : FlawsState) × AreFlawsOf Text text.now flaws × BeginsPart flaws s) }
+    pub fn of(text: &'t str, ends: LineEnds) -> Option<Pieces<'t>>
+        ensures some { IfSome result (λ s. (flaws : FlawsState) × AreFlawsOf ends text.now flaws × BeginsPart flaws s) }
         ensures none { IfNone result ((kind : AnyKind) → OpensString kind (chars text.now) ⊎ OpensSingle kind (chars text.now) → ⊥) }
     {
         match split_opening_delimiter(text) {
             Some((opened, inside)) => {
-                let judged = next_flaw_inside(LineEnds::Text, text.len(), opened, inside);
+                let judged = next_flaw_inside(ends, text.len(), opened, inside);
                 Some(Pieces {
+                    ends,
                     kind: opened.kind,
                     plain: is_raw(opened.form),
                     end: judged.end,
@@ -100,7 +101,7 @@ impl<'t> Pieces<'t> {
         let Some(bad) = self.bad else {
             return None;
         };
-        let judged = next_flaw(LineEnds::Text, self.len, self.left);
+        let judged = next_flaw(self.ends, self.len, self.left);
         self.end = judged.end;
         self.good = judged.good;
         self.bad = judged.bad;

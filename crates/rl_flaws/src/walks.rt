@@ -9,7 +9,6 @@ ghost use Rattle.rl_lenient.specs.declared.quoted_forms.QuotedForm.TheVariants.{
 ghost use Rattle.rl_strict.specs.LineEnds.{IsGoodUnit, IsOfStretch, IsRestOf, StopsAsRead, read_of};
 ghost use Rattle.rl_strict.specs.StrictRead.{IsFlawAt};
 ghost use Rattle.rl_strict.specs.StrictShapes.{ClosesForm, IsToken};
-ghost use Rattle.rl_strict.specs.declared.line_ends.LineEnds.TheVariants.{Text};
 ghost use Rattle.rl_flaws.specs.BadPieces.{is_flaw_of_unit};
 ghost use Rattle.rl_flaws.specs.Inside.{IsInsideUpTo};
 ghost use Rattle.rl_flaws.specs.Looks.{OpensSingle, OpensString};
@@ -87,8 +86,8 @@ pub fn parse_quoted_content<'t>(
     text: &'t str,
 ) -> QuotedContent<'t>
     requires { IsOpened opened }
-    ensures good { ends ≡ Text → IsInsideUpTo opened.entry.form opened.entry.kind (chars opened.entry.hashes.now)
-        (chars text.now) (chars result.closing.now) }
+    ensures good { IsInsideUpTo opened.entry.form opened.entry.kind (chars opened.entry.hashes.now)
+        (read_of ends (chars text.now)) (read_of ends (chars result.closing.now)) }
     ensures rest { IsRestOf ends (chars text.now) (chars result.closing.now) }
     ensures following { IsTail text.now result.closing.now }
     ensures some { IfErr result.end (λ f. IsTrue (is_flaw_of_unit f.kind) → chars f.piece.now ≢ []) }

@@ -1,3 +1,4 @@
 pub mod FrontLemmas
 pub mod NumberFoundLemmas
 pub mod ByteContents
+pub mod Theorems

@@ -1,2 +1,3 @@
 pub mod FrontTokens
 pub mod Fronts
+pub mod Laws

@@ -5,6 +5,7 @@
 pub mod contents;
 pub mod digits;
 pub mod front;
+pub mod laws;
 pub mod span_table;
 
 pub use crate::contents::{bytes_of, bytes_of_body, str_of, str_of_body};

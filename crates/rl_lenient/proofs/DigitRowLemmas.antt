@@ -3,7 +3,8 @@ use Rattle.rl_syntax.proofs.Common.{◌≡◌, ◌≢◌, ℕ, suc, ◌+◌, ◌
 use Rattle.rl_lenient.proofs.Names.{pow-suc, place_value, without_underscores, limit, after_run, is_run_part}
 use Rattle.std.proofs.Math.Nat.{mul-le-mul_left}
 use native.Mathlib.Numerals.{unary_clauses}
-use Rattle.rl_lenient.specs.Mirrors.NumberAt.{run, has_value, capped, append_digit, run_from, digit_run_at, has_digit_at, magnitude_at, after_digits}
+use Rattle.rl_lenient.specs.Mirrors.NumberAt.{run, has_value, append_digit, run_from, digit_run_at, has_digit_at, magnitude_at, after_digits}
+use Rattle.rl_syntax.specs.Numbers.{capped}
 
 -- For a number within 128 bits, `capped` returns the number.
 pub capped_within : (n : ℕ) → n ≤ limit → capped n ≡ Some n

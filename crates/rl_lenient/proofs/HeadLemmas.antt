@@ -1,7 +1,8 @@
 -- The start of a number: its sign, its base and its first digits.
 use Rattle.rl_syntax.proofs.Common.{◌≡◌, ℕ, Bool, true, false, not, ◌&&◌, ◌||◌, ◌==◌, cond, List, [], ◌∷◌, Option, Some, None, refl, sym, ap, ◌∙◌, and_parts, eqb-true, is_ascii_digit}
 use Rattle.rl_lenient.proofs.Names.{Sign, first_passes}
-use Rattle.rl_lenient.specs.Mirrors.NumberAt.{after_digits, after_fraction, after_exponent, after_minus, based_at, capped, capped_int, ended_at, float_at, float_tail_at, has_digit_at, int_at, is_suffix, IsHead, magnitude_at, may_begin_number, may_end, radix_at, radix_of, sign_at, with_sign}
+use Rattle.rl_lenient.specs.Mirrors.NumberAt.{after_digits, after_fraction, after_exponent, after_minus, based_at, capped_int, ended_at, float_at, float_tail_at, has_digit_at, int_at, is_suffix, IsHead, magnitude_at, may_begin_number, may_end, radix_at, radix_of, sign_at, with_sign}
+use Rattle.rl_syntax.specs.Numbers.{capped}
 
 abbrev ten : List ℕ → ℕ × List ℕ
 ten u = (10, u)

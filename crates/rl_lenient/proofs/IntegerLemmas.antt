@@ -2,12 +2,12 @@
 use Rattle.rl_syntax.proofs.Common.{◌≡◌, ℕ, ◌<◌, ◌≤◌, ◌⊎◌, Bool, true, false, not, ◌&&◌, ◌||◌, ◌==◌, cond, List, [], ◌∷◌, ◌++◌, Option, Some, None, refl, sym, ap, subst, ◌∙◌, arith, inl, inr, and_parts, and_from, both_ways, eqb-true, not-true, not_from_false, nat_tests, is_ascii_digit, list_all, list_any, IsTrue}
 use Rattle.rl_lenient.proofs.Names.{false_from_ne_true, first_passes, xid_ok, is_run_part, place_value, without_underscores, Base, Binary, Octal, Decimal, Hexadecimal, radix, prefix, Sign, NoSign, Minus, sign_text, IsAfterPrefix, IsSuffix, is_exponent_letter, IntReads, limit, decimal, Contents, Digits, HasNoInteger, IsPast, after_run}
 use Rattle.rl_syntax.specs.Texts.{begins}
-use Rattle.rl_syntax.specs.Numbers.{begins_base, IsExponentSuffix, AllowsSuffix}
+use Rattle.rl_syntax.specs.Numbers.{begins_base, IsExponentSuffix, AllowsSuffix, capped}
 use Rattle.rl_syntax.specs.Reading.{ReadsInt}
 use Rattle.rl_syntax.proofs.Basics.{any_same, digit_is_ten}
 use Rattle.rl_syntax.proofs.StrictNumbers.{no_part}
 use Rattle.rl_lenient.specs.NumberShapes.{HasMagnitude}
-use Rattle.rl_lenient.specs.Mirrors.NumberAt.{run, has_value, is_suffix, digit_run_at, has_digit_at, magnitude_at, after_digits, is_exponent_suffix, after_minus, sign_at, radix_at, may_begin_number, may_end, based_at, with_sign, int_at, capped, capped_int}
+use Rattle.rl_lenient.specs.Mirrors.NumberAt.{run, has_value, is_suffix, digit_run_at, has_digit_at, magnitude_at, after_digits, is_exponent_suffix, after_minus, sign_at, radix_at, may_begin_number, may_end, based_at, with_sign, int_at, capped_int}
 use Rattle.rl_lenient.proofs.DigitRowLemmas.{within_or_past, capped_within, capped_past}
 use Rattle.rl_lenient.proofs.RunLemmas.{run_all, run_ends, run_join, run_past, suffix_complete, suffix_sound}
 

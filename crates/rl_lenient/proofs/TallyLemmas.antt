@@ -1,7 +1,8 @@
 -- The magnitude of a number is computed from its first digits and its last digits.
 use Rattle.rl_syntax.proofs.Common.{◌≡◌, ℕ, ◌+◌, ◌*◌, ◌<◌, ◌≤◌, Option, Some, None, refl, sym, ap, ◌∙◌, arith}
 use Rattle.std.proofs.Math.Nat.{mul-le-mul_left}
-use Rattle.rl_lenient.specs.Mirrors.NumberAt.{append_digit, capped}
+use Rattle.rl_lenient.specs.Mirrors.NumberAt.{append_digit}
+use Rattle.rl_syntax.specs.Numbers.{capped}
 use Rattle.rl_lenient.proofs.DigitRowLemmas.{append_capped, capped_within}
 
 -- Arithmetic: the number of all digits is `w * s + v`, where v is the number of the last digits. If v and s are updated for

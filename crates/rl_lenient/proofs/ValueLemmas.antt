@@ -15,7 +15,6 @@ use Rattle.rl_lenient.specs.Bodies.{HasBody, Represents}
 use Rattle.rl_lenient.specs.declared.found.Found.{Found}
 use Rattle.rl_lenient.specs.Founds.{IsFound, suffix_in}
 use Rattle.rl_lenient.specs.Mirrors.NumberAt.{sign_at}
-use Rattle.rl_lenient.specs.NumberShapes.{HasMagnitude}
 use Rattle.rl_lenient.specs.Values.{HasIntegerValue, HasNoValue, IsPastSigned, signed}
 use Rattle.rl_lenient.proofs.BodyContents.{plain_contents}
 use Rattle.rl_lenient.proofs.DigitLemmas.{int_sign}
@@ -65,11 +64,6 @@ pub some_value : (t : List ℕ) (f : Found) (s : Sign) (o : Option ℤ) → IsFo
     → IfSome o (HasIntegerValue (chars t) (chars (suffix_in t f.body)))
 some_value t f s (Some z) h sign k e = has_value t f s z h k sign e
 some_value t f s None h sign k e = tt
-
--- The magnitude is read with the sign that the text begins with.
-pub signed_reads : (t : List ℕ) (m : ℕ) (x : List ℕ) (s : Sign) → HasMagnitude t m x → sign_at t ≡ s → IntReads t s m x
-signed_reads t m x s h sign =
-    subst (λ (y : Sign). IntReads t y m x) (sym (int_sign t h.sign m x h.reads) ∙ sign) h.reads
 
 -- ---- integers without a value
 

@@ -5,8 +5,8 @@ ghost use Rattle.std.specs.Prelude.{◌≡◌, ◌<◌, ◌≤◌, None, Option,
 ghost use Rattle.std.specs.Char.{digit_value, is_ascii_digit};
 ghost use Rattle.std.specs.Str.{IsCharBoundary, chars};
 ghost use Rattle.rl_syntax.specs.Texts.{IsTail, first_passes};
-ghost use Rattle.rl_syntax.specs.Numbers.{Minus, NoSign};
-ghost use Rattle.rl_lenient.specs.Mirrors.NumberAt.{after_digits, after_minus, append_digit, capped, has_digit_at, is_exponent_suffix, is_suffix, magnitude_at, run_from, sign_at};
+ghost use Rattle.rl_syntax.specs.Numbers.{Minus, NoSign, capped};
+ghost use Rattle.rl_lenient.specs.Mirrors.NumberAt.{after_digits, after_minus, append_digit, has_digit_at, is_exponent_suffix, is_suffix, magnitude_at, run_from, sign_at};
 
 use rl_syntax::ident::xid_ok;
 use rl_syntax::text::{split_ascii, split_char};

@@ -5,7 +5,8 @@ use Rattle.rl_syntax.specs.Texts.{is_white, is_among, first_passes, is_run_part,
 use Rattle.rl_lexer.specs.Lexemes.{is_base_letter, IsLexedSuffix, IsLexeme}
 use Rattle.rl_lexer.proofs.Gaps.{BeginsGap}
 use Rattle.rl_syntax.specs.Strict.{IsStrictSuffix}
-use Rattle.rl_syntax.proofs.Basics.{word_continues}
+use Rattle.rl_syntax.proofs.Basics.{word_continues, all_weaker}
+use Rattle.rl_syntax.proofs.WhiteLemmas.{continues, starts}
 use Rattle.rl_lexer.proofs.LexemeRows.{not_true, not_among}
 use Rattle.rl_lexer.proofs.LexemeOpeners.{none_otherwise}
 use Rattle.rl_lexer.proofs.LexemeFronts.{start_ascii, among, low_among, not_start_among}
@@ -109,28 +110,16 @@ gap_ends (c ∷ t) is = go (is_white c) (c == 47) is
     go false true h = refl
     go false false h = absurd (cc)
 
--- Lemmas about the suffixes of literals.
-all_both : (f g : ℕ → Bool) (cs : List ℕ) → list_all f cs ≡ true → list_all g cs ≡ true → list_all (λ c. f c && g c) cs
-    ≡ true
-all_both f g [] a b = refl
-all_both f g (c ∷ cs) a b =
-    let p = and_parts (f c) (list_all f cs) a in
-    let q = and_parts (g c) (list_all g cs) b in
-    and_from (f c && g c) (list_all (λ c. f c && g c) cs) (and_from (f c) (g c) p.0 q.0) (all_both f g cs p.1 q.1)
-
 -- The lexer accepts the first character of a suffix by Rust's grammar as the first character of a suffix.
 pub suffix_starts : (c : ℕ) (cs : List ℕ) → IsStrictSuffix (c ∷ cs) → is_start c ≡ true
 suffix_starts c cs (inl e) = absurd (cc)
 suffix_starts c cs (inr w) =
-    and_from (c == 95 || is_xid_start c) (not (is_white c)) (and_parts (c == 95 || is_xid_start c)
-    (list_all is_xid_continue cs) w.identifier).0
-    (and_parts (not (is_white c)) (list_all (λ c. not (is_white c)) cs) w.no_white).0
+    starts c (and_parts (c == 95 || is_xid_start c) (list_all is_xid_continue cs) w.identifier).0
 
 -- The lexer accepts each character of a suffix by Rust's grammar as a character of an identifier.
 pub suffix_continues : (x : List ℕ) → IsStrictSuffix x → list_all is_continue x ≡ true
 suffix_continues x (inl e) = ap (list_all is_continue) e
-suffix_continues x (inr w) = all_both is_xid_continue (λ c. not (is_white c)) x (word_continues x w.identifier)
-    w.no_white
+suffix_continues x (inr w) = all_weaker is_xid_continue is_continue continues x (word_continues x w.identifier)
 
 -- Before a text that may follow a literal, a suffix by Rust's grammar is also a suffix for the lexer.
 pub strict_suffix_lexed : (x after : List ℕ) → IsStrictSuffix x → EndsLiteral after → IsLexedSuffix x after

@@ -4,6 +4,7 @@ use Prim.Native.Char.{code}
 use Rattle.rl_syntax.specs.Texts.{is_among, first_passes, begins, byte_len, is_start}
 use Rattle.rl_lexer.specs.Skipping.{Skipped}
 use Rattle.rl_lexer.specs.declared.lex_error.LexKind.{LexKind}
+use Rattle.rl_lexer.specs.declared.lex_error.LexError.{LexError}
 use Rattle.rl_lexer.specs.declared.lex_error.LexKind.TheVariants.{DocComment, UnclosedComment, UnclosedQuote, Lifetime, RawIdentifier, StrayCharacter, UnmatchedClose, UnclosedGroup, TooDeep, Memory}
 use Rattle.rl_lexer.specs.Lexemes.{Lexeme, lexeme_text, IsLexeme, LexemeBefore, LexemeForm, DelimiterForm, form_of, BeginsRaw, begins_prefixed_quote, begins_raw_identifier}
 
@@ -119,6 +120,18 @@ ErrorAt Memory groups r = ⊥
 abbrev pub innermost : List OpenGroup → ℕ → ℕ
 innermost [] at = at
 innermost (o ∷ os) at = o.at
+
+-- The error `e` is the error for a text that ends inside a group: `UnclosedGroup` at the opening delimiter of the
+-- innermost open group.
+pub record EndsInGroup (groups : List OpenGroup) (e : LexError) : Type 0 where
+  pub kind : e.kind ≡ UnclosedGroup
+  pub some_open : groups ≢ []
+  pub place : (at : ℕ) → e.at ≡ innermost groups at
+
+-- The form of a token is an opening delimiter, and 128 groups are open already.
+abbrev pub OpensTooDeep : List OpenGroup → LexemeForm → Type 0
+OpensTooDeep groups (DelimiterForm c) = IsTrue (is_opener c) × (length groups ≡ 128)
+OpensTooDeep groups _ = ⊥
 
 -- The byte offset of a lexing error. The error for a group that isn't closed is at the opening delimiter of the
 -- innermost open group. Any other error is at the byte offset `at`, where the text that isn't lexed begins.

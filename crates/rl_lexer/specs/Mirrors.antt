@@ -1,5 +1,5 @@
--- Executable models of private code: functions on lists of characters. The code is proved to return equal results. No
--- postcondition of a public function cites them.
+-- Executable models of the code: functions on lists of characters. It is proved that the code returns equal results. Contracts of
+-- private functions cite them, and so do contracts of some functions that are public only for other crates of this repository.
 
 pub mod ErrorAt
 pub mod LexemeAt

@@ -15,21 +15,6 @@ pub joins_one : {A : Type 0} (IsPiece : A → List ℕ → Type 0) (x : A) (t : 
     → Joins IsPiece (x ∷ []) t
 joins_one IsPiece x t p = (t, [], p, refl, sym (append-nil t))
 
--- A text with nothing appended is unchanged.
-pub appends_none : (old : List ℕ) → Appends (λ piece. piece ≡ []) old old
-appends_none old = ([], refl, sym (append-nil old))
-
--- If the pieces of a list were appended to a text, and the piece of one more element is appended, the pieces of the
--- longer list were appended.
-pub appends_more : {A : Type 0} (IsPiece : A → List ℕ → Type 0) (xs : List A) (x : A) (a b c : List ℕ)
-    → Appends (Joins IsPiece xs) a b → Appends (IsPiece x) b c → Appends (Joins IsPiece (xs ++ (x ∷ []))) a c
-appends_more IsPiece xs x a b c (s, h, e) (t, p, d) = (
-  s ++ t,
-  joins_append IsPiece xs (x ∷ []) s t h (joins_one IsPiece x t p),
-  d ∙ ap (λ z. z ++ t) e
-      ∙ append_assoc a s t,
-)
-
 -- If a text consists of the pieces of a list, and the piece of one more element is appended, the text consists of the
 -- pieces of the longer list.
 pub joins_more : {A : Type 0} (IsPiece : A → List ℕ → Type 0) (xs : List A) (x : A) (b c : List ℕ) → Joins IsPiece xs b

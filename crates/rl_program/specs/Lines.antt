@@ -8,7 +8,7 @@ use Rattle.rl_syntax.specs.Texts.{xid_ok, SpannedText}
 use Rattle.rl_tokens.specs.Trees.{Tree}
 use Rattle.rl_tokens.specs.Lexing.{Lexes}
 use Rattle.rl_fronts.specs.Fronts.{IsFront}
-use Rattle.rl_syntax.specs.Reading.{Contents, Characters, Bytes, Digits, Truth, truth_text, Reads, HasNoReading, IsReadAs}
+use Rattle.rl_syntax.specs.Reading.{Contents, Characters, Bytes, Digits, Truth, truth_text, Reads, HasNoReading}
 use Rattle.rl_syntax.specs.Written.{written_text}
 
 -- The name of a kind of literals.
@@ -26,10 +26,6 @@ kind_label Bool = codes "Bool"
 abbrev pub label_of : Option Kind → List ℕ
 label_of (Some kind) = kind_label kind
 label_of None = codes "Verbatim"
-
--- The text `label` is the label of the output line of the text `text`.
-abbrev pub IsLabelOf : List ℕ → List ℕ → Type 0
-IsLabelOf text label = (kind : Option Kind) × IsReadAs kind text × (label ≡ label_of kind)
 
 -- The value of a literal as its output line has it: a literal for a quoted kind, the digits of a number, the name of a `bool`.
 abbrev pub payload : Kind → Contents → List ℕ

@@ -1,18 +1,18 @@
 -- Lemmas about the rules that change a literal.
-use Rattle.rl_syntax.proofs.Common.{◌≡◌, ℕ, List, [], ◌∷◌, ◌++◌, ◌∙◌, Option, Some, None, ap, append-nil, append_assoc, arith, chars, false, inl, inr, length, refl, string_bytes, subst, sym, true}
-use Rattle.std.specs.Prelude.{Bool, String, is_some, option_map}
+use Rattle.rl_syntax.proofs.Common.{◌≡◌, ◌≤◌, ◌+◌, ◌*◌, ℕ, List, cond, is_ascii_digit, [], ◌∷◌, ◌++◌, ◌∙◌, Option, Some, None, ap, append-nil, append_assoc, arith, chars, false, inr, length, refl, subst, sym, true}
+use Rattle.rl_syntax.specs.Texts.{first_passes}
+use Rattle.std.specs.Prelude.{Bool, is_some, option_map}
 use Rattle.std.proofs.lemmas.Bool.{false≢true}
 use Rattle.rl_style.proofs.Theorems.{no_rule_changes_nothing}
-use Rattle.rl_style.specs.Rewriting.{HasNoRule}
+use Rattle.rl_style.specs.Rewriting.{HasNoRule, room_for}
 use Rattle.rl_style.specs.declared.style.Case.{Case}
 use Rattle.rl_style.specs.declared.style.DigitGroups.{DigitGroups}
 use Rattle.rl_style.specs.declared.style.Separator.{Separator}
 use Rattle.rl_style.specs.declared.style.Style.{Style}
-use Rattle.rl_restyle.specs.Changing.{AreChangingAmong, AreChangingRules, TakesRule, is_set, own_groups, rule_alone}
+use Rattle.rl_restyle.specs.Changing.{AreChangingAmong, AreChangingRules, ChangesAlone, TakesRule, is_set, own_groups, rule_alone}
 use Rattle.rl_restyle.specs.Rules.{settable_rules}
 use Rattle.rl_restyle.specs.declared.rule.Rule.{Rule}
 use Rattle.rl_restyle.specs.declared.rule.Rule.TheVariants.{HexDigits, DropUnderscores, DropLeadingZeros, SuffixSeparator, BinaryGroups, OctalGroups, DecimalGroups, HexadecimalGroups, MinDigits, FloatZero, ExponentLetter, DropExponentPlus, EscapeDigits, FewestEscapeDigits, DropAsciiEscapes, NamedEscapes, DropQuoteEscapes, FewestHashes, DropRaw, EscapeInvisible}
-use Rattle.rl_restyle.specs.Edits.{IsRewritten, text_in}
 
 -- The style without rules.
 abbrev keep : Style
@@ -101,23 +101,27 @@ rule_unset style front old rule rules unset = (
   sym (append-nil rules),
 )
 
--- A rule with a new text changes the literal. `rule_kept` is the lemma for a rule without a new text.
-pub rule_taken : {A : Type 0} (style own : Style) (front old : List ℕ) (rule : Rule) (before after : List Rule)
-    (made : Option (String A)) → own ≡ rule_alone style rule → is_some made ≡ true
-    → IsRewritten own front old (text_in made) → after ≡ before ++ rule ∷ []
-    → TakesRule style front old rule before after
-rule_taken style own front old rule before after None is some rewritten pushed = absurd (false≢true some)
-rule_taken style own front old rule before after (Some made) is some rewritten pushed =
-    let changed = subst (λ (z : Style). IsRewritten z front old (text_in (Some made))) is rewritten in
-    (rule ∷ [], inl ((chars (string_bytes made), changed.0, changed.1), refl), pushed)
+pub rule_kept : (style : Style) (front old : List ℕ) (rule : Rule) (rules : List Rule)
+    → (ChangesAlone style front old rule → ⊥) → TakesRule style front old rule rules rules
+rule_kept style front old rule rules unchanged = ([], inr (unchanged, refl), sym (append-nil rules))
 
-pub rule_kept : {A : Type 0} (style own : Style) (front old : List ℕ) (rule : Rule) (rules : List Rule)
-    (made : Option (String A)) → own ≡ rule_alone style rule → is_some made ≡ false
-    → IsRewritten own front old (text_in made) → TakesRule style front old rule rules rules
-rule_kept style own front old rule rules (Some made) is none rewritten = absurd (false≢true (sym none))
-rule_kept style own front old rule rules None is none rewritten =
-    let kept = subst (λ (z : Style). IsRewritten z front old None) is rewritten in
-    ([], inr ((λ changes. changes.2 (kept changes.0 changes.1)), refl), sym (append-nil rules))
+hides_alone : (style : Style) (rule : Rule) → (rule_alone style rule).hidden ≡ true → style.hidden ≡ true
+hides_alone style EscapeInvisible hides = hides
+hides_alone style rule hides = absurd (cc)
+
+-- For a rule alone, a buffer for the whole style is large enough.
+pub room_alone : (style : Style) (rule : Rule) (text : List ℕ) → room_for (rule_alone style rule) text ≤ room_for style text
+unfolding room_for
+room_alone style rule text = go (first_passes is_ascii_digit (chars text)) (rule_alone style rule).hidden style.hidden
+    (hides_alone style rule)
+  where
+    go : (d alone whole : Bool) → (alone ≡ true → whole ≡ true)
+        → length text * cond d 2 (cond alone 4 1) + 1 ≤ length text * cond d 2 (cond whole 4 1) + 1
+    go true alone whole hides = omega arith
+    go false true true hides = omega arith
+    go false true false hides = absurd (false≢true (hides refl))
+    go false false true hides = omega arith
+    go false false false hides = omega arith
 
 -- The invariant of the loop over the rules: the taken rules, with the changing ones among `rest`, are all changing rules.
 pub record AreTaken (style : Style) (front old : List ℕ) (rest taken : List Rule) : Type 0 where

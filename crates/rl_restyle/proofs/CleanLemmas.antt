@@ -145,7 +145,7 @@ clean_sound t at body (w ∷ ws) r (after, skipped, is, place, more) (first, all
     (sound_token t w.token w.at after is first, clean_sound t (source_end w) after ws r more all)
 
 pub keeps_the_clean_source : KeepsTheCleanSource
-keeps_the_clean_source style choice t new edits r has = keeps_the_source_around_a_restyled_literal style choice t new edits r
+keeps_the_clean_source style choice t new r has = keeps_the_source_around_a_restyled_literal style choice t new r
     (clean_sound t r.are_cuts.at r.are_cuts.body r.cuts [] r.are_cuts.are_cuts (has r.cuts r.are_cuts))
 
 -- ---- lemmas about the text of a literal

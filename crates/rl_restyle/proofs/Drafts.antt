@@ -1,5 +1,5 @@
 -- Lemmas about a draft: a source of which the literals up to a position are rewritten.
-use Rattle.rl_syntax.proofs.Common.{◌≡◌, ℕ, ◌+◌, inl, inr, Ok, Err, Result, IfOk, map, string_bytes, List, [], ◌∷◌, ◌++◌, length, Option, Some, None, refl, not, ◌&&◌, Bool, false, true, sym, ◌∙◌, ap, subst, arith, append_assoc, append-nil, chars, chars-nil, IsUtf8, IsTrue}
+use Rattle.rl_syntax.proofs.Common.{◌≡◌, ℕ, ◌+◌, inl, inr, Ok, Err, Result, IfOk, string_bytes, List, [], ◌∷◌, ◌++◌, length, Option, Some, None, refl, not, ◌&&◌, Bool, false, true, sym, ◌∙◌, ap, subst, arith, append_assoc, append-nil, chars, chars-nil, IsUtf8, IsTrue}
 use Rattle.std.specs.Prelude.{◌⊎◌, ◌↔◌, OnOk}
 use Rattle.rl_syntax.specs.Texts.{IsTail, byte_len}
 use Rattle.rl_syntax.proofs.TailLemmas.{tail_step}
@@ -21,24 +21,21 @@ use Rattle.rl_style.specs.declared.style.Style.{Style}
 use Rattle.rl_style.proofs.Places.{same_place}
 use Rattle.rl_restyle.specs.Places.{IsTextBetween}
 use Rattle.rl_restyle.specs.Clean.{HasCleanTokens, IsCleanLiteral}
-use Rattle.rl_restyle.specs.Edits.{IsChosen, IsChosenLiteral, IsEditOf, IsOfKinds, IsRestyleError, IsRewritten, IsTextOf, Restyles, Seen, Surrounds, cut_bytes, edit_in, is_rewritable, nothing_seen, placed_edits, seen_after}
+use Rattle.rl_restyle.specs.Edits.{IsChosen, IsChosenLiteral, IsEditOf, IsOfKinds, IsRestyleError, IsRewritten, IsTextOf, Restyles, Seen, Surrounds, cut_bytes, is_rewritable, nothing_seen, seen_after}
 use Rattle.rl_restyle.specs.Mirrors.{AreCleanIf, IsDraft, IsNextIn, seen_all, seen_of}
 use Rattle.rl_restyle.specs.declared.edit.Choice.{Choice}
 use Rattle.rl_restyle.specs.declared.edit.Restyled.{Restyled}
 use Rattle.rl_restyle.specs.declared.edit.RestyleError.TheVariants.{Source}
 use Rattle.rl_restyle.proofs.CleanLemmas.{literal_clean, other_clean, whole_clean}
-use Rattle.rl_restyle.proofs.Pieces.{edited_longer, edited_more, edits_more, last_at, none_cut, placed_more, seen_more}
-
-abbrev Told : Type 0
-Told = List (ℕ × ℕ × List ℕ)
+use Rattle.rl_restyle.proofs.Pieces.{edited_longer, edited_more, edits_more, last_at, none_cut, seen_more}
 
 -- ---- lemmas about the start of the source
 
 pub draft_start : (style : Style) (choice : Choice) (text : List ℕ) (s : RestylableState) (at : ℕ) (out : List ℕ)
-    (edits : List (ℕ × ℕ × List ℕ)) (clean : Bool) → s.tokens.text ≡ text → IsCursorState text s.tokens.rest
+    (clean : Bool) → s.tokens.text ≡ text → IsCursorState text s.tokens.rest
     → IsCutUpTo (chars text) [] (chars s.tokens.rest) → s.last ≡ Other → s.end ≡ 0 → s.calls ≡ Outside → at ≡ 0
-    → out ≡ [] → edits ≡ [] → s.has_stray ≡ false → clean ≡ true → IsDraft style choice (chars text) s at out edits clean
-draft_start style choice text s at out edits clean same cursor cut last end calls begin none nothing no_stray yet =
+    → out ≡ [] → s.has_stray ≡ false → clean ≡ true → IsDraft style choice (chars text) s at out clean
+draft_start style choice text s at out clean same cursor cut last end calls begin none no_stray yet =
     let found = none_cut (chars text) (chars s.tokens.rest) cut in
     let seen : Last → ℕ → CallState → Seen = λ d e k. record { last = d; end = e; calls = k } in
     record {
@@ -56,14 +53,13 @@ draft_start style choice text s at out edits clean same cursor cut last end call
       text_is = found.1;
       at_is = begin;
       is_edited = append-nil out ∙ none;
-      edits_are = nothing;
       clean_is = (λ h. tt, λ h. (yet, no_stray));
     }
 
 -- ---- lemmas about the next token
 
-record Next (style : Style) (choice : Choice) (t : List ℕ) (s : RestylableState) (at : ℕ) (out : List ℕ) (edits : Told) (clean : Bool)
-    (d : IsDraft style choice t s at out edits clean) (w : CutSource) (tokens : CursorState) : Type 0 where
+record Next (style : Style) (choice : Choice) (t : List ℕ) (s : RestylableState) (at : ℕ) (out : List ℕ) (clean : Bool)
+    (d : IsDraft style choice t s at out clean) (w : CutSource) (tokens : CursorState) : Type 0 where
   later : List ℕ
   text_is : t ≡ ((d.front ++ d.tail) ++ d.gap) ++ (source_text w.token ++ (later ++ chars tokens.rest))
   place_is : w.at ≡ byte_len ((d.front ++ d.tail) ++ d.gap)
@@ -72,10 +68,10 @@ record Next (style : Style) (choice : Choice) (t : List ℕ) (s : RestylableStat
   cursor : IsCursorState tokens.text tokens.rest
   whole : chars tokens.text ≡ t
 
-next_token : (style : Style) (choice : Choice) (t : List ℕ) (s : RestylableState) (at : ℕ) (out : List ℕ) (edits : Told) (clean : Bool)
-    (d : IsDraft style choice t s at out edits clean) (token : SourceToken) (tokens : CursorState)
-    → (takes : TakesSource s.tokens token tokens) → Next style choice t s at out edits clean d takes.cut tokens
-next_token style choice t s at out edits clean d token tokens takes =
+next_token : (style : Style) (choice : Choice) (t : List ℕ) (s : RestylableState) (at : ℕ) (out : List ℕ) (clean : Bool)
+    (d : IsDraft style choice t s at out clean) (token : SourceToken) (tokens : CursorState)
+    → (takes : TakesSource s.tokens token tokens) → Next style choice t s at out clean d takes.cut tokens
+next_token style choice t s at out clean d token tokens takes =
     let w : CutSource = takes.cut in
     let r : List ℕ = chars s.tokens.rest in
     let before : List ℕ = (d.front ++ d.tail) ++ d.gap in
@@ -112,12 +108,12 @@ next_token style choice t s at out edits clean d token tokens takes =
     }
 
 -- A source consists of the text before the next token, the token, and the rest after it.
-surrounds : (style : Style) (choice : Choice) (t : List ℕ) (s : RestylableState) (at : ℕ) (out : List ℕ) (edits : Told) (clean : Bool)
-    (d : IsDraft style choice t s at out edits clean) (token : SourceToken) (tokens : CursorState)
+surrounds : (style : Style) (choice : Choice) (t : List ℕ) (s : RestylableState) (at : ℕ) (out : List ℕ) (clean : Bool)
+    (d : IsDraft style choice t s at out clean) (token : SourceToken) (tokens : CursorState)
     → (takes : TakesSource s.tokens token tokens)
     → Surrounds t takes.cut ((d.front ++ d.tail) ++ d.gap) (chars tokens.rest)
-surrounds style choice t s at out edits clean d token tokens takes =
-    let n = next_token style choice t s at out edits clean d token tokens takes in
+surrounds style choice t s at out clean d token tokens takes =
+    let n = next_token style choice t s at out clean d token tokens takes in
     record { after = n.later ++ chars tokens.rest; text_is = n.text_is; at_is = n.place_is; skips = n.skips }
 
 -- After one more token, the definitions and the cursor's state give the next token equal contexts.
@@ -135,23 +131,23 @@ seen_passed s token tokens w is =
     ∙ ap (λ n. seen view token.lo n (cut_bytes w)) is.hi_is
     ∙ ap (λ b. seen view token.lo token.hi b) is.bytes_are
 
-seen_next : (style : Style) (choice : Choice) (t : List ℕ) (s : RestylableState) (at : ℕ) (out : List ℕ) (edits : Told) (clean : Bool)
-    (d : IsDraft style choice t s at out edits clean) (token : SourceToken) (tokens : CursorState)
+seen_next : (style : Style) (choice : Choice) (t : List ℕ) (s : RestylableState) (at : ℕ) (out : List ℕ) (clean : Bool)
+    (d : IsDraft style choice t s at out clean) (token : SourceToken) (tokens : CursorState)
     → (takes : TakesSource s.tokens token tokens) → seen_all nothing_seen (d.cuts ++ takes.cut ∷ [])
     ≡ seen_of (passed s token tokens)
-seen_next style choice t s at out edits clean d token tokens takes = seen_more nothing_seen d.cuts takes.cut
+seen_next style choice t s at out clean d token tokens takes = seen_more nothing_seen d.cuts takes.cut
     ∙ ap (λ z. seen_after z takes.cut) d.seen_is ∙ seen_passed s token tokens takes.cut takes.is_cut
 
--- If a token stays unchanged, the new text and the edits of the draft stay unchanged.
-draft_past : (style : Style) (choice : Choice) (t : List ℕ) (s : RestylableState) (at : ℕ) (out : List ℕ) (edits : Told) (clean : Bool)
-    → (d : IsDraft style choice t s at out edits clean) → (token : SourceToken) (tokens : CursorState)
+-- If a token stays unchanged, the new text of the draft stays unchanged.
+draft_past : (style : Style) (choice : Choice) (t : List ℕ) (s : RestylableState) (at : ℕ) (out : List ℕ) (clean : Bool)
+    → (d : IsDraft style choice t s at out clean) → (token : SourceToken) (tokens : CursorState)
     → (takes : TakesSource s.tokens token tokens) → IsEditOf style choice t (seen_of s) takes.cut None → (now : Bool)
     → AreCleanIf t (d.cuts ++ takes.cut ∷ []) (passed s token tokens) now
-    → IsDraft style choice t (passed s token tokens) at out edits now
-draft_past style choice t s at out edits clean d token tokens takes is now clean_now =
+    → IsDraft style choice t (passed s token tokens) at out now
+draft_past style choice t s at out clean d token tokens takes is now clean_now =
     let w : CutSource = takes.cut in
     let x : List ℕ = source_text w.token in
-    let n = next_token style choice t s at out edits clean d token tokens takes in
+    let n = next_token style choice t s at out clean d token tokens takes in
     let more : IsEdited 0 ((d.front ++ d.tail) ++ (d.gap ++ x)) (d.cuts ++ w ∷ []) (d.texts ++ None ∷ [])
     ((out ++ d.tail) ++ (d.gap ++ x)) = edited_more 0 (d.front ++ d.tail) d.cuts d.texts (out ++ d.tail) d.gap w None
     d.is_edited (omega (arith, n.place_is)) in
@@ -165,7 +161,7 @@ draft_past style choice t s at out edits clean d token tokens takes is now clean
       are_cuts = n.cut;
       are_edits = edits_more style choice t nothing_seen d.cuts d.texts w None d.are_edits
           (subst (λ z. IsEditOf style choice t z w None) (sym d.seen_is) is);
-      seen_is = seen_next style choice t s at out edits clean d token tokens takes;
+      seen_is = seen_next style choice t s at out clean d token tokens takes;
       front = d.front;
       tail = d.tail ++ (d.gap ++ x);
       gap = n.later;
@@ -177,26 +173,22 @@ draft_past style choice t s at out edits clean d token tokens takes is now clean
           (append_assoc d.front d.tail (d.gap ++ x))
           (subst (λ z. IsEdited 0 ((d.front ++ d.tail) ++ (d.gap ++ x)) (d.cuts ++ w ∷ []) (d.texts ++ None ∷ []) z)
           (append_assoc out d.tail (d.gap ++ x)) more);
-      edits_are = d.edits_are ∙ sym (placed_more style choice t nothing_seen d.cuts d.texts w None d.are_edits
-          ∙ append-nil (placed_edits d.cuts d.texts));
       clean_is = clean_now;
     }
 
--- If a new text replaces a token, the draft then contains the new text and the edit.
-draft_put : (style : Style) (choice : Choice) (t : List ℕ) (s : RestylableState) (at : ℕ) (out : List ℕ) (edits : Told) (clean : Bool)
-    → (d : IsDraft style choice t s at out edits clean) → (token : SourceToken) (tokens : CursorState)
+-- If a new text replaces a token, the draft then contains the new text.
+draft_put : (style : Style) (choice : Choice) (t : List ℕ) (s : RestylableState) (at : ℕ) (out : List ℕ) (clean : Bool)
+    → (d : IsDraft style choice t s at out clean) → (token : SourceToken) (tokens : CursorState)
     → (takes : TakesSource s.tokens token tokens) (new : List ℕ)
-    → IsEditOf style choice t (seen_of s) takes.cut (Some new) → (later_at : ℕ) (longer : List ℕ) (told : Told)
+    → IsEditOf style choice t (seen_of s) takes.cut (Some new) → (later_at : ℕ) (longer : List ℕ)
     → later_at ≡ token.hi → longer ≡ out ++ ((d.tail ++ d.gap) ++ new)
-    → told ≡ edits ++ (token.lo, token.hi, new) ∷ [] → (now : Bool)
-    → AreCleanIf t (d.cuts ++ takes.cut ∷ []) (passed s token tokens) now
-    → IsDraft style choice t (passed s token tokens) later_at longer told now
-draft_put style choice t s at out edits clean d token tokens takes new is later_at longer told at_is out_is told_is now
-    clean_now =
+    → (now : Bool) → AreCleanIf t (d.cuts ++ takes.cut ∷ []) (passed s token tokens) now
+    → IsDraft style choice t (passed s token tokens) later_at longer now
+draft_put style choice t s at out clean d token tokens takes new is later_at longer at_is out_is now clean_now =
     let w : CutSource = takes.cut in
     let x : List ℕ = source_text w.token in
     let e : Option (List ℕ) = Some new in
-    let n = next_token style choice t s at out edits clean d token tokens takes in
+    let n = next_token style choice t s at out clean d token tokens takes in
     let more : IsEdited 0 ((d.front ++ d.tail) ++ (d.gap ++ x)) (d.cuts ++ w ∷ []) (d.texts ++ e ∷ [])
     ((out ++ d.tail) ++ (d.gap ++ new)) = edited_more 0 (d.front ++ d.tail) d.cuts d.texts (out ++ d.tail) d.gap w e
     d.is_edited (omega (arith, n.place_is)) in
@@ -205,8 +197,6 @@ draft_put style choice t s at out edits clean d token tokens takes new is later_
     ∙ sym (append-nil front) in
     let made : (out ++ d.tail) ++ (d.gap ++ new) ≡ longer ++ [] = append_assoc out d.tail (d.gap ++ new)
     ∙ ap (λ z. out ++ z) (sym (append_assoc d.tail d.gap new)) ∙ sym out_is ∙ sym (append-nil longer) in
-    let one : (lo hi : ℕ) → w.at ≡ lo → source_end w ≡ hi → (lo, hi, new) ∷ [] ≡ placed_edits (w ∷ []) (e ∷ []) =
-    λ lo hi f g. ap (λ z. (z, hi, new) ∷ []) (sym f) ∙ ap (λ z. (w.at, z, new) ∷ []) (sym g) in
     record {
       whole = n.whole;
       cursor = n.cursor;
@@ -215,7 +205,7 @@ draft_put style choice t s at out edits clean d token tokens takes new is later_
       are_cuts = n.cut;
       are_edits = edits_more style choice t nothing_seen d.cuts d.texts w e d.are_edits
           (subst (λ z. IsEditOf style choice t z w e) (sym d.seen_is) is);
-      seen_is = seen_next style choice t s at out edits clean d token tokens takes;
+      seen_is = seen_next style choice t s at out clean d token tokens takes;
       front = front;
       tail = [];
       gap = n.later;
@@ -232,9 +222,6 @@ draft_put style choice t s at out edits clean d token tokens takes new is later_
       is_edited = subst (λ z. IsEdited 0 z (d.cuts ++ w ∷ []) (d.texts ++ e ∷ []) (longer ++ [])) old
           (subst (λ z. IsEdited 0 ((d.front ++ d.tail) ++ (d.gap ++ x)) (d.cuts ++ w ∷ []) (d.texts ++ e ∷ []) z) made
           more);
-      edits_are = told_is ∙ ap (λ z. z ++ (token.lo, token.hi, new) ∷ []) d.edits_are
-          ∙ ap (λ z. placed_edits d.cuts d.texts ++ z) (one token.lo token.hi takes.is_cut.lo_is takes.is_cut.hi_is)
-          ∙ sym (placed_more style choice t nothing_seen d.cuts d.texts w e d.are_edits);
       clean_is = clean_now;
     }
 
@@ -242,11 +229,11 @@ draft_put style choice t s at out edits clean d token tokens takes new is later_
 
 -- The next literal of the cursor is `l`. The draft contains the new text of all tokens before it, and the cursor's state after it
 -- is `new`.
-record AtLiteral (style : Style) (choice : Choice) (t : List ℕ) (at : ℕ) (out : List ℕ) (edits : Told) (clean : Bool) (l : Restylable)
+record AtLiteral (style : Style) (choice : Choice) (t : List ℕ) (at : ℕ) (out : List ℕ) (clean : Bool) (l : Restylable)
     (new : RestylableState) : Type 0 where
   s : RestylableState
   tokens : CursorState
-  draft : IsDraft style choice t s at out edits clean
+  draft : IsDraft style choice t s at out clean
   takes : TakesSource s.tokens l.token tokens
   is_literal : IsLiteralOfSource l.token
   field_is : l.is_field ≡ is_field s.last l.token.text.now (chars tokens.rest)
@@ -265,21 +252,21 @@ cut_literal token w is h = subst (λ (k : SourceKind). IsLiteralText k (source_t
     (subst (λ z. IsLiteralText (source_view token.form) z) (sym is.chars_are) h)
 
 -- A token that isn't a literal has no edit.
-other_edit : (style : Style) (choice : Choice) (t : List ℕ) (s : RestylableState) (at : ℕ) (out : List ℕ) (edits : Told) (clean : Bool)
-    → IsDraft style choice t s at out edits clean → (token : SourceToken) (tokens : CursorState)
+other_edit : (style : Style) (choice : Choice) (t : List ℕ) (s : RestylableState) (at : ℕ) (out : List ℕ) (clean : Bool)
+    → IsDraft style choice t s at out clean → (token : SourceToken) (tokens : CursorState)
     → (takes : TakesSource s.tokens token tokens) → (IsLiteralOfSource token → ⊥)
     → IsEditOf style choice t (seen_of s) takes.cut None
-other_edit style choice t s at out edits clean d token tokens takes none = (
+other_edit style choice t s at out clean d token tokens takes none = (
   (d.front ++ d.tail) ++ d.gap,
   chars tokens.rest,
-  surrounds style choice t s at out edits clean d token tokens takes,
+  surrounds style choice t s at out clean d token tokens takes,
   inr (λ taken. none (told_literal token takes.cut takes.is_cut taken.0), refl),
 )
 
-to_literal : (style : Style) (choice : Choice) (t : List ℕ) (at : ℕ) (out : List ℕ) (edits : Told) (clean : Bool)
-    {old new : RestylableState} {l : Restylable} → IsDraft style choice t old at out edits clean → GivesLiteral old l new
-    → AtLiteral style choice t at out edits clean l new
-to_literal style choice t at out edits clean d (Here {s = s} {l = l} {tokens = tokens} takes is field inside) = record {
+to_literal : (style : Style) (choice : Choice) (t : List ℕ) (at : ℕ) (out : List ℕ) (clean : Bool)
+    {old new : RestylableState} {l : Restylable} → IsDraft style choice t old at out clean → GivesLiteral old l new
+    → AtLiteral style choice t at out clean l new
+to_literal style choice t at out clean d (Here {s = s} {l = l} {tokens = tokens} takes is field inside) = record {
   s = s;
   tokens = tokens;
   draft = d;
@@ -289,30 +276,30 @@ to_literal style choice t at out edits clean d (Here {s = s} {l = l} {tokens = t
   inside_is = inside;
   new_is = refl;
 }
-to_literal style choice t at out edits clean d (Behind {s = s} {token = token} {tokens = tokens} takes none g) =
-    to_literal style choice t at out edits clean
-    (draft_past style choice t s at out edits clean d token tokens takes
-    (other_edit style choice t s at out edits clean d token tokens takes none) clean
+to_literal style choice t at out clean d (Behind {s = s} {token = token} {tokens = tokens} takes none g) =
+    to_literal style choice t at out clean
+    (draft_past style choice t s at out clean d token tokens takes
+    (other_edit style choice t s at out clean d token tokens takes none) clean
     (other_clean t d.cuts takes.cut s token tokens clean takes.is_cut (λ is. none (told_literal token takes.cut takes.is_cut is))
     d.clean_is)) g
 
-pub to_none : (style : Style) (choice : Choice) (t : List ℕ) (at : ℕ) (out : List ℕ) (edits : List (ℕ × ℕ × List ℕ)) (clean : Bool)
-    {old new : RestylableState} → IsDraft style choice t old at out edits clean → GivesNone old new
-    → IsDraft style choice t new at out edits clean × BeginsNoSource (chars new.tokens.rest)
-to_none style choice t at out edits clean d (Stops none) = (d, none)
-to_none style choice t at out edits clean d (Passes {s = s} {token = token} {tokens = tokens} takes none g) =
-    to_none style choice t at out edits clean
-    (draft_past style choice t s at out edits clean d token tokens takes
-    (other_edit style choice t s at out edits clean d token tokens takes none) clean
+pub to_none : (style : Style) (choice : Choice) (t : List ℕ) (at : ℕ) (out : List ℕ) (clean : Bool)
+    {old new : RestylableState} → IsDraft style choice t old at out clean → GivesNone old new
+    → IsDraft style choice t new at out clean × BeginsNoSource (chars new.tokens.rest)
+to_none style choice t at out clean d (Stops none) = (d, none)
+to_none style choice t at out clean d (Passes {s = s} {token = token} {tokens = tokens} takes none g) =
+    to_none style choice t at out clean
+    (draft_past style choice t s at out clean d token tokens takes
+    (other_edit style choice t s at out clean d token tokens takes none) clean
     (other_clean t d.cuts takes.cut s token tokens clean takes.is_cut (λ is. none (told_literal token takes.cut takes.is_cut is))
     d.clean_is)) g
 
 -- The text before the byte offset of the next literal is the old text before that literal.
-literal_front : (style : Style) (choice : Choice) (t : List ℕ) (at : ℕ) (out : List ℕ) (edits : Told) (clean : Bool) (l : Restylable)
-    (new : RestylableState) → (a : AtLiteral style choice t at out edits clean l new)
+literal_front : (style : Style) (choice : Choice) (t : List ℕ) (at : ℕ) (out : List ℕ) (clean : Bool) (l : Restylable)
+    (new : RestylableState) → (a : AtLiteral style choice t at out clean l new)
     → IsTextBetween t 0 l.token.lo ((a.draft.front ++ a.draft.tail) ++ a.draft.gap)
-literal_front style choice t at out edits clean l new a =
-    let n = next_token style choice t a.s at out edits clean a.draft l.token a.tokens a.takes in
+literal_front style choice t at out clean l new a =
+    let n = next_token style choice t a.s at out clean a.draft l.token a.tokens a.takes in
     record {
       front = [];
       rest = source_text a.takes.cut.token ++ (n.later ++ chars a.tokens.rest);
@@ -322,11 +309,11 @@ literal_front style choice t at out edits clean l new a =
     }
 
 -- The part of the source between the last edit and the next literal is the text that the draft leaves unchanged.
-literal_middle : (style : Style) (choice : Choice) (t : List ℕ) (at : ℕ) (out : List ℕ) (edits : Told) (clean : Bool) (l : Restylable)
-    (new : RestylableState) → (a : AtLiteral style choice t at out edits clean l new)
+literal_middle : (style : Style) (choice : Choice) (t : List ℕ) (at : ℕ) (out : List ℕ) (clean : Bool) (l : Restylable)
+    (new : RestylableState) → (a : AtLiteral style choice t at out clean l new)
     → IsTextBetween t at l.token.lo (a.draft.tail ++ a.draft.gap)
-literal_middle style choice t at out edits clean l new a =
-    let n = next_token style choice t a.s at out edits clean a.draft l.token a.tokens a.takes in
+literal_middle style choice t at out clean l new a =
+    let n = next_token style choice t a.s at out clean a.draft l.token a.tokens a.takes in
     let rest : List ℕ = source_text a.takes.cut.token ++ (n.later ++ chars a.tokens.rest) in
     let same = append_assoc a.draft.front a.draft.tail a.draft.gap in
     record {
@@ -339,24 +326,24 @@ literal_middle style choice t at out edits clean l new a =
     }
 
 pub next_front : (style : Style) (choice : Choice) (t : List ℕ) (at : ℕ) (out : List ℕ)
-    (edits : List (ℕ × ℕ × List ℕ)) (clean : Bool) (l : Restylable) → IsNextIn style choice t l at out edits clean
+    (clean : Bool) (l : Restylable) → IsNextIn style choice t l at out clean
     → (front : List ℕ) × IsTextBetween t 0 l.token.lo front
-next_front style choice t at out edits clean l (old, new, d, g) =
-    let a = to_literal style choice t at out edits clean d g in
-    ((a.draft.front ++ a.draft.tail) ++ a.draft.gap, literal_front style choice t at out edits clean l new a)
+next_front style choice t at out clean l (old, new, d, g) =
+    let a = to_literal style choice t at out clean d g in
+    ((a.draft.front ++ a.draft.tail) ++ a.draft.gap, literal_front style choice t at out clean l new a)
 
 pub next_middle : (style : Style) (choice : Choice) (t : List ℕ) (at : ℕ) (out : List ℕ)
-    (edits : List (ℕ × ℕ × List ℕ)) (clean : Bool) (l : Restylable) → IsNextIn style choice t l at out edits clean
+    (clean : Bool) (l : Restylable) → IsNextIn style choice t l at out clean
     → (middle : List ℕ) × IsTextBetween t at l.token.lo middle
-next_middle style choice t at out edits clean l (old, new, d, g) =
-    let a = to_literal style choice t at out edits clean d g in
-    (a.draft.tail ++ a.draft.gap, literal_middle style choice t at out edits clean l new a)
+next_middle style choice t at out clean l (old, new, d, g) =
+    let a = to_literal style choice t at out clean d g in
+    (a.draft.tail ++ a.draft.gap, literal_middle style choice t at out clean l new a)
 
 -- The edit of a literal's token is the literal's new text, or no edit if the literal has no new text.
-edit_of : (style : Style) (choice : Choice) (t : List ℕ) (at : ℕ) (out : List ℕ) (edits : Told) (clean : Bool) (l : Restylable)
-    (new : RestylableState) (e : Option (List ℕ)) → (a : AtLiteral style choice t at out edits clean l new)
+edit_of : (style : Style) (choice : Choice) (t : List ℕ) (at : ℕ) (out : List ℕ) (clean : Bool) (l : Restylable)
+    (new : RestylableState) (e : Option (List ℕ)) → (a : AtLiteral style choice t at out clean l new)
     → IsTextOf style choice t l e → IsEditOf style choice t (seen_of a.s) a.takes.cut e
-edit_of style choice t at out edits clean l new e a is = go is
+edit_of style choice t at out clean l new e a is = go is
   where
     before : List ℕ
     before = (a.draft.front ++ a.draft.tail) ++ a.draft.gap
@@ -381,7 +368,7 @@ edit_of style choice t at out edits clean l new e a is = go is
     told taken = (same ∙ taken.1, subst (λ z. IsOfKinds choice.kinds z) a.takes.is_cut.chars_are taken.2)
 
     around : Surrounds t a.takes.cut before rest
-    around = surrounds style choice t a.s at out edits clean a.draft l.token a.tokens a.takes
+    around = surrounds style choice t a.s at out clean a.draft l.token a.tokens a.takes
 
     go : IsTextOf style choice t l e → IsEditOf style choice t (seen_of a.s) a.takes.cut e
     go (inl (taken, writes)) = (
@@ -391,7 +378,7 @@ edit_of style choice t at out edits clean l new e a is = go is
       inl (
         chosen taken,
         subst (λ z. IsRewritten style before z e) (sym a.takes.is_cut.chars_are)
-            (writes before (literal_front style choice t at out edits clean l new a)),
+            (writes before (literal_front style choice t at out clean l new a)),
       ),
     )
     go (inr (off, none)) = (before, rest, around, inr (λ taken. off (told taken), none))
@@ -400,35 +387,35 @@ edit_of style choice t at out edits clean l new e a is = go is
 abbrev pub IsCleanNow : List ℕ → Bool → Restylable → Bool → Type 0
 IsCleanNow t clean l now = IsTrue now ↔ (IsTrue clean × IsCleanLiteral t l.token.lo (chars l.token.text.now))
 
-clean_past : (style : Style) (choice : Choice) (t : List ℕ) (at : ℕ) (out : List ℕ) (edits : Told) (clean : Bool)
-    (l : Restylable) (new : RestylableState) → (a : AtLiteral style choice t at out edits clean l new) → (now : Bool)
+clean_past : (style : Style) (choice : Choice) (t : List ℕ) (at : ℕ) (out : List ℕ) (clean : Bool)
+    (l : Restylable) (new : RestylableState) → (a : AtLiteral style choice t at out clean l new) → (now : Bool)
     → IsCleanNow t clean l now → AreCleanIf t (a.draft.cuts ++ a.takes.cut ∷ []) (passed a.s l.token a.tokens) now
-clean_past style choice t at out edits clean l new a now is = literal_clean t a.draft.cuts a.takes.cut a.s l.token a.tokens
+clean_past style choice t at out clean l new a now is = literal_clean t a.draft.cuts a.takes.cut a.s l.token a.tokens
     clean now a.takes.is_cut (cut_literal l.token a.takes.cut a.takes.is_cut a.is_literal) is a.draft.clean_is
 
-pub put_none : (style : Style) (choice : Choice) (t : List ℕ) (at : ℕ) (out : List ℕ) (edits : List (ℕ × ℕ × List ℕ)) (clean : Bool)
+pub put_none : (style : Style) (choice : Choice) (t : List ℕ) (at : ℕ) (out : List ℕ) (clean : Bool)
     (l : Restylable) → IsTextOf style choice t l None → (now : Bool) → IsCleanNow t clean l now → (old new : RestylableState)
-    → IsDraft style choice t old at out edits clean → GivesLiteral old l new → IsDraft style choice t new at out edits now
-put_none style choice t at out edits clean l is now now_is old new d g =
-    let a = to_literal style choice t at out edits clean d g in
-    subst (λ (z : RestylableState). IsDraft style choice t z at out edits now) (sym a.new_is)
-    (draft_past style choice t a.s at out edits clean a.draft l.token a.tokens a.takes
-    (edit_of style choice t at out edits clean l new None a is) now (clean_past style choice t at out edits clean l new a now now_is))
+    → IsDraft style choice t old at out clean → GivesLiteral old l new → IsDraft style choice t new at out now
+put_none style choice t at out clean l is now now_is old new d g =
+    let a = to_literal style choice t at out clean d g in
+    subst (λ (z : RestylableState). IsDraft style choice t z at out now) (sym a.new_is)
+    (draft_past style choice t a.s at out clean a.draft l.token a.tokens a.takes
+    (edit_of style choice t at out clean l new None a is) now (clean_past style choice t at out clean l new a now now_is))
 
-pub put_some : (style : Style) (choice : Choice) (t : List ℕ) (at : ℕ) (out : List ℕ) (edits : List (ℕ × ℕ × List ℕ)) (clean : Bool)
-    (l : Restylable) (x : List ℕ) (later_at : ℕ) (longer : List ℕ) (told : List (ℕ × ℕ × List ℕ))
+pub put_some : (style : Style) (choice : Choice) (t : List ℕ) (at : ℕ) (out : List ℕ) (clean : Bool)
+    (l : Restylable) (x : List ℕ) (later_at : ℕ) (longer : List ℕ)
     → IsTextOf style choice t l (Some x)
     → ((middle : List ℕ) → IsTextBetween t at l.token.lo middle → longer ≡ out ++ (middle ++ x))
-    → later_at ≡ l.token.hi → told ≡ edits ++ (l.token.lo, l.token.hi, x) ∷ [] → (now : Bool) → IsCleanNow t clean l now
-    → (old new : RestylableState) → IsDraft style choice t old at out edits clean → GivesLiteral old l new
-    → IsDraft style choice t new later_at longer told now
-put_some style choice t at out edits clean l x later_at longer told is text at_is told_is now now_is old new d g =
-    let a = to_literal style choice t at out edits clean d g in
-    subst (λ (z : RestylableState). IsDraft style choice t z later_at longer told now) (sym a.new_is)
-    (draft_put style choice t a.s at out edits clean a.draft l.token a.tokens a.takes x
-    (edit_of style choice t at out edits clean l new (Some x) a is) later_at longer told at_is
-    (text (a.draft.tail ++ a.draft.gap) (literal_middle style choice t at out edits clean l new a)) told_is now
-    (clean_past style choice t at out edits clean l new a now now_is))
+    → later_at ≡ l.token.hi → (now : Bool) → IsCleanNow t clean l now
+    → (old new : RestylableState) → IsDraft style choice t old at out clean → GivesLiteral old l new
+    → IsDraft style choice t new later_at longer now
+put_some style choice t at out clean l x later_at longer is text at_is now now_is old new d g =
+    let a = to_literal style choice t at out clean d g in
+    subst (λ (z : RestylableState). IsDraft style choice t z later_at longer now) (sym a.new_is)
+    (draft_put style choice t a.s at out clean a.draft l.token a.tokens a.takes x
+    (edit_of style choice t at out clean l new (Some x) a is) later_at longer at_is
+    (text (a.draft.tail ++ a.draft.gap) (literal_middle style choice t at out clean l new a)) now
+    (clean_past style choice t at out clean l new a now now_is))
 
 -- ---- lemmas about the end of the source
 
@@ -440,17 +427,17 @@ none_left s none (inl e) = e
 none_left s none (inr (kind, after, is)) = absurd (none kind after is)
 
 rest_end : (style : Style) (choice : Choice) (text : List ℕ) (s : RestylableState) (at : ℕ) (out : List ℕ)
-    (edits : Told) (clean : Bool) → (d : IsDraft style choice (chars text) s at out edits clean) → s.tokens.rest ≡ []
+    (clean : Bool) → (d : IsDraft style choice (chars text) s at out clean) → s.tokens.rest ≡ []
     → chars text ≡ (d.front ++ d.tail) ++ d.gap
-rest_end style choice text s at out edits clean d none = d.text_is
+rest_end style choice text s at out clean d none = d.text_is
     ∙ ap (λ z. (d.front ++ d.tail) ++ (d.gap ++ z)) (ap chars none ∙ chars-nil)
     ∙ ap (λ z. (d.front ++ d.tail) ++ z) (append-nil d.gap)
 
 pub last_piece : (style : Style) (choice : Choice) (text : List ℕ) (s : RestylableState) (at : ℕ) (out : List ℕ)
-    (edits : List (ℕ × ℕ × List ℕ)) (clean : Bool) → IsUtf8 text → (d : IsDraft style choice (chars text) s at out edits clean)
+    (clean : Bool) → IsUtf8 text → (d : IsDraft style choice (chars text) s at out clean)
     → s.tokens.rest ≡ [] → IsTextBetween (chars text) at (length text) (d.tail ++ d.gap)
-last_piece style choice text s at out edits clean u d none =
-    let whole : chars text ≡ d.front ++ (d.tail ++ d.gap) = rest_end style choice text s at out edits clean d none
+last_piece style choice text s at out clean u d none =
+    let whole : chars text ≡ d.front ++ (d.tail ++ d.gap) = rest_end style choice text s at out clean d none
     ∙ append_assoc d.front d.tail d.gap in
     record {
       front = d.front;
@@ -461,14 +448,14 @@ last_piece style choice text s at out edits clean u d none =
     }
 
 pub all_restyled : (style : Style) (choice : Choice) (text : List ℕ) (s : RestylableState) (at : ℕ) (out new : List ℕ)
-    (edits told : List (ℕ × ℕ × List ℕ)) (clean : Bool) → IsUtf8 text → IsTrue (begins_with_code (chars text))
-    → IsDraft style choice (chars text) s at out edits clean → s.tokens.rest ≡ []
-    → ((rest : List ℕ) → IsTextBetween (chars text) at (length text) rest → new ≡ out ++ rest) → told ≡ edits
-    → Restyles style choice (chars text) new told
-all_restyled style choice text s at out new edits told clean u code d none text_is told_is =
-    let whole : chars text ≡ (d.front ++ d.tail) ++ d.gap = rest_end style choice text s at out edits clean d none in
+    (clean : Bool) → IsUtf8 text → IsTrue (begins_with_code (chars text))
+    → IsDraft style choice (chars text) s at out clean → s.tokens.rest ≡ []
+    → ((rest : List ℕ) → IsTextBetween (chars text) at (length text) rest → new ≡ out ++ rest)
+    → Restyles style choice (chars text) new
+all_restyled style choice text s at out new clean u code d none text_is =
+    let whole : chars text ≡ (d.front ++ d.tail) ++ d.gap = rest_end style choice text s at out clean d none in
     let made : new ≡ (out ++ d.tail) ++ d.gap = text_is (d.tail ++ d.gap)
-    (last_piece style choice text s at out edits clean u d none) ∙ sym (append_assoc out d.tail d.gap) in
+    (last_piece style choice text s at out clean u d none) ∙ sym (append_assoc out d.tail d.gap) in
     let more : IsEdited 0 ((d.front ++ d.tail) ++ d.gap) d.cuts d.texts ((out ++ d.tail) ++ d.gap) =
     edited_longer 0 (d.front ++ d.tail) d.cuts d.texts (out ++ d.tail) d.gap d.is_edited in
     record {
@@ -479,14 +466,13 @@ all_restyled style choice text s at out new edits told clean u code d none text_
       are_edits = d.are_edits;
       is_edited = subst (λ z. IsEdited 0 z d.cuts d.texts new) (sym whole)
           (subst (λ z. IsEdited 0 ((d.front ++ d.tail) ++ d.gap) d.cuts d.texts z) (sym made) more);
-      edits_are = told_is ∙ d.edits_are;
     }
 
 pub source_error : (style : Style) (choice : Choice) (text : List ℕ) (s : RestylableState) (at : ℕ) (out : List ℕ)
-    (edits : List (ℕ × ℕ × List ℕ)) (clean : Bool) (e : LexError) → IsTrue (begins_with_code (chars text))
-    → IsDraft style choice (chars text) s at out edits clean → SourceErrorAt e.kind (chars s.tokens.rest)
+    (clean : Bool) (e : LexError) → IsTrue (begins_with_code (chars text))
+    → IsDraft style choice (chars text) s at out clean → SourceErrorAt e.kind (chars s.tokens.rest)
     → e.at + length s.tokens.rest ≡ length s.tokens.text → IsRestyleError (chars text) (Source e)
-source_error style choice text s at out edits clean e code d is place = (
+source_error style choice text s at out clean e code d is place = (
   code,
   record {
     cuts = d.cuts;
@@ -506,36 +492,34 @@ source_error style choice text s at out edits clean e code d is place = (
 -- ---- lemmas about the results of function calls
 
 pub put_done : {X E : Type 0} (style : Style) (choice : Choice) (t : List ℕ) (at : ℕ) (out : List ℕ)
-    (edits : List (ℕ × ℕ × List ℕ)) (clean : Bool) (l : Restylable) (x : List ℕ) (later_at : ℕ) (longer : List ℕ)
-    (told : List (ℕ × ℕ × List ℕ)) (r : Result X E) → IsTextOf style choice t l (Some x)
+    (clean : Bool) (l : Restylable) (x : List ℕ) (later_at : ℕ) (longer : List ℕ)
+    (r : Result X E) → IsTextOf style choice t l (Some x)
     → OnOk r ((middle : List ℕ) → IsTextBetween t at l.token.lo middle → longer ≡ out ++ (middle ++ x))
-    → OnOk r (later_at ≡ l.token.hi) → OnOk r (told ≡ edits ++ (l.token.lo, l.token.hi, x) ∷ []) → (same now : Bool)
+    → OnOk r (later_at ≡ l.token.hi) → (same now : Bool)
     → OnOk r (now ≡ same) → IsCleanNow t clean l same
-    → OnOk r ((old new : RestylableState) → IsDraft style choice t old at out edits clean → GivesLiteral old l new
-    → IsDraft style choice t new later_at longer told now)
-put_done style choice t at out edits clean l x later_at longer told (Ok done) is text at_is told_is same now now_is same_is =
-    put_some style choice t at out edits clean l x later_at longer told is text at_is told_is now
+    → OnOk r ((old new : RestylableState) → IsDraft style choice t old at out clean → GivesLiteral old l new
+    → IsDraft style choice t new later_at longer now)
+put_done style choice t at out clean l x later_at longer (Ok done) is text at_is same now now_is same_is =
+    put_some style choice t at out clean l x later_at longer is text at_is now
     (subst (λ z. IsCleanNow t clean l z) (sym now_is) same_is)
-put_done style choice t at out edits clean l x later_at longer told (Err e) is text at_is told_is same now now_is same_is = tt
+put_done style choice t at out clean l x later_at longer (Err e) is text at_is same now now_is same_is = tt
 
 pub finished_whole : {A E : Type 0} (style : Style) (choice : Choice) (text : List ℕ) (s : RestylableState) (at : ℕ)
-    (out : List ℕ) (edits : List (ℕ × ℕ × List ℕ)) (clean : Bool) (r : Result (Restyled A) E) → IsUtf8 text
-    → IsTrue (begins_with_code (chars text)) → IsDraft style choice (chars text) s at out edits clean → s.tokens.rest ≡ []
+    (out : List ℕ) (clean : Bool) (r : Result (Restyled A) E) → IsUtf8 text
+    → IsTrue (begins_with_code (chars text)) → IsDraft style choice (chars text) s at out clean → s.tokens.rest ≡ []
     → IfOk r (λ x. (rest : List ℕ) → IsTextBetween (chars text) at (length text) rest
     → chars (string_bytes x.text) ≡ out ++ rest)
-    → IfOk r (λ x. map edit_in x.edits.items ≡ edits)
-    → IfOk r (λ x. Restyles style choice (chars text) (chars (string_bytes x.text)) (map edit_in x.edits.items))
-finished_whole style choice text s at out edits clean (Ok x) u code d none text_is told_is =
-    all_restyled style choice text s at out (chars (string_bytes x.text)) edits (map edit_in x.edits.items)
-    clean u code d none text_is told_is
-finished_whole style choice text s at out edits clean (Err e) u code d none text_is told_is = tt
+    → IfOk r (λ x. Restyles style choice (chars text) (chars (string_bytes x.text)))
+finished_whole style choice text s at out clean (Ok x) u code d none text_is =
+    all_restyled style choice text s at out (chars (string_bytes x.text)) clean u code d none text_is
+finished_whole style choice text s at out clean (Err e) u code d none text_is = tt
 
 pub finished_clean : {A E : Type 0} (style : Style) (choice : Choice) (text : List ℕ) (s : RestylableState) (at : ℕ)
-    (out : List ℕ) (edits : List (ℕ × ℕ × List ℕ)) (clean stray : Bool) (r : Result (Restyled A) E)
-    → IsDraft style choice (chars text) s at out edits clean → s.tokens.rest ≡ [] → stray ≡ s.has_stray
+    (out : List ℕ) (clean stray : Bool) (r : Result (Restyled A) E)
+    → IsDraft style choice (chars text) s at out clean → s.tokens.rest ≡ [] → stray ≡ s.has_stray
     → IfOk r (λ x. x.is_clean ≡ (clean && not stray)) → IfOk r (λ x. IsTrue x.is_clean ↔ HasCleanTokens (chars text))
-finished_clean style choice text s at out edits clean stray (Ok x) d none same is =
+finished_clean style choice text s at out clean stray (Ok x) d none same is =
     whole_clean (chars text) d.cuts s clean x.is_clean
     (subst (λ z. IsCutUpTo (chars text) d.cuts z) (ap chars none ∙ chars-nil) d.are_cuts) d.clean_is
     (is ∙ ap (λ b. clean && not b) same)
-finished_clean style choice text s at out edits clean stray (Err e) d none same is = tt
+finished_clean style choice text s at out clean stray (Err e) d none same is = tt

@@ -48,5 +48,5 @@ in_style style choice t seen (w ∷ ws) (Some new ∷ es) (first, sound)
     ((front, rest, around, inr (not_taken, none)), are) = absurd (none-some new (sym none))
 
 pub keeps_the_source_around_a_restyled_literal : KeepsTheWholeSource
-keeps_the_source_around_a_restyled_literal style choice t new edits r sound = keeps_the_edited_source style t r.cuts r.texts new []
+keeps_the_source_around_a_restyled_literal style choice t new r sound = keeps_the_edited_source style t r.cuts r.texts new []
     r.is_code r.are_cuts sound r.is_edited (in_style style choice t nothing_seen r.cuts r.texts sound r.are_edits)

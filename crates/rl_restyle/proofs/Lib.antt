@@ -6,7 +6,7 @@ pub mod KindLemmas
 pub mod CleanLemmas
 pub mod Drafts
 pub mod KeptCuts
-pub mod EditPlaces
 pub mod OneText
+pub mod SameTokens
 pub mod Theorems
 pub mod ChangingLemmas

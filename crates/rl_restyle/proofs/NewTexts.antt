@@ -1,5 +1,5 @@
 -- Lemmas about the new text of a literal, as the code creates it.
-use Rattle.rl_syntax.proofs.Common.{◌≡◌, ◌≢◌, ◌++◌, inl, length, take, drop, take-append_seam, chars-append, List, Ok, Err, Option, Result, Some, None, ℕ, sym, ◌∙◌, ap, subst, chars, encode_utf8_all, encodes-chars, string_bytes, IsUtf8, IfNone, IfOk, IfSome}
+use Rattle.rl_syntax.proofs.Common.{◌≡◌, ◌≢◌, ◌++◌, inl, chars-append, List, Ok, Err, Option, Result, Some, None, ℕ, sym, ◌∙◌, ap, subst, chars, encode_utf8_all, encodes-chars, string_bytes, IsUtf8, IfNone, IfOk, IfSome}
 use Rattle.std.specs.Prelude.{String}
 use Rattle.rl_strict.specs.StrictShapes.{IsToken}
 use Rattle.rl_strict.specs.StrictFlaws.{ExplainsStrictly}
@@ -30,12 +30,6 @@ no_other style front text flaw is new rewrites =
     } in
     absurd (is.no_token token)
 
--- If a vector is shortened to the number of bytes that were written into it, its items are the written bytes.
-pub all_items : (n : ℕ) (written items whole : List ℕ) → whole ≡ take n (written ++ drop (length written) items)
-    → length written ≡ n → whole ≡ written
-all_items n written items whole is long = is ∙ ap (λ z. take z (written ++ drop (length written) items)) (sym long)
-    ∙ take-append_seam written (drop (length written) items)
-
 -- Suppose that a literal may be rewritten, and that `before` is the source before the literal. If the code rewrites the
 -- literal after the text `before`, the result is the literal's new text in the source.
 pub literal_text : {A E : Type 0} (style : Style) (choice : Choice) (source : List ℕ) (l : Restylable)
@@ -56,14 +50,21 @@ piece_after old piece new middle u is same = ap chars is ∙ chars-append old pi
 
 -- If the code returns the written text of a literal, or `None` if it equals the old text, the result is the literal's
 -- new text.
-pub text_made : {A E : Type 0} (style : Style) (front old written : List ℕ) (made : Result (Option (String A)) E)
-    → Rewrites style front old written → IfOk made (λ m. IfNone m (written ≡ old))
-    → IfOk made (λ m. IfSome m (λ s. chars (string_bytes s) ≡ written))
-    → IfOk made (λ m. IfSome m (λ s. written ≢ old)) → IfOk made (λ m. IsRewritten style front old (text_in m))
-text_made style front old written (Err e) rewrites same other differs = tt
-text_made style front old written (Ok None) rewrites same other differs =
+pub text_made : {A : Type 0} (style : Style) (front old written : List ℕ) (made : Option (String A))
+    → Rewrites style front old written → IfNone made (written ≡ old)
+    → IfSome made (λ s. chars (string_bytes s) ≡ written) → IfSome made (λ s. written ≢ old)
+    → IsRewritten style front old (text_in made)
+text_made style front old written None rewrites same other differs =
     λ new h. one_answer style front old new written h rewrites ∙ same
-text_made style front old written (Ok (Some s)) rewrites same other differs = (
+text_made style front old written (Some s) rewrites same other differs = (
   subst (Rewrites style front old) (sym other) rewrites,
   λ is. differs (sym other ∙ is),
 )
+
+pub text_copied : {A E : Type 0} (style : Style) (front old written : List ℕ) (made : Result (Option (String A)) E)
+    → Rewrites style front old written → IfOk made (λ m. IfNone m (written ≡ old))
+    → IfOk made (λ m. IfSome m (λ s. chars (string_bytes s) ≡ written))
+    → IfOk made (λ m. IfSome m (λ s. written ≢ old)) → IfOk made (λ m. IsRewritten style front old (text_in m))
+text_copied style front old written (Err e) rewrites same other differs = tt
+text_copied style front old written (Ok m) rewrites same other differs =
+    text_made style front old written m rewrites same other differs

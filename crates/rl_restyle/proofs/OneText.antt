@@ -15,7 +15,7 @@ use Rattle.rl_style.specs.declared.style.Style.{Style}
 use Rattle.rl_style.proofs.OneAnswer.{one_answer}
 use Rattle.rl_style.proofs.Places.{same_place}
 use Rattle.rl_style.proofs.Recut.{IsFull, lexeme_full}
-use Rattle.rl_restyle.specs.Edits.{AreEdits, HasOneText, IsChosen, IsEditOf, IsOfKinds, IsRewritten, Seen, Surrounds, is_rewritable, nothing_seen, placed_edits, seen_after}
+use Rattle.rl_restyle.specs.Edits.{AreEdits, HasOneText, IsChosen, IsEditOf, IsOfKinds, IsRewritten, Seen, Surrounds, is_rewritable, nothing_seen, seen_after}
 use Rattle.rl_restyle.specs.declared.edit.Choice.{Choice}
 
 -- ---- lemmas: the end of the source begins with no token
@@ -166,26 +166,13 @@ same_new at t (v ∷ vs) (w ∷ ws) (x ∷ es) new other e (gap, after, new_afte
     ∙ ap (λ z. space ++ (z ++ new_after)) (edited_alike x v.token w.token piece)
     ∙ ap (λ z. space ++ (edited_text x w.token ++ z)) ends ∙ sym other_is
 
-same_placed : (vs ws : List CutSource) (es : List (Option (List ℕ))) → map told vs ≡ map told ws
-    → placed_edits vs es ≡ placed_edits ws es
-same_placed [] [] es e = refl
-same_placed [] (w ∷ ws) es e = absurd (cc)
-same_placed (v ∷ vs) [] es e = absurd (cc)
-same_placed (v ∷ vs) (w ∷ ws) [] e = refl
-same_placed (v ∷ vs) (w ∷ ws) (None ∷ es) e = same_placed vs ws es (cc)
-same_placed (v ∷ vs) (w ∷ ws) (Some x ∷ es) e =
-    let first : told v ≡ told w = cc in
-    let later : map told vs ≡ map told ws = cc in
-    ap (λ (p : Token). (p.2, end_of p, x) ∷ placed_edits vs es) first
-    ∙ ap (λ z. (w.at, source_end w, x) ∷ z) (same_placed vs ws es later)
-
 pub has_one_text : HasOneText
-has_one_text style choice t new other edits told_edits r s =
+has_one_text style choice t new other r s =
     let same : map told r.cuts ≡ map told s.cuts = (one_lexing t r.cuts s.cuts [] [] r.are_cuts none_at_end s.are_cuts
     none_at_end).0 in
     let texts : r.texts ≡ s.texts = same_texts style choice t nothing_seen r.cuts s.cuts r.texts s.texts same
     r.are_edits s.are_edits in (
       same_new 0 t r.cuts s.cuts s.texts new other same
           (subst (λ z. IsEdited 0 t r.cuts z new) texts r.is_edited) s.is_edited,
-      r.edits_are ∙ ap (placed_edits r.cuts) texts ∙ same_placed r.cuts s.cuts s.texts same ∙ sym s.edits_are,
+      texts,
     )

@@ -6,7 +6,7 @@ use Rattle.rl_lexer.specs.Sources.{CutSource, IsCutUpTo, IsWithoutLine, IsWithou
 use Rattle.rl_lexer.proofs.CutLemmas.{byte_len-append}
 use Rattle.rl_style.specs.Restyled.{IsEdited, edited_text}
 use Rattle.rl_style.specs.declared.style.Style.{Style}
-use Rattle.rl_restyle.specs.Edits.{AreEdits, IsEditOf, Seen, placed_edits, seen_after}
+use Rattle.rl_restyle.specs.Edits.{AreEdits, IsEditOf, Seen, seen_after}
 use Rattle.rl_restyle.specs.Mirrors.{seen_all}
 use Rattle.rl_restyle.specs.declared.edit.Choice.{Choice}
 
@@ -190,14 +190,3 @@ pub seen_more : (seen : Seen) (ws : List CutSource) (w : CutSource) → seen_all
     ≡ seen_after (seen_all seen ws) w
 seen_more seen [] w = refl
 seen_more seen (v ∷ ws) w = seen_more (seen_after seen v) ws w
-
-pub placed_more : (style : Style) (choice : Choice) (t : List ℕ) (seen : Seen) (ws : List CutSource)
-    (es : List (Option (List ℕ))) (w : CutSource) (e : Option (List ℕ)) → AreEdits style choice t seen ws es
-    → placed_edits (ws ++ w ∷ []) (es ++ e ∷ []) ≡ placed_edits ws es ++ placed_edits (w ∷ []) (e ∷ [])
-placed_more style choice t seen [] [] w e are = refl
-placed_more style choice t seen [] (d ∷ es) w e are = absurd are
-placed_more style choice t seen (v ∷ ws) [] w e are = absurd are
-placed_more style choice t seen (v ∷ ws) (None ∷ es) w e (first, are) =
-    placed_more style choice t (seen_after seen v) ws es w e are
-placed_more style choice t seen (v ∷ ws) (Some new ∷ es) w e (first, are) = ap (λ z. (v.at, source_end v, new) ∷ z)
-    (placed_more style choice t (seen_after seen v) ws es w e are)

@@ -43,5 +43,5 @@ HasCleanTokens t = (cuts : List CutSource) → IsCutUpTo t cuts [] → AllByRecu
 -- A theorem: if the tokens of a source have no errors, the rewritten source is lexed as before, except for the edits.
 abbrev pub KeepsTheCleanSource : Type 0
 KeepsTheCleanSource =
-    (style : Style) (choice : Choice) (t new : List ℕ) (edits : List (ℕ × ℕ × List ℕ))
-    → (r : Restyles style choice t new edits) → HasCleanTokens t → IsEditedSource new r.cuts r.texts []
+    (style : Style) (choice : Choice) (t new : List ℕ)
+    → (r : Restyles style choice t new) → HasCleanTokens t → IsEditedSource new r.cuts r.texts []

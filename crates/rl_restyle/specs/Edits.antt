@@ -20,7 +20,6 @@ use Rattle.rl_style.specs.declared.restylable.Restylable.{Restylable}
 use Rattle.rl_style.specs.declared.style.Style.{Style}
 use Rattle.rl_restyle.specs.Places.{IsTextBetween}
 use Rattle.rl_restyle.specs.declared.edit.Choice.{Choice}
-use Rattle.rl_restyle.specs.declared.edit.Edit.{Edit}
 use Rattle.rl_restyle.specs.declared.edit.Macros.{Macros}
 use Rattle.rl_restyle.specs.declared.edit.Macros.TheVariants.{Skip, All}
 use Rattle.rl_restyle.specs.declared.edit.RestyleError.{RestyleError}
@@ -95,25 +94,17 @@ AreEdits style choice t seen (w ∷ ws) (e ∷ es) =
     IsEditOf style choice t seen w e × AreEdits style choice t (seen_after seen w) ws es
 AreEdits style choice t seen _ _ = ⊥
 
--- The edits of a source: the new texts of tokens, each with the byte offsets in the old text where its token begins and
--- ends.
-abbrev pub placed_edits : List CutSource → List (Option (List ℕ)) → List (ℕ × ℕ × List ℕ)
-placed_edits (w ∷ ws) (Some new ∷ es) = (w.at, source_end w, new) ∷ placed_edits ws es
-placed_edits (w ∷ ws) (None ∷ es) = placed_edits ws es
-placed_edits _ _ = []
-
 -- ---- a rewritten source
 
--- The text `new` is the source `t` rewritten in a style, and `edits` are the changed literals. The source is lexed to
--- its end, and `new` consists of the old tokens, each with its text in the style.
-pub record Restyles (style : Style) (choice : Choice) (t new : List ℕ) (edits : List (ℕ × ℕ × List ℕ)) : Type 0 where
+-- The text `new` is the source `t` rewritten in a style. The source is lexed to its end, and `new` consists of the old tokens,
+-- each with its text in the style. `texts` has the new text of each token that is changed.
+pub record Restyles (style : Style) (choice : Choice) (t new : List ℕ) : Type 0 where
   pub is_code : IsTrue (begins_with_code t)
   pub cuts : List CutSource
   pub texts : List (Option (List ℕ))
   pub are_cuts : IsCutUpTo t cuts []
   pub are_edits : AreEdits style choice t nothing_seen cuts texts
   pub is_edited : IsEdited 0 t cuts texts new
-  pub edits_are : edits ≡ placed_edits cuts texts
 
 -- The reason why a source isn't rewritten.
 abbrev pub IsRestyleError : List ℕ → RestyleError → Type 0
@@ -121,10 +112,7 @@ IsRestyleError t Script = IsFalse (begins_with_code t)
 IsRestyleError t (Source e) = IsTrue (begins_with_code t) × SourceError t e.kind e.at
 IsRestyleError t Memory = ⊤
 
--- ---- the edits, as values of the code
-
-abbrev pub edit_in : {A : Type 0} → Edit A → ℕ × ℕ × List ℕ
-edit_in edit = (edit.lo, edit.hi, chars (string_bytes edit.text))
+-- ---- literals, as values of the code
 
 abbrev pub text_in : {A : Type 0} → Option (String A) → Option (List ℕ)
 text_in new = option_map (λ s. chars (string_bytes s)) new
@@ -148,11 +136,11 @@ IsTextOf style choice source l e =
 -- stray characters.
 abbrev pub KeepsTheWholeSource : Type 0
 KeepsTheWholeSource =
-    (style : Style) (choice : Choice) (t new : List ℕ) (edits : List (ℕ × ℕ × List ℕ))
-    → (r : Restyles style choice t new edits) → AllByRecursion IsSound r.cuts → IsEditedSource new r.cuts r.texts []
+    (style : Style) (choice : Choice) (t new : List ℕ) → (r : Restyles style choice t new)
+    → AllByRecursion IsSound r.cuts → IsEditedSource new r.cuts r.texts []
 
--- A theorem: a source has exactly one new text and one list of edits in a style.
+-- A theorem: a source has exactly one new text in a style, and each of its tokens has exactly one new text.
 abbrev pub HasOneText : Type 0
 HasOneText =
-    (style : Style) (choice : Choice) (t new other : List ℕ) (edits others : List (ℕ × ℕ × List ℕ))
-    → Restyles style choice t new edits → Restyles style choice t other others → (new ≡ other) × (edits ≡ others)
+    (style : Style) (choice : Choice) (t new other : List ℕ) → (r : Restyles style choice t new)
+    → (s : Restyles style choice t other) → (new ≡ other) × (r.texts ≡ s.texts)

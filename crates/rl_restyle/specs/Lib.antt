@@ -7,3 +7,4 @@ pub mod Edits
 pub mod Clean
 pub mod Mirrors
 pub mod Changing
+pub mod SameTokens

@@ -10,7 +10,7 @@ use Rattle.rl_style.specs.Restyled.{IsEdited}
 use Rattle.rl_style.specs.declared.restylable.Restylable.{Restylable}
 use Rattle.rl_style.specs.declared.style.Style.{Style}
 use Rattle.rl_restyle.specs.Clean.{IsClean}
-use Rattle.rl_restyle.specs.Edits.{AreEdits, Seen, nothing_seen, placed_edits, seen_after}
+use Rattle.rl_restyle.specs.Edits.{AreEdits, Seen, nothing_seen, seen_after}
 use Rattle.rl_restyle.specs.declared.edit.Choice.{Choice}
 
 abbrev pub seen_all : Seen → List CutSource → Seen
@@ -28,7 +28,7 @@ AreCleanIf t cuts s clean = (IsTrue clean × (s.has_stray ≡ false)) ↔ AllByR
 -- before the byte offset `at`. The old text from `at` up to the last lexed token stays unchanged. `clean` is true if all literals
 -- so far are without errors.
 pub record IsDraft (style : Style) (choice : Choice) (t : List ℕ) (s : RestylableState) (at : ℕ) (out : List ℕ)
-    (edits : List (ℕ × ℕ × List ℕ)) (clean : Bool) : Type 0 where
+    (clean : Bool) : Type 0 where
   pub whole : chars s.tokens.text ≡ t
   pub cursor : IsCursorState s.tokens.text s.tokens.rest
   pub cuts : List CutSource
@@ -42,11 +42,9 @@ pub record IsDraft (style : Style) (choice : Choice) (t : List ℕ) (s : Restyla
   pub text_is : t ≡ (front ++ tail) ++ (gap ++ chars s.tokens.rest)
   pub at_is : at ≡ byte_len front
   pub is_edited : IsEdited 0 (front ++ tail) cuts texts (out ++ tail)
-  pub edits_are : edits ≡ placed_edits cuts texts
   pub clean_is : AreCleanIf t cuts s clean
 
 -- The literal is the next one after a partly rewritten source.
-abbrev pub IsNextIn : Style → Choice → List ℕ → Restylable → ℕ → List ℕ → List (ℕ × ℕ × List ℕ) → Bool
-    → Type 0
-IsNextIn style choice t l at out edits clean =
-    (old new : RestylableState) × IsDraft style choice t old at out edits clean × GivesLiteral old l new
+abbrev pub IsNextIn : Style → Choice → List ℕ → Restylable → ℕ → List ℕ → Bool → Type 0
+IsNextIn style choice t l at out clean =
+    (old new : RestylableState) × IsDraft style choice t old at out clean × GivesLiteral old l new

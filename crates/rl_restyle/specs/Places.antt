@@ -1,5 +1,5 @@
 -- Byte offsets in a text, which is a list of characters.
-use Rattle.std.specs.Prelude.{◌≡◌, ℕ, List, [], ◌∷◌, ◌++◌, ⊤}
+use Rattle.std.specs.Prelude.{◌≡◌, ℕ, List, ◌++◌}
 use Rattle.rl_syntax.specs.Texts.{byte_len}
 
 -- `middle` is the text between the byte offsets `lo` and `hi`.
@@ -9,8 +9,3 @@ pub record IsTextBetween (text : List ℕ) (lo hi : ℕ) (middle : List ℕ) : T
   pub text_is : text ≡ front ++ (middle ++ rest)
   pub lo_is : lo ≡ byte_len front
   pub hi_is : hi ≡ byte_len (front ++ middle)
-
--- Each edit's range is in the text: its offsets are between characters, the first one not above the second one.
-abbrev pub AreEditsIn : List ℕ → List (ℕ × ℕ × List ℕ) → Type 0
-AreEditsIn text [] = ⊤
-AreEditsIn text ((lo, hi, new) ∷ edits) = ((old : List ℕ) × IsTextBetween text lo hi old) × AreEditsIn text edits

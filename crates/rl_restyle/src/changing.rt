@@ -1,12 +1,13 @@
 //! Finds the rules of a style that change a literal.
 
-ghost use Rattle.std.specs.Prelude.{◌≡◌, IfOk, OnOk, option_map};
+ghost use Rattle.std.specs.Prelude.{◌≡◌, ◌≤◌, ◌+◌, ◌*◌, IfOk, MatchBool, OnOk, length, option_map};
 ghost use Rattle.std.specs.Str.{chars};
-ghost use Rattle.rl_restyle.specs.Changing.{AreChangingRules, TakesRule, is_set as set_in, own_groups as groups_of, rule_alone as alone, style_rule as rule_in_style};
+ghost use Rattle.rl_style.specs.Rewriting.{room_for};
+ghost use Rattle.rl_restyle.specs.Changing.{AreChangingRules, ChangesAlone, TakesRule, is_set as set_in, own_groups as groups_of, rule_alone as alone, style_rule as rule_in_style};
 
 use crate::rule::{Rule, settable_rules};
-use crate::texts::new_text;
-use rl_style::{DigitGroups, Rule as StyleRule, Style};
+use crate::texts::{SHORT, buffer_len};
+use rl_style::{DigitGroups, Rule as StyleRule, Style, is_changed_by_style};
 use std::alloc::{AllocError, Allocator};
 
 /// Returns the rule of a style that a rule of a configuration sets, or sets a part of.
@@ -119,26 +120,60 @@ fn is_set(style: Style, rule: Rule) -> bool
     }
 }
 
-/// Appends the rule if it alone changes the literal `text`, with its value in the style. `front` is the text before the literal.
-fn push_if_changing<A: Allocator + Copy>(
-    alloc: A,
+/// Whether the rule alone changes the literal `text`, with its value in the style. `front` is the text before the literal, and
+/// `out` a buffer.
+fn is_changed_alone(style: Style, rule: Rule, front: &str, text: &str, out: &mut [u8]) -> bool
+    requires { room_for style text.now ≤ length out.old }
+    ensures { MatchBool result (ChangesAlone style (chars front.now) (chars text.now) rule)
+        (ChangesAlone style (chars front.now) (chars text.now) rule → ⊥) }
+{
+    match is_changed_by_style(front, text, rule_alone(style, rule), out) {
+        Ok(is_changed) => is_changed,
+        Err(_) => false,
+    }
+}
+
+/// Appends the rule if it alone changes the literal `text`, with its value in the style. `front` is the text before the literal,
+/// and `out` a buffer.
+fn push_if_changing<A: Allocator>(
     rules: &mut Vec<Rule, A>,
     style: Style,
     rule: Rule,
     front: &str,
     text: &str,
+    out: &mut [u8],
 ) -> Result<(), AllocError>
+    requires { room_for style text.now ≤ length out.old }
     ensures { OnOk result (TakesRule style (chars front.now) (chars text.now) rule rules.old.items rules.new.items) }
 {
     if !is_set(style, rule) {
         return Ok(());
     }
-    let made = new_text(alloc, rule_alone(style, rule), front, text)?;
-    if made.is_none() {
+    if !is_changed_alone(style, rule, front, text, out) {
         return Ok(());
     }
     rules.push(rule)?;
     Ok(())
+}
+
+/// Returns the rules each of which alone changes the literal `text`, with its value in the style. `out` is a buffer.
+fn changing_rules_in<A: Allocator>(
+    alloc: A,
+    style: Style,
+    front: &str,
+    text: &str,
+    out: &mut [u8],
+) -> Result<Vec<Rule, A>, AllocError>
+    requires { room_for style text.now ≤ length out.old }
+    ensures { IfOk result (λ rules. AreChangingRules style (chars front.now) (chars text.now) rules.items) }
+{
+    let mut rules = Vec::new(alloc);
+    let mut rest = settable_rules();
+    while let Some((rule, after)) = rest.split_first() {
+        push_if_changing(&mut rules, style, *rule, front, text, out)?;
+        rest = after;
+    }
+    Ok(rules)
 }
 
 /// Returns the rules each of which alone changes the literal `text`, with its value in the style. The rules are in the order of
@@ -157,11 +192,10 @@ pub fn changing_rules<A: Allocator + Copy>(
 ) -> Result<Vec<Rule, A>, AllocError>
     ensures { IfOk result (λ rules. AreChangingRules style (chars front.now) (chars text.now) rules.items) }
 {
-    let mut rules = Vec::new(alloc);
-    let mut rest = settable_rules();
-    while let Some((rule, after)) = rest.split_first() {
-        push_if_changing(alloc, &mut rules, style, *rule, front, text)?;
-        rest = after;
+    let room = buffer_len(style, text)?;
+    if room <= SHORT {
+        return changing_rules_in(alloc, style, front, text, &mut [0; SHORT]);
     }
-    Ok(rules)
+    let mut bytes = vec![in alloc; 0; room]?;
+    changing_rules_in(alloc, style, front, text, bytes.as_mut_slice())
 }

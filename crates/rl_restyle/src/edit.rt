@@ -1,4 +1,4 @@
-//! The edits that rewrite a source, and the reasons why a source isn't rewritten.
+//! A rewritten source, the choice of its literals, and the reasons why a source isn't rewritten.
 
 use rl_lexer::LexError;
 use rl_syntax::Kind;
@@ -24,24 +24,11 @@ pub struct Choice<'a> {
     pub kinds: Option<&'a [Option<Kind>]>,
 }
 
-/// The change of one literal in a source.
-#[derive(Drop)]
-pub struct Edit<A: Allocator = Global> {
-    /// The byte offset in the old text where the literal begins.
-    pub lo: usize,
-    /// The byte offset in the old text after the literal.
-    pub hi: usize,
-    /// The new text of the literal.
-    pub text: String<A>,
-}
-
-/// A rewritten source: its new text, and the edits.
+/// A rewritten source.
 #[derive(Drop)]
 pub struct Restyled<A: Allocator = Global> {
     /// The new text of the whole source.
     pub text: String<A>,
-    /// The changes of literals, with byte offsets in the old text, in ascending order.
-    pub edits: Vec<Edit<A>, A>,
     /// `true` if the old text has none of these: a stray character, which begins no token (for example `€`), a literal that Rust's
     /// grammar doesn't accept, and a literal directly after an ASCII letter, an ASCII digit, `_` or `#`, such as `f"x"`. Some of
     /// these are errors from Rust 2021 on.

@@ -1,4 +1,4 @@
-//! Rewrites all literals of a source by a style, and returns the edits and the new text. Parses styles from configurations too.
+//! Rewrites all literals of a source by a style. Parses styles from configurations too.
 #![tactic(auto)]
 
 mod changing;
@@ -16,7 +16,7 @@ mod values;
 mod whole;
 
 pub use crate::changing::changing_rules;
-pub use crate::edit::{Choice, Edit, Macros, RestyleError, Restyled};
+pub use crate::edit::{Choice, Macros, RestyleError, Restyled};
 pub use crate::rule::{RULES, Rule, number_of, settable_rules};
 pub use crate::slices::between;
 pub use crate::style_error::{Expected, StyleError, StyleErrorKind};

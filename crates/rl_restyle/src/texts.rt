@@ -1,23 +1,28 @@
 //! Creates the new text of a literal in a style.
 
-ghost use Rattle.std.specs.Prelude.{◌≡◌, ◌≢◌, ◌+◌, ◌*◌, ℕ, List, length, string_bytes, IfNone, IfOk, IfSome, MatchBool};
+ghost use Rattle.std.specs.Prelude.{◌≡◌, ◌≢◌, ◌≤◌, ◌+◌, ◌*◌, ℕ, List, length, string_bytes, IfNone, IfOk, IfSome, MatchBool};
 ghost use Rattle.std.specs.Str.{chars};
 ghost use Rattle.rl_syntax.specs.Reading.{IsReadAs};
+ghost use Rattle.rl_style.specs.Rewriting.{room_for};
 ghost use Rattle.rl_restyle.specs.Places.{IsTextBetween};
 ghost use Rattle.rl_restyle.specs.Edits.{IsChosenLiteral, IsOfKinds, IsRewritten, IsTextOf, is_rewritable as rewritable, text_in};
 
 use crate::edit::{Choice, Macros};
 use crate::slices::between;
 use rl_lenient::parse_literal;
-use rl_style::{Restylable, Style, rewrite_into};
+use rl_style::{Restylable, Style, growth, rewrite_within};
 use rl_syntax::Kind;
 use std::alloc::{AllocError, Allocator};
 
-/// Returns the size in bytes of the buffer that [`rewrite_into`] needs for a literal with the text `text`.
-fn buffer_len(text: &str) -> Result<usize, AllocError>
-    ensures { IfOk result (λ n. n ≡ 4 * length text.now + 1) }
+/// The size in bytes of the buffer for the new text of a short literal.
+pub(crate) const SHORT: usize = 256;
+
+/// Returns the size in bytes of the buffer that [`rewrite_within`] needs for a literal with the text `text`.
+#[tactic(auto, unfolding(rl_style::specs::Rewriting::room_for))]
+pub(crate) fn buffer_len(style: Style, text: &str) -> Result<usize, AllocError>
+    ensures { IfOk result (λ n. n ≡ room_for style text.now) }
 {
-    let Some(most) = text.len().checked_mul(4) else {
+    let Some(most) = text.len().checked_mul(growth(style, text)) else {
         return Err(AllocError);
     };
     match most.checked_add(1) {
@@ -41,7 +46,52 @@ fn other_text<A: Allocator>(alloc: A, old: &str, new: &str) -> Result<Option<Str
 }
 
 /// Returns the rewritten text of the literal `text` if it differs, and `None` otherwise. `front` is the text before the
-/// literal.
+/// literal, and `out` a buffer.
+fn new_text_in<A: Allocator>(
+    alloc: A,
+    style: Style,
+    front: &str,
+    text: &str,
+    out: &mut [u8],
+) -> Result<Option<String<A>>, AllocError>
+    requires { room_for style text.now ≤ length out.old }
+    ensures { IfOk result (λ new. IsRewritten style (chars front.now) (chars text.now) (text_in new)) }
+{
+    let Ok(len) = rewrite_within(front, text, style, out) else {
+        return Ok(None);
+    };
+    match std::str::from_utf8(&out[..len]) {
+        Ok(new) => other_text(alloc, text, new),
+        Err(_) => unreachable!(),
+    }
+}
+
+/// Returns the rewritten text of the literal `text` if it differs, and `None` otherwise. `front` is the text before the
+/// literal, and `bytes` a buffer. The result has the memory of the buffer.
+fn long_text<A: Allocator>(
+    style: Style,
+    front: &str,
+    text: &str,
+    mut bytes: Vec<u8, A>,
+) -> Option<String<A>>
+    requires { room_for style text.now ≤ length bytes.items }
+    ensures { IsRewritten style (chars front.now) (chars text.now) (text_in result) }
+{
+    let Ok(len) = rewrite_within(front, text, style, bytes.as_mut_slice()) else {
+        return None;
+    };
+    bytes.truncate(len);
+    // SAFETY: it is proved that the bytes are UTF-8.
+    let new = unsafe { String::from_utf8_unchecked(bytes) };
+    if new.as_str() == text {
+        None
+    } else {
+        Some(new)
+    }
+}
+
+/// Returns the rewritten text of the literal `text` if it differs, and `None` otherwise. `front` is the text before the
+/// literal. Only the buffer of a long literal is allocated.
 pub(crate) fn new_text<A: Allocator + Copy>(
     alloc: A,
     style: Style,
@@ -50,15 +100,11 @@ pub(crate) fn new_text<A: Allocator + Copy>(
 ) -> Result<Option<String<A>>, AllocError>
     ensures { IfOk result (λ new. IsRewritten style (chars front.now) (chars text.now) (text_in new)) }
 {
-    let room = buffer_len(text)?;
-    let mut bytes = vec![in alloc; 0; room]?;
-    let Ok(len) = rewrite_into(front, text, style, bytes.as_mut_slice()) else {
-        return Ok(None);
-    };
-    match std::str::from_utf8(&bytes.as_slice()[..len]) {
-        Ok(new) => other_text(alloc, text, new),
-        Err(_) => unreachable!(),
+    let room = buffer_len(style, text)?;
+    if room <= SHORT {
+        return new_text_in(alloc, style, front, text, &mut [0; SHORT]);
     }
+    Ok(long_text(style, front, text, vec![in alloc; 0; room]?))
 }
 
 /// Whether the position of `literal` allows rewriting: `literal` can't be a field, and isn't in a macro call that `macros`

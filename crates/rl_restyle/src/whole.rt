@@ -1,9 +1,9 @@
 //! Rewrites all literals of a source by a style.
 
-ghost use Rattle.std.specs.Prelude.{◌≡◌, ◌↔◌, ◌++◌, ◌&&◌, not, List, ℕ, length, map, string_bytes, IfErr, IfOk, IsTrue};
+ghost use Rattle.std.specs.Prelude.{◌≡◌, ◌↔◌, ◌++◌, ◌&&◌, not, List, ℕ, length, string_bytes, IfErr, IfOk, IsTrue};
 ghost use Rattle.std.specs.Str.{chars};
 ghost use Rattle.rl_restyle.specs.Clean.{HasCleanTokens};
-ghost use Rattle.rl_restyle.specs.Edits.{IsRestyleError, Restyles, edit_in};
+ghost use Rattle.rl_restyle.specs.Edits.{IsRestyleError, Restyles};
 ghost use Rattle.rl_restyle.specs.Places.{IsTextBetween};
 ghost use Rattle.rl_restyle.specs.declared.edit.RestyleError.TheVariants.{Memory};
 
@@ -24,7 +24,6 @@ fn finished<A: Allocator>(
     ensures text { IfOk result (λ r. (rest : List ℕ)
         → IsTextBetween (chars source.now) draft.at (length source.now) rest
         → chars (string_bytes r.text) ≡ chars (string_bytes draft.text) ++ rest) }
-    ensures edits { IfOk result (λ r. map edit_in r.edits.items ≡ map edit_in draft.edits.items) }
     ensures clean { IfOk result (λ r. r.is_clean ≡ (draft.is_clean && not has_stray)) }
     ensures error { IfErr result (λ e. e ≡ Memory) }
 {
@@ -32,14 +31,13 @@ fn finished<A: Allocator>(
     match text.push_str(between(source, draft.at, source.len())) {
         Ok(()) => Ok(Restyled {
             text,
-            edits: draft.edits,
             is_clean: draft.is_clean && !has_stray,
         }),
         Err(_) => Err(RestyleError::Memory),
     }
 }
 
-/// Rewrites the literals of a source by a style, and returns the new text and its edits: each literal that the style changes.
+/// Rewrites the literals of a source by a style, and returns the new text.
 ///
 /// Some literals aren't rewritten: invalid literal tokens, numbers that may be fields of a tuple (`t.0`, `S { 0: x }`), and the
 /// literals that `choice` excludes. The tokens of the new text are those of `text`, but each rewritten literal has its new text.
@@ -54,18 +52,19 @@ pub fn rewrite_source<A: Allocator + Copy>(
     choice: Choice<'_>,
     text: &str,
 ) -> Result<Restyled<A>, RestyleError>
-    ensures restyled { IfOk result (λ r. Restyles style choice.entry (chars text.now) (chars (string_bytes r.text))
-        (map edit_in r.edits.items)) }
+    ensures restyled { IfOk result (λ r. Restyles style choice.entry (chars text.now) (chars (string_bytes r.text))) }
     ensures clean { IfOk result (λ r. IsTrue r.is_clean ↔ HasCleanTokens (chars text.now)) }
     ensures error { IfErr result (IsRestyleError (chars text.now)) }
 {
     if !is_safe_to_restyle(text) {
         return Err(RestyleError::Script);
     }
+    let Ok(new) = String::with_capacity(alloc, text.len()) else {
+        return Err(RestyleError::Memory);
+    };
     let mut literals = Restylables::new(text);
     let mut draft = Draft {
-        text: String::new(alloc),
-        edits: Vec::new(alloc),
+        text: new,
         at: 0,
         is_clean: true,
     };

@@ -44,9 +44,9 @@ fixes_both holds h0 h1 h2 one two =
 
 -- A source is rewritten as `shown`, and its file is replaced by this text or not.
 pub fixes_shown : (path old shown bytes : List ℕ) (h0 h1 : Option (List Replacement)) (style : Style) (choice : Choice)
-    (edits : List (ℕ × ℕ × List ℕ)) → Restyles style choice (chars old) (chars bytes) edits → shown ≡ bytes
+    → Restyles style choice (chars old) (chars bytes) → shown ≡ bytes
     → (h1 ≡ h0) ⊎ (h1 ≡ handed_too (replacing path old shown) h0) → FixesSource path old h0 h1
-fixes_shown path old shown bytes h0 h1 style choice edits restyles same (inl stays) = inl stays
-fixes_shown path old shown bytes h0 h1 style choice edits restyles same (inr handed) =
-    let restyled = subst (λ t. Restyles style choice (chars old) (chars t) edits) (sym same) restyles in
-    inr (shown, record { style = style; choice = choice; edits = edits; restyles = restyled }, handed)
+fixes_shown path old shown bytes h0 h1 style choice restyles same (inl stays) = inl stays
+fixes_shown path old shown bytes h0 h1 style choice restyles same (inr handed) =
+    let restyled = subst (λ t. Restyles style choice (chars old) (chars t)) (sym same) restyles in
+    inr (shown, record { style = style; choice = choice; restyles = restyled }, handed)

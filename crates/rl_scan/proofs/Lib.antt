@@ -1,1 +1,2 @@
 pub mod FixLemmas
+pub mod AcceptLemmas

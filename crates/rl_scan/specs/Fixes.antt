@@ -13,8 +13,7 @@ use Rattle.rl_style.specs.declared.style.Style.{Style}
 pub record IsFixedText (old new : List ℕ) : Type 0 where
   pub style : Style
   pub choice : Choice
-  pub edits : List (ℕ × ℕ × List ℕ)
-  pub restyles : Restyles style choice (chars old) (chars new) edits
+  pub restyles : Restyles style choice (chars old) (chars new)
 
 -- At most one file is replaced, the one at `path`: its bytes `old` become their rewritten text. `before` and `after` are all
 -- replacements of files.

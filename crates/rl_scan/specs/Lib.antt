@@ -1,1 +1,2 @@
 pub mod Fixes
+pub mod Accepted

@@ -1,11 +1,15 @@
 //! Parses the arguments of a call.
 
+ghost use Rattle.std.specs.Prelude.{◌≡◌};
+ghost use Rattle.std.specs.List.{list_any};
+ghost use Rattle.std.specs.Str.{bytes_eq};
+
 use crate::checks::{check_command_line, check_value};
-use crate::failure::Failure;
+use crate::failure::{Done, Failure};
 use crate::modes::{Mode, SELECTING};
 use crate::options::{OPTIONS, OptionRow, row_lettered, row_named};
-use crate::style::{is_near, option_part};
-use rl_files::{push_visible, visible_text};
+use crate::style::is_near;
+use rl_files::visible_text;
 use std::alloc::{AllocError, Allocator, Global};
 
 /// Groups of options, of which the last passed option counts.
@@ -18,6 +22,9 @@ const RIVALS: [&[&str]; 4] = [
 
 /// The options that select the format of findings.
 const FORMS: [&str; 2] = ["--json", "--format"];
+
+/// The end of the message about a word that resembles no option.
+const ALL_OPTIONS: &str = "rl_scan --help lists all options";
 
 /// A passed option and its value, which is empty if the option has none.
 #[derive(Clone, Copy)]
@@ -44,13 +51,20 @@ enum Next {
     Path,
 }
 
-pub(crate) fn is_among(words: &[&str], word: &str) -> bool {
+pub(crate) fn is_among(words: &[&str], word: &str) -> bool
+    ensures { result ≡ list_any (λ other. bytes_eq other.now word.now) words.now }
+{
     words.contains(&word)
 }
 
 /// Returns the text without the NUL that marks it as a path that isn't UTF-8.
 pub(crate) fn without_mark(text: &str) -> &str {
     text.strip_suffix('\0').unwrap_or(text)
+}
+
+fn option_part(word: &str) -> &str {
+    let (part, _) = word.split_once('=').unwrap_or((word, ""));
+    part
 }
 
 /// Returns the option that a word resembles. Names that are at most one byte longer come first.
@@ -74,7 +88,7 @@ fn near_option(word: &str) -> Option<&'static str> {
 fn meant<A: Allocator + Copy>(alloc: A, word: &str) -> Result<String<A>, AllocError> {
     match near_option(word) {
         Some(name) => format!(in alloc; "did you mean '{name}'?"),
-        None => String::from_str(alloc, "rl_scan --help lists all options"),
+        None => String::from_str(alloc, ALL_OPTIONS),
     }
 }
 
@@ -84,23 +98,18 @@ fn unknown_letter<A: Allocator + Copy>(
     word: &str,
     letter: char,
 ) -> Result<Failure<A>, AllocError> {
-    let mut line = String::from_str(alloc, "unknown option '-")?;
-    let shown = format!(in alloc; "{letter}")?;
-    push_visible(&mut line, shown.as_str())?;
-    line.push_str("'")?;
-    if word.len() > 1usize.saturating_add(letter.len_utf8()) {
-        line.push_str(" in '")?;
-        push_visible(&mut line, word)?;
-        line.push_str("'")?;
-    }
-    line.push_str(": ")?;
-    if word.len() > 2 {
-        let doubled = format!(in alloc; "-{word}")?;
-        line.push_str(meant(alloc, doubled.as_str())?.as_str())?;
+    let hint = if word.len() > 2 {
+        meant(alloc, format!(in alloc; "-{word}")?.as_str())?
     } else {
-        line.push_str("rl_scan --help lists all options")?;
+        String::from_str(alloc, ALL_OPTIONS)?
+    };
+    let text = format!(in alloc; "{letter}")?;
+    let shown = visible_text(alloc, text.as_str())?;
+    if word.len() == text.len().saturating_add(1) {
+        return Ok(Failure::Said(format!(in alloc; "unknown option '-{shown}': {hint}")?));
     }
-    Ok(Failure::Said(line))
+    let inside = visible_text(alloc, word)?;
+    Ok(Failure::Said(format!(in alloc; "unknown option '-{shown}' in '{inside}': {hint}")?))
 }
 
 /// Returns the error for a word that begins with a minus and isn't an option.
@@ -111,7 +120,7 @@ fn unknown_word<A: Allocator + Copy>(alloc: A, word: &str) -> Result<Failure<A>,
 }
 
 /// Checks that an argument which isn't a path is UTF-8.
-fn check_text<A: Allocator + Copy>(alloc: A, word: &str) -> Result<(), Failure<A>> {
+fn check_text<A: Allocator + Copy>(alloc: A, word: &str) -> Done<A> {
     if word.ends_with('\0') {
         let shown = visible_text(alloc, without_mark(word))?;
         return Err(Failure::Said(format!(in alloc;
@@ -126,27 +135,17 @@ fn is_word_of_letters(word: &str) -> bool {
     if !word.starts_with("--") && !word.contains('=') {
         return true;
     }
-    let mut letters = word.chars();
-    let _minus = letters.next();
-    match letters.next() {
-        Some(letter) => match row_lettered(letter) {
-            Some(row) => row.has_value(),
-            None => false,
-        },
-        None => false,
-    }
+    let Some(letter) = word.get(1..).unwrap_or("").chars().next() else {
+        return false;
+    };
+    row_lettered(letter).is_some_and(|row| row.has_value())
 }
 
 impl<'a, A: Allocator + Copy> Args<'a, A> {
     /// Returns the last passed option of these.
     fn last_of(&self, names: &[&str]) -> Option<Given<'a>> {
-        let mut found = None;
-        for given in self.given.as_slice() {
-            if is_among(names, given.name) {
-                found = Some(*given);
-            }
-        }
-        found
+        let mut last_first = self.given.as_slice().iter().rev();
+        last_first.find(|it| is_among(names, it.name)).copied()
     }
 
     /// Returns the last value of an option.
@@ -162,10 +161,7 @@ impl<'a, A: Allocator + Copy> Args<'a, A> {
     pub(crate) fn has(&self, name: &str) -> bool {
         for rivals in &RIVALS {
             if is_among(rivals, name) {
-                return match self.last_of(rivals) {
-                    Some(given) => given.name == name,
-                    None => false,
-                };
+                return self.last_of(rivals).is_some_and(|given| given.name == name);
             }
         }
         self.has_any(&[name])
@@ -192,12 +188,8 @@ impl<'a, A: Allocator + Copy> Args<'a, A> {
     }
 
     pub(crate) fn mode(&self) -> Mode {
-        for row in &SELECTING {
-            if self.has(row.0) {
-                return row.1;
-            }
-        }
-        Mode::List
+        let row = SELECTING.iter().find(|row| self.has(row.0));
+        row.map(|row| row.1).unwrap_or(Mode::List)
     }
 
     /// Returns the error if an option contradicts earlier ones.
@@ -219,7 +211,7 @@ impl<'a, A: Allocator + Copy> Args<'a, A> {
     }
 
     /// Adds an option, unless it contradicts earlier ones or doesn't accept the value.
-    fn add(&mut self, alloc: A, row: &OptionRow, value: &'a str) -> Result<(), Failure<A>> {
+    fn add(&mut self, alloc: A, row: &OptionRow, value: &'a str) -> Done<A> {
         if let Some(words) = self.conflict(row.name) {
             return Err(Failure::said(alloc, words));
         }

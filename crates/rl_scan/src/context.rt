@@ -2,7 +2,7 @@
 //! it is near several findings.
 
 use crate::escapes::{Before, Escapes, push_char, push_text};
-use crate::failure::Failure;
+use crate::failure::{Appended, Done};
 use crate::finding::Place;
 use crate::output::Output;
 use crate::widths::width_of;
@@ -11,6 +11,8 @@ use std::io::Write;
 
 /// The maximum length, in bytes, of a line that is printed.
 const LONGEST: usize = 1024;
+
+const TOO_LONG: &str = "    (a line of more than 1024 bytes)\n";
 
 /// The numbers of lines that are printed before and after a line with findings.
 #[derive(Clone, Copy)]
@@ -40,39 +42,38 @@ fn without_line_end(line: &str) -> &str {
     }
 }
 
-/// Appends a line, indented, or a note if it is too long.
-fn push_line<A: Allocator>(out: &mut String<A>, line: &str) -> Result<(), AllocError> {
-    let shown = without_line_end(line);
-    if shown.len() > LONGEST {
-        return out.push_str("    (a line of more than 1024 bytes)\n");
+impl<'p, A: Allocator + Copy, W: Write> Output<'p, A, W> {
+    /// Prints a line, indented, or a note if it is too long.
+    fn print_line(&mut self, line: &str) -> Done<A> {
+        let shown = without_line_end(line);
+        if shown.len() > LONGEST {
+            self.text.push_str(TOO_LONG)?;
+        } else {
+            self.text.push_str("    ")?;
+            push_text(&mut self.text, Escapes::Line, Before::Space, shown)?;
+            self.text.push('\n')?;
+        }
+        self.send_if_full()
     }
-    out.push_str("    ")?;
-    push_text(out, Escapes::Line, Before::Space, shown)?;
-    out.push('\n')
-}
 
-/// Prints the last `count` lines of a text.
-fn print_last_lines<A: Allocator + Copy, W: Write>(
-    output: &mut Output<'_, A, W>,
-    text: &str,
-    count: usize,
-) -> Result<(), Failure<A>> {
-    let mut front = text;
-    for _ in 0..count {
-        let Some(inside) = front.strip_suffix('\n') else {
-            break;
-        };
-        let lines = match inside.rsplit_once('\n') {
-            Some((lines, _)) => lines.len().saturating_add(1),
-            None => 0,
-        };
-        front = front.get(..lines).unwrap_or("");
+    /// Prints the last `count` lines of a text.
+    fn print_last_lines(&mut self, text: &str, count: usize) -> Done<A> {
+        let mut front = text;
+        for _ in 0..count {
+            let Some(inside) = front.strip_suffix('\n') else {
+                break;
+            };
+            let lines = match inside.rsplit_once('\n') {
+                Some((lines, _)) => lines.len().saturating_add(1),
+                None => 0,
+            };
+            front = front.get(..lines).unwrap_or("");
+        }
+        for line in text.get(front.len()..).unwrap_or("").split_inclusive('\n') {
+            self.print_line(line)?;
+        }
+        Ok(())
     }
-    for line in text.get(front.len()..).unwrap_or("").split_inclusive('\n') {
-        push_line(&mut output.text, line)?;
-        output.send_if_full()?;
-    }
-    Ok(())
 }
 
 /// Appends a part of a line to `out`, and below each of its columns `mark` to `marks`. A tab stays a tab below text that isn't
@@ -109,9 +110,9 @@ fn push_marked_line<A: Allocator>(
     line: &str,
     lo: usize,
     hi: usize,
-) -> Result<(), AllocError> {
+) -> Appended {
     if line.len() > LONGEST {
-        return out.push_str("    (a line of more than 1024 bytes)\n");
+        return out.push_str(TOO_LONG);
     }
     let (front, found) = line.split_at_checked(lo).unwrap_or((line, ""));
     let len = hi.saturating_sub(lo);
@@ -148,7 +149,7 @@ impl<'p> Context<'p> {
         &mut self,
         output: &mut Output<'_, A, W>,
         end: usize,
-    ) -> Result<(), Failure<A>> {
+    ) -> Done<A> {
         if self.owed == 0 {
             return Ok(());
         }
@@ -157,20 +158,11 @@ impl<'p> Context<'p> {
             if self.owed == 0 {
                 break;
             }
-            push_line(&mut output.text, line)?;
-            output.send_if_full()?;
+            output.print_line(line)?;
             self.end = self.end.saturating_add(line.len());
             self.owed = self.owed.saturating_sub(1);
         }
         Ok(())
-    }
-
-    /// Prints the lines after the last finding.
-    pub(crate) fn print_end<A: Allocator + Copy, W: Write>(
-        &mut self,
-        output: &mut Output<'_, A, W>,
-    ) -> Result<(), Failure<A>> {
-        self.print_owed(output, self.source.len())
     }
 
     /// Prints the line with a finding, which begins at the byte offset `line_at`, and lines before it that aren't printed yet.
@@ -181,10 +173,10 @@ impl<'p> Context<'p> {
         marks: &mut String<A>,
         line_at: usize,
         place: Place,
-    ) -> Result<(), Failure<A>> {
+    ) -> Done<A> {
         if line_at != self.line_at {
             let lines = self.source.get(self.end..line_at).unwrap_or("");
-            print_last_lines(output, lines, self.around.before)?;
+            output.print_last_lines(lines, self.around.before)?;
             let found = self.source.get(place.lo..).unwrap_or("");
             let (_, after) = found.split_once('\n').unwrap_or(("", ""));
             self.end = self.source.len().saturating_sub(after.len());
@@ -194,7 +186,6 @@ impl<'p> Context<'p> {
         let line = without_line_end(self.source.get(line_at..self.end).unwrap_or(""));
         let lo = place.lo.saturating_sub(line_at);
         let hi = place.hi.saturating_sub(line_at);
-        push_marked_line(&mut output.text, marks, line, lo, hi)?;
-        Ok(())
+        Ok(push_marked_line(&mut output.text, marks, line, lo, hi)?)
     }
 }

@@ -1,7 +1,17 @@
 //! Finds the literals of a source that Rust rejects, and what ends the source early.
 
+ghost use Rattle.std.specs.Prelude.{◌≡◌, ◌⊎◌, ◌<◌, ℕ, Bool, codes, drop, length, IfNone, IfOk, IfSome, IsTrue, OnOk};
+ghost use Rattle.std.specs.Str.{chars};
+ghost use Rattle.rl_lexer.specs.Sources.{BeginsNoSource, IsLiteralText, PassesTo, TakesLiteralAfter, TakesSource, source_view};
+ghost use Rattle.rl_strict.specs.FlawWords.{flaw_id};
+ghost use Rattle.rl_flaws.specs.Before.{may_negate};
+ghost use Rattle.rl_flaws.specs.TypeErrors.{HasType};
+ghost use Rattle.rl_scan.specs.Accepted.{Allows, AreAccepted, HasTypeBy, IsAcceptedLiteral, IsIdOfTypeError, IsTyped, IsUnderLimit, end_id, is_since_2021};
+
 use crate::failure::Failure;
 use crate::finding::{Fault, Finding, Place};
+use crate::follower::Follower;
+use crate::job::Job;
 use crate::print::Page;
 use rl_flaws::{
     Edition, Flaws, InvalidPiece, TypeError, first_reserving_edition, is_flaw_of_unit,
@@ -9,24 +19,27 @@ use rl_flaws::{
 };
 use rl_lexer::{LexError, LexKind, SourceForm, SourceToken, Sources};
 use rl_strict::{FlawKind, LineEnds, Reading, is_float_by_suffix, read};
-use rl_style::{Calls, advance_calls, is_in_call};
 use rl_syntax::Kind;
-use rl_syntax::text::split_char;
+use rl_syntax::text::{begins, split_char};
 use std::alloc::Allocator;
 use std::io::Write;
 
-/// The errors that `--bad` reports besides invalid literals.
-#[derive(Clone, Copy)]
-pub(crate) struct Checks {
-    /// Literals whose suffix or value has no type.
-    pub types: bool,
-    /// Characters at which no token begins.
-    pub strays: bool,
+/// Whether both are true.
+pub(crate) fn both(a: bool, b: bool) -> bool
+    ensures { IsTrue result → IsTrue a × IsTrue b }
+{
+    a && b
 }
 
 /// Returns the next token, or the next literal if only literals are needed.
 #[inline(always)]
-pub(crate) fn next_token<'t>(tokens: &mut Sources<'t>, all: bool) -> Option<SourceToken<'t>> {
+pub(crate) fn next_token<'t>(tokens: &mut Sources<'t>, all: bool) -> Option<SourceToken<'t>>
+    ensures next { IfSome result
+        (λ token. TakesSource tokens.old token tokens.new ⊎ TakesLiteralAfter tokens.old token tokens.new) }
+    ensures shorter { IfSome result (λ token. length tokens.new.rest < length tokens.old.rest) }
+    ensures passed { IfNone result ((tokens.new ≡ tokens.old) ⊎ PassesTo tokens.old tokens.new) }
+    ensures none { IfNone result (BeginsNoSource (chars tokens.new.rest)) }
+{
     if all {
         tokens.next()
     } else {
@@ -34,63 +47,64 @@ pub(crate) fn next_token<'t>(tokens: &mut Sources<'t>, all: bool) -> Option<Sour
     }
 }
 
-/// Reports an error that isn't in a literal. `piece` is the text to show.
-fn report_lex_error<A: Allocator + Copy, W: Write>(
+/// Reports an error. Returns whether the call allows it.
+fn report_fault<A: Allocator + Copy, W: Write>(
     page: &mut Page<'_, '_, A, W>,
-    kind: LexKind,
+    job: Job<'_>,
     place: Place,
-    piece: &str,
-) -> Result<(), Failure<A>> {
-    let id = match kind {
+    fault: Fault<'_>,
+) -> Result<bool, Failure<A>>
+    ensures { IfOk result (λ allowed. IsTrue allowed → Allows job.entry fault.entry.id.now) }
+{
+    let allowed = job.allows_error(fault.id);
+    page.report_finding(place, Finding::Error(fault))?;
+    Ok(allowed)
+}
+
+/// Returns the identifier of an error that isn't in a literal.
+fn end_id(kind: LexKind) -> &'static str
+    ensures { result.now ≡ end_id kind }
+{
+    match kind {
         LexKind::UnclosedQuote => "unclosed-quote",
         LexKind::UnclosedComment => "unclosed-comment",
         _ => "stray-character",
-    };
-    report_error(page, place, (id, kind.message()), piece, None)
+    }
 }
 
-/// Reports the error that ends a source.
+/// Reports an error that isn't in a literal. `piece` is the text to show. Returns whether the call allows the error.
+fn report_lex_error<A: Allocator + Copy, W: Write>(
+    page: &mut Page<'_, '_, A, W>,
+    job: Job<'_>,
+    kind: LexKind,
+    place: Place,
+    piece: &str,
+) -> Result<bool, Failure<A>>
+    ensures { IfOk result (λ allowed. IsTrue allowed → Allows job.entry (end_id kind)) }
+{
+    let fault = Fault {
+        id: end_id(kind),
+        message: kind.message(),
+        piece,
+        literal: None,
+    };
+    report_fault(page, job, place, fault)
+}
+
+/// Reports the error that ends a source. Returns whether the call allows the error.
 pub(crate) fn report_end<A: Allocator + Copy, W: Write>(
     page: &mut Page<'_, '_, A, W>,
+    job: Job<'_>,
     error: LexError,
-) -> Result<(), Failure<A>> {
+) -> Result<bool, Failure<A>>
+    ensures { IfOk result (λ allowed. IsTrue allowed → Allows job.entry (end_id error.kind)) }
+{
     let (lo, hi) = (error.at, error.at);
-    report_lex_error(page, error.kind, Place { lo, hi }, "")
+    report_lex_error(page, job, error.kind, Place { lo, hi }, "")
 }
-
-/// Reports an error. `literal` is the text of the literal that contains it.
-fn report_error<A: Allocator + Copy, W: Write>(
-    page: &mut Page<'_, '_, A, W>,
-    place: Place,
-    words: (&'static str, &'static str),
-    piece: &str,
-    literal: Option<&str>,
-) -> Result<(), Failure<A>> {
-    let (id, message) = words;
-    page.report_finding(
-        place,
-        Finding::Error(Fault {
-            id,
-            message,
-            piece,
-            literal,
-        }),
-    )
-}
-
-// ---- literals that Rust's grammar accepts
 
 fn is_of_word(c: char) -> bool {
     c.is_ascii_alphanumeric() || c == '_'
-}
-
-/// Whether a reserved prefix may end at the byte offset `at` of a source: after a word or a hash. Most literals follow neither.
-#[inline(always)]
-fn may_end_prefix(source: &str, at: usize) -> bool {
-    match source.as_bytes().get(at.wrapping_sub(1)) {
-        Some(byte) => *byte == b'#' || is_of_word(char::from(*byte)),
-        None => false,
-    }
 }
 
 /// Returns the byte offset where the reserved prefix of a literal begins. `before` is the text before the literal.
@@ -102,28 +116,72 @@ fn prefix_start(before: &str, text: &str) -> usize {
     }
 }
 
-/// Returns the reason why Rust has no type for a literal. `before` is the text before the literal.
+/// Returns the type error of a literal whose suffix is at the byte offset `suffix_at`. `before` is the text before the literal.
 #[tactic(auto, using(rl_syntax::proofs::Rests::tail_drop))]
-#[inline(always)]
-fn type_error_in(before: &str, text: &str, reading: &Reading) -> Option<TypeError> {
-    let (kind, magnitude, suffix_at) = match reading {
-        Reading::Text(kind, body) | Reading::Unit(kind, body, _) => (*kind, 0, body.suffix_at),
-        Reading::Integer(Some(magnitude), at) => (Kind::Int, *magnitude, *at),
-        Reading::Float(at) => (Kind::Float, 0, *at),
-        Reading::Integer(None, _) | Reading::Truth(_) => return None,
-    };
-    let has_default = suffix_at == text.len() && !matches!(kind, Kind::Float);
-    if has_default || !text.is_char_boundary(suffix_at) {
+fn type_error_at(
+    before: &str,
+    text: &str,
+    kind: Kind,
+    magnitude: u128,
+    suffix_at: usize,
+) -> Option<TypeError>
+    ensures { IfNone result (HasType kind (chars text.now) magnitude (may_negate before.now) (drop suffix_at text.now)) }
+{
+    if has_no_suffix(text, kind, suffix_at) {
         return None;
+    }
+    if !text.is_char_boundary(suffix_at) {
+        return Some(TypeError::UnknownSuffix);
     }
     let suffix = &text[suffix_at..];
     type_error_of(kind, text, magnitude, suffix, may_be_negated(before))
 }
 
-/// Returns the range in a literal where an integer above 128 bits becomes too large: the character after its digits.
-fn large_place(text: &str, reading: &Reading) -> Option<Place> {
+/// Whether a literal of the kind isn't a float and has no suffix: no text follows the byte offset `at`. Then it has a type.
+#[inline(always)]
+fn has_no_suffix(text: &str, kind: Kind, at: usize) -> bool
+    ensures { IsTrue result → (magnitude : ℕ) (negated : Bool) → HasType kind (chars text.now) magnitude negated (drop at text.now) }
+{
+    at == text.len() && !matches!(kind, Kind::Float)
+}
+
+/// Whether a literal with the given parse result isn't a float and has no suffix. Then it has a type.
+#[inline(always)]
+fn is_bare(text: &str, reading: &Reading) -> bool
+    ensures { IsTrue result → (negated : Bool) → HasTypeBy text.now negated reading.now }
+{
     match reading {
-        Reading::Integer(None, at) if !is_float_by_suffix(text) => {
+        Reading::Text(kind, body) => has_no_suffix(text, *kind, body.suffix_at),
+        Reading::Unit(kind, body, _) => has_no_suffix(text, *kind, body.suffix_at),
+        Reading::Integer(Some(_), at) => has_no_suffix(text, Kind::Int, *at),
+        _ => false,
+    }
+}
+
+/// Returns the reason why Rust has no type for a literal. `before` is the text before the literal.
+#[inline(always)]
+fn type_error_in(before: &str, text: &str, reading: &Reading) -> Option<TypeError>
+    requires { IsUnderLimit text.now reading.now }
+    ensures { IfNone result (HasTypeBy text.now (may_negate before.now) reading.now) }
+{
+    match reading {
+        Reading::Text(kind, body) => type_error_at(before, text, *kind, 0, body.suffix_at),
+        Reading::Unit(kind, body, _) => type_error_at(before, text, *kind, 0, body.suffix_at),
+        Reading::Integer(Some(m), at) => type_error_at(before, text, Kind::Int, *m, *at),
+        Reading::Float(at) => type_error_at(before, text, Kind::Float, 0, *at),
+        Reading::Integer(None, _) | Reading::Truth(_) => None,
+    }
+}
+
+/// Returns the range in a literal where an integer above 128 bits becomes too large: the character after its digits.
+fn large_place(text: &str, reading: &Reading) -> Option<Place>
+    ensures { IfNone result (IsUnderLimit text.now reading.now) }
+{
+    match reading {
+        Reading::Integer(None, at) => {
+            if is_float_by_suffix(text) {
+                return None;
+            }
             let len = match split_char(text.get(*at..).unwrap_or("")) {
                 Some((c, _)) => c.len_utf8(),
                 None => 0,
@@ -135,78 +193,97 @@ fn large_place(text: &str, reading: &Reading) -> Option<Place> {
     }
 }
 
-/// A second reader of a source, which says what is in macro calls. It only moves if a finding depends on that.
-#[derive(Drop)]
-struct Follower<'t> {
-    tokens: Sources<'t>,
-    calls: Calls<'t>,
-}
-
-impl<'t> Follower<'t> {
-    /// Whether the token at the byte offset `lo` is in a macro call. The offsets of later calls are greater.
-    fn is_in_call_at(&mut self, lo: usize) -> bool {
-        for _ in 0..u64::MAX {
-            let Some(token) = self.tokens.next() else {
-                return false;
-            };
-            let is_inside = is_in_call(self.calls);
-            self.calls = advance_calls(self.calls, token);
-            if token.lo >= lo {
-                return is_inside;
-            }
-        }
-        false
+/// Returns the range, the identifier and the message of the type error of a literal. `before` is the text before the literal.
+fn type_words(
+    before: &str,
+    text: &str,
+    reading: &Reading,
+) -> Option<(Place, &'static str, &'static str)>
+    ensures none { IfNone result (HasTypeBy text.now (may_negate before.now) reading.now) }
+    ensures some { IfSome result (λ p. IsIdOfTypeError p.1.now) }
+{
+    let (lo, hi, large) = (0, text.len(), FlawKind::TooLarge);
+    if let Some(place) = large_place(text, reading) {
+        return Some((place, large.id(), large.message()));
+    }
+    match type_error_in(before, text, reading) {
+        Some(error) => Some((Place { lo, hi }, error.id(), error.message())),
+        None => None,
     }
 }
 
-/// Reports that Rust has no type for a literal: its suffix is wrong, or its value is out of range.
+/// Reports that Rust has no type for a literal. Returns whether the literal is accepted.
 #[inline(always)]
 fn report_type<'t, A: Allocator + Copy, W: Write>(
     page: &mut Page<'_, '_, A, W>,
     follower: &mut Follower<'t>,
+    job: Job<'_>,
     token: SourceToken<'t>,
     reading: &Reading,
-) -> Result<(), Failure<A>> {
-    let (lo, hi, large) = (token.lo, token.hi, FlawKind::TooLarge);
-    let before = page.source.get(..lo).unwrap_or("");
-    let (place, words) = match large_place(token.text, reading) {
-        Some(place) => (place.after(lo), (large.id(), large.message())),
-        None => match type_error_in(before, token.text, reading) {
-            Some(error) => (Place { lo, hi }, (error.id(), error.message())),
-            None => return Ok(()),
-        },
+) -> Result<bool, Failure<A>>
+    ensures accepted { IfOk result (λ accepted. IsTrue accepted
+        → IsTyped job.entry follower.old token.entry.lo token.entry.text.now reading.now) }
+    ensures same { OnOk result (follower.new ≡ follower.old) }
+{
+    let Some(before) = follower.text_before(token.lo) else {
+        return Ok(false);
     };
-    if page.job.follows && follower.is_in_call_at(token.lo) {
-        return Ok(());
+    let Some((place, id, message)) = type_words(before, token.text, reading) else {
+        return Ok(true);
+    };
+    if job.follows && follower.is_in_call_at(token.lo) {
+        return Ok(true);
     }
-    report_error(page, place, words, token.text, Some(token.text))
+    let fault = Fault {
+        id,
+        message,
+        piece: token.text,
+        literal: Some(token.text),
+    };
+    report_fault(page, job, place.after(token.lo), fault)
 }
 
-/// Reports the reserved prefix of a literal. Returns whether it has one.
+/// Reports the reserved prefix of a literal. Returns whether the call allows it, or `None` if the literal has none.
 #[inline(always)]
 fn report_prefix<A: Allocator + Copy, W: Write>(
     page: &mut Page<'_, '_, A, W>,
+    job: Job<'_>,
     token: SourceToken<'_>,
-) -> Result<bool, Failure<A>> {
+) -> Result<Option<bool>, Failure<A>>
+    ensures { IfOk result (λ prefix. IfSome prefix
+        (λ allowed. IsTrue allowed → Allows job.entry (codes "reserved-prefix"))) }
+{
     let source = page.source;
+    // A reserved prefix ends with a word or a hash. Most literals follow neither.
+    let last = source.as_bytes().get(token.lo.wrapping_sub(1));
+    if !last.is_some_and(|b| matches!(*b, b'#' | b'_') || b.is_ascii_alphanumeric()) {
+        return Ok(None);
+    }
     let before = source.get(..token.lo).unwrap_or("");
-    if !may_end_prefix(source, token.lo) || !page.job.edition.reserves(before, token.text) {
-        return Ok(false);
+    if !job.edition.reserves(before, token.text) {
+        return Ok(None);
     }
     let (lo, hi) = (prefix_start(before, token.text), token.hi);
-    let whole = source.get(lo..hi).unwrap_or(token.text);
-    let words = ("reserved-prefix", "reserved prefix");
-    report_error(page, Place { lo, hi }, words, whole, Some(whole))?;
-    Ok(true)
+    let piece = source.get(lo..hi).unwrap_or(token.text);
+    let fault = Fault {
+        id: "reserved-prefix",
+        message: "reserved prefix",
+        piece,
+        literal: Some(piece),
+    };
+    let is_allowed = report_fault(page, job, Place { lo, hi }, fault)?;
+    Ok(Some(is_allowed))
 }
 
-// ---- invalid literals
-
+/// Reports a flaw of a literal. Returns whether the call allows the flaw.
 fn report_flaw<A: Allocator + Copy, W: Write>(
     page: &mut Page<'_, '_, A, W>,
+    job: Job<'_>,
     token: SourceToken<'_>,
     bad: InvalidPiece,
-) -> Result<(), Failure<A>> {
+) -> Result<bool, Failure<A>>
+    ensures { IfOk result (λ allowed. IsTrue allowed → Allows job.entry (flaw_id bad.flaw.kind)) }
+{
     let (text, flaw) = (token.text, bad.flaw);
     let piece = if is_flaw_of_unit(flaw.kind) {
         text.get(flaw.from..bad.end).unwrap_or(text)
@@ -214,85 +291,114 @@ fn report_flaw<A: Allocator + Copy, W: Write>(
         text
     };
     let (lo, hi) = (flaw.lo, flaw.hi);
-    let place = Place { lo, hi }.after(token.lo);
-    let words = (flaw.kind.id(), flaw.kind.message());
-    report_error(page, place, words, piece, Some(text))
+    let fault = Fault {
+        id: flaw.kind.id(),
+        message: flaw.kind.message(),
+        piece,
+        literal: Some(text),
+    };
+    report_fault(page, job, Place { lo, hi }.after(token.lo), fault)
 }
 
-/// Reports all flaws of a literal: the first one, and those that the cursor returns.
-fn report_flaws<A: Allocator + Copy, W: Write>(
+/// Reports the flaws of a literal that the cursor returns. Returns whether the call allows all of them.
+fn report_later_flaws<A: Allocator + Copy, W: Write>(
     page: &mut Page<'_, '_, A, W>,
+    job: Job<'_>,
     token: SourceToken<'_>,
-    first: InvalidPiece,
-    later: Flaws<'_>,
-) -> Result<(), Failure<A>> {
-    let mut flaws = later;
-    let mut next = Some(first);
+    mut flaws: Flaws<'_>,
+) -> Result<bool, Failure<A>> {
+    let mut are_allowed = true;
     for _ in 0..u64::MAX {
-        let Some(bad) = next else {
+        let Some(bad) = flaws.next() else {
             break;
         };
-        report_flaw(page, token, bad)?;
-        next = flaws.next();
+        are_allowed = both(report_flaw(page, job, token, bad)?, are_allowed);
     }
-    Ok(())
+    Ok(are_allowed)
 }
-
-// ---- sources
 
 /// Whether the text may be several tokens before 2021: `c"a"` is an identifier and a string there, and `'r#a'` a lifetime and more.
-fn is_literal_since_2021(text: &str) -> bool {
-    text.starts_with("c\"") || text.starts_with("cr") || text.starts_with("'r#")
+fn is_literal_since_2021(text: &str) -> bool
+    ensures { result ≡ is_since_2021 (chars text.now) }
+{
+    begins(text, "c\"") || begins(text, "cr") || begins(text, "'r#")
 }
 
-/// Reports the errors of a literal.
+/// Reports the errors of a literal. Returns whether it is accepted.
 #[inline(always)]
 fn report_literal<'t, A: Allocator + Copy, W: Write>(
     page: &mut Page<'_, '_, A, W>,
     follower: &mut Follower<'t>,
-    checks: Checks,
+    job: Job<'_>,
     token: SourceToken<'t>,
-) -> Result<(), Failure<A>> {
-    if page.job.edition.year() < 2021 && is_literal_since_2021(token.text) {
-        return Ok(());
+) -> Result<bool, Failure<A>>
+    ensures accepted { IfOk result (λ accepted. IsTrue accepted
+        → IsAcceptedLiteral job.entry follower.old token.entry.lo token.entry.text.now) }
+    ensures same { OnOk result (follower.new ≡ follower.old) }
+{
+    if job.edition.year() < 2021 && is_literal_since_2021(token.text) {
+        return Ok(true);
     }
     match read(token.text, LineEnds::File, false) {
         Ok(reading) => {
-            if report_prefix(page, token)? || !checks.types {
-                return Ok(());
+            if let Some(is_allowed) = report_prefix(page, job, token)? {
+                return Ok(is_allowed);
             }
-            report_type(page, follower, token, &reading)
+            if job.any_suffix {
+                return Ok(true);
+            }
+            if is_bare(token.text, &reading) {
+                return Ok(true);
+            }
+            report_type(page, follower, job, token, &reading)
         }
         Err(flaw) => {
             let (first, later) = Flaws::after(token.text, LineEnds::File, flaw);
-            report_flaws(page, token, first, later)
+            let is_allowed = report_flaw(page, job, token, first)?;
+            Ok(both(is_allowed, report_later_flaws(page, job, token, later)?))
         }
     }
 }
 
-/// Reports the errors of a source.
+/// Reports the errors of a token. Returns whether it is accepted.
+fn report_token<'t, A: Allocator + Copy, W: Write>(
+    page: &mut Page<'_, '_, A, W>,
+    follower: &mut Follower<'t>,
+    job: Job<'_>,
+    token: SourceToken<'t>,
+) -> Result<bool, Failure<A>>
+    ensures accepted { IfOk result (λ accepted. IsTrue accepted
+        → IsLiteralText (source_view token.entry.form) (chars token.entry.text.now)
+        → IsAcceptedLiteral job.entry follower.old token.entry.lo token.entry.text.now) }
+    ensures same { OnOk result (follower.new ≡ follower.old) }
+{
+    // Without `strays`, every token is a literal.
+    if job.strays && !token.is_literal() {
+        if !matches!(token.form, SourceForm::Stray) {
+            return Ok(true);
+        }
+        let (kind, lo, hi) = (LexKind::StrayCharacter, token.lo, token.hi);
+        return report_lex_error(page, job, kind, Place { lo, hi }, token.text);
+    }
+    report_literal(page, follower, job, token)
+}
+
+/// Reports the errors of a source. Returns whether all its literals are accepted.
 pub(crate) fn report_errors<A: Allocator + Copy, W: Write>(
     page: &mut Page<'_, '_, A, W>,
-    checks: Checks,
-) -> Result<(), Failure<A>> {
+    job: Job<'_>,
+) -> Result<bool, Failure<A>>
+    ensures { IfOk result (λ accepted. IsTrue accepted → AreAccepted job.entry page.old.source.now) }
+{
     let mut tokens = Sources::new(page.source);
-    let mut follower = Follower {
-        tokens: Sources::new(page.source),
-        calls: Calls::Outside,
-    };
-    for _ in 0..u64::MAX {
-        let Some(token) = next_token(&mut tokens, checks.strays) else {
-            break;
-        };
-        if token.is_literal() {
-            report_literal(page, &mut follower, checks, token)?;
-        } else if checks.strays && matches!(token.form, SourceForm::Stray) {
-            let (lo, hi) = (token.lo, token.hi);
-            report_lex_error(page, LexKind::StrayCharacter, Place { lo, hi }, token.text)?;
-        }
+    let mut follower = Follower::new(page.source);
+    let mut are_accepted = true;
+    while let Some(token) = next_token(&mut tokens, job.strays) {
+        let is_accepted = report_token(page, &mut follower, job, token)?;
+        are_accepted = both(is_accepted, are_accepted);
     }
     match tokens.error() {
-        Some(error) => report_end(page, error),
-        None => Ok(()),
+        Some(error) => Ok(both(report_end(page, job, error)?, are_accepted)),
+        None => Ok(are_accepted),
     }
 }

@@ -21,6 +21,12 @@ pub enum Failure<A: Allocator = Global> {
     Said(String<A>),
 }
 
+/// The result of a function that appends to a text.
+pub(crate) type Appended = Result<(), AllocError>;
+
+/// The result of a function that prints.
+pub(crate) type Done<A> = Result<(), Failure<A>>;
+
 impl<A: Allocator> Failure<A> {
     /// Creates the error with the line `words`.
     pub(crate) fn said(alloc: A, words: &str) -> Failure<A> {

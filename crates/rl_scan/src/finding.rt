@@ -1,5 +1,6 @@
 //! The findings of a source.
 
+use crate::hidden::character_id;
 use crate::literal::Literal;
 use rl_restyle::Rule;
 
@@ -36,12 +37,8 @@ pub(crate) struct Fault<'t> {
 pub(crate) enum Finding<'t> {
     Literal(Literal<'t>),
     Error(Fault<'t>),
-    /// An invisible or bidirectional character `c`. `name` is its name after a space, or empty.
-    Hidden {
-        id: &'static str,
-        c: char,
-        name: &'static str,
-    },
+    /// An invisible or bidirectional character.
+    Hidden(char),
     /// The change of a literal, and the rules each of which changes it.
     Change {
         old: &'t str,
@@ -55,7 +52,7 @@ impl<'t> Finding<'t> {
         match self {
             Finding::Literal(_) => "literal",
             Finding::Error(fault) => fault.id,
-            Finding::Hidden { id, .. } => id,
+            Finding::Hidden(c) => character_id(*c),
             Finding::Change { .. } => "style",
         }
     }

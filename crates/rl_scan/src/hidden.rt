@@ -1,6 +1,6 @@
 //! Finds the invisible and bidirectional characters of a source.
 
-use crate::failure::Failure;
+use crate::failure::{Done, Failure};
 use crate::finding::{Finding, Place};
 use crate::print::Page;
 use crate::widths::{is_variation_selector, takes_variation_selector};
@@ -11,27 +11,27 @@ use std::io::Write;
 /// The number of bytes that are checked at once.
 const BLOCK: usize = 64;
 
-/// Returns the name of a bidirectional character, after a space.
-fn bidi_name(c: char) -> Option<&'static str> {
+/// Returns the name of a bidirectional character, after a space, or an empty text for other characters.
+pub(crate) fn bidi_name(c: char) -> &'static str {
     match c {
-        '\u{61c}' => Some(" ARABIC LETTER MARK"),
-        '\u{200e}' => Some(" LEFT-TO-RIGHT MARK"),
-        '\u{200f}' => Some(" RIGHT-TO-LEFT MARK"),
-        '\u{202a}' => Some(" LEFT-TO-RIGHT EMBEDDING"),
-        '\u{202b}' => Some(" RIGHT-TO-LEFT EMBEDDING"),
-        '\u{202c}' => Some(" POP DIRECTIONAL FORMATTING"),
-        '\u{202d}' => Some(" LEFT-TO-RIGHT OVERRIDE"),
-        '\u{202e}' => Some(" RIGHT-TO-LEFT OVERRIDE"),
-        '\u{2066}' => Some(" LEFT-TO-RIGHT ISOLATE"),
-        '\u{2067}' => Some(" RIGHT-TO-LEFT ISOLATE"),
-        '\u{2068}' => Some(" FIRST STRONG ISOLATE"),
-        '\u{2069}' => Some(" POP DIRECTIONAL ISOLATE"),
-        _ => None,
+        '\u{61c}' => " ARABIC LETTER MARK",
+        '\u{200e}' => " LEFT-TO-RIGHT MARK",
+        '\u{200f}' => " RIGHT-TO-LEFT MARK",
+        '\u{202a}' => " LEFT-TO-RIGHT EMBEDDING",
+        '\u{202b}' => " RIGHT-TO-LEFT EMBEDDING",
+        '\u{202c}' => " POP DIRECTIONAL FORMATTING",
+        '\u{202d}' => " LEFT-TO-RIGHT OVERRIDE",
+        '\u{202e}' => " RIGHT-TO-LEFT OVERRIDE",
+        '\u{2066}' => " LEFT-TO-RIGHT ISOLATE",
+        '\u{2067}' => " RIGHT-TO-LEFT ISOLATE",
+        '\u{2068}' => " FIRST STRONG ISOLATE",
+        '\u{2069}' => " POP DIRECTIONAL ISOLATE",
+        _ => "",
     }
 }
 
-fn character_id(c: char) -> &'static str {
-    if bidi_name(c).is_some() {
+pub(crate) fn character_id(c: char) -> &'static str {
+    if !bidi_name(c).is_empty() {
         "bidirectional-character"
     } else if matches!(c, '\u{200c}'..='\u{200d}') {
         "joiner"
@@ -82,8 +82,7 @@ fn report_in<A: Allocator + Copy, W: Write>(
         end = lo.saturating_add(c.len_utf8());
         if !matches!(c, ' '..='~' | '\n' | '\t') && hides(last, c, text.get(end..).unwrap_or("")) {
             let (lo, hi) = (start.saturating_add(lo), start.saturating_add(end));
-            let (id, name) = (character_id(c), bidi_name(c).unwrap_or(""));
-            page.report_finding(Place { lo, hi }, Finding::Hidden { id, c, name })?;
+            page.report_finding(Place { lo, hi }, Finding::Hidden(c))?;
         }
         last = c;
     }
@@ -93,7 +92,7 @@ fn report_in<A: Allocator + Copy, W: Write>(
 /// Reports the invisible and bidirectional characters of a source.
 pub(crate) fn report_hidden<A: Allocator + Copy, W: Write>(
     page: &mut Page<'_, '_, A, W>,
-) -> Result<(), Failure<A>> {
+) -> Done<A> {
     let source = page.source;
     let mut at = if source.starts_with('\u{feff}') { 3 } else { 0 };
     let mut previous = '\0';

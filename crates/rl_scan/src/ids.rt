@@ -1,6 +1,6 @@
 //! The identifiers of findings, which `--allow` accepts.
 
-use crate::failure::Failure;
+use crate::failure::{Done, Failure};
 use crate::hidden::hides;
 use crate::modes::Mode;
 use crate::style::is_near;
@@ -25,10 +25,7 @@ fn number_of(id: &str) -> Option<u32> {
     if count < 4 || count > 6 || !digits.as_bytes().iter().all(|b| b.is_ascii_hexdigit()) {
         return None;
     }
-    match u32::from_str_radix(digits, 16) {
-        Ok(number) => Some(number),
-        Err(_) => None,
-    }
+    u32::from_str_radix(digits, 16).ok()
 }
 
 /// Returns the character of an identifier such as `U+200B`, or `None` for other identifiers.
@@ -44,17 +41,15 @@ fn unknown_id<A: Allocator + Copy>(
     expected: &str,
 ) -> Result<Failure<A>, AllocError> {
     let shown = visible_text(alloc, id)?;
+    let mut line = format!(in alloc; "unknown id '{shown}' of --allow: ")?;
     match ids.iter().find(|known| is_near(id, known)) {
-        Some(name) => Ok(Failure::Said(format!(in alloc;
-            "unknown id '{shown}' of --allow: did you mean '{name}'?"
-        )?)),
-        None => Ok(Failure::Said(format!(in alloc;
-            "unknown id '{shown}' of --allow: {expected}"
-        )?)),
+        Some(name) => write!(line, "did you mean '{name}'?")?,
+        None => line.push_str(expected)?,
     }
+    Ok(Failure::Said(line))
 }
 
-fn check_bad_id<A: Allocator + Copy>(alloc: A, id: &str) -> Result<(), Failure<A>> {
+fn check_bad_id<A: Allocator + Copy>(alloc: A, id: &str) -> Done<A> {
     if BAD_IDS.contains(&id) {
         return Ok(());
     }
@@ -68,7 +63,7 @@ fn check_bad_id<A: Allocator + Copy>(alloc: A, id: &str) -> Result<(), Failure<A
 }
 
 /// Checks an identifier of invisible characters. `--invisible` must be able to report a character that it names.
-fn check_character_id<A: Allocator + Copy>(alloc: A, id: &str) -> Result<(), Failure<A>> {
+fn check_character_id<A: Allocator + Copy>(alloc: A, id: &str) -> Done<A> {
     if CHARACTER_IDS.contains(&id) {
         return Ok(());
     }
@@ -84,11 +79,7 @@ fn check_character_id<A: Allocator + Copy>(alloc: A, id: &str) -> Result<(), Fai
 }
 
 /// Checks an identifier of `--allow`, which must be one of the mode's findings.
-pub(crate) fn check_id<A: Allocator + Copy>(
-    alloc: A,
-    mode: Mode,
-    id: &str,
-) -> Result<(), Failure<A>> {
+pub(crate) fn check_id<A: Allocator + Copy>(alloc: A, mode: Mode, id: &str) -> Done<A> {
     match mode {
         Mode::Bad => check_bad_id(alloc, id),
         Mode::Invisible => check_character_id(alloc, id),

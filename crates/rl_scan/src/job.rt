@@ -1,19 +1,22 @@
 //! The work of a call of `rl_scan` on each file.
 
+ghost use Rattle.std.specs.Prelude.{◌≡◌, IsFalse, IsTrue};
+ghost use Rattle.rl_scan.specs.Accepted.{Allows};
+ghost use Rattle.rl_scan.specs.declared.modes.Mode.TheVariants.{Bad};
+
 use crate::args::{Args, is_among};
 use crate::checks::number_in;
 use crate::context::Around;
+use crate::failure::Appended;
 use crate::finding::Finding;
 use crate::ids::character_of;
-use crate::literal::integers_of;
 use crate::modes::{Mode, REWRITING};
 use crate::position::Position;
-use crate::style::kinds_of;
 use rl_flaws::Edition;
 use rl_restyle::{Choice, Macros};
 use rl_style::Style;
 use rl_syntax::Kind;
-use std::alloc::{AllocError, Allocator};
+use std::alloc::Allocator;
 
 /// The format of findings.
 #[derive(Clone, Copy)]
@@ -32,38 +35,8 @@ pub(crate) struct Lists<'a> {
     pub numbers: &'a [u128],
     /// The identifiers of findings that don't count.
     pub allowed: &'a [&'a str],
-    /// The kinds of the literals that count if `--only` is passed. `None` is a literal without a value.
+    /// The kinds of the literals that count, or none if all count. `None` is a literal without a value.
     pub kinds: &'a [Option<Kind>],
-}
-
-/// Owns the values of options that may be repeated.
-#[derive(Drop)]
-pub(crate) struct Values<'a, A: Allocator> {
-    finds: Vec<&'a str, A>,
-    numbers: Vec<u128, A>,
-    allowed: Vec<&'a str, A>,
-    kinds: Vec<Option<Kind>, A>,
-}
-
-impl<'a, A: Allocator + Copy> Values<'a, A> {
-    pub(crate) fn of(alloc: A, args: &Args<'a, A>) -> Result<Values<'a, A>, AllocError> {
-        let numbers = args.all(alloc, "--number")?;
-        Ok(Values {
-            finds: args.all(alloc, "--find")?,
-            numbers: integers_of(alloc, numbers.as_slice())?,
-            allowed: args.all(alloc, "--allow")?,
-            kinds: kinds_of(alloc, args.last("--only").unwrap_or(""))?,
-        })
-    }
-
-    pub(crate) fn lists(&self) -> Lists<'_> {
-        Lists {
-            finds: self.finds.as_slice(),
-            numbers: self.numbers.as_slice(),
-            allowed: self.allowed.as_slice(),
-            kinds: self.kinds.as_slice(),
-        }
-    }
 }
 
 /// The work of a call of `rl_scan` on each file.
@@ -71,8 +44,6 @@ impl<'a, A: Allocator + Copy> Values<'a, A> {
 pub(crate) struct Job<'a> {
     pub mode: Mode,
     pub lists: Lists<'a>,
-    /// Whether only literals of some kinds count.
-    pub has_kinds: bool,
     /// Whether any suffix and any value is accepted.
     pub any_suffix: bool,
     /// Whether stray characters are errors.
@@ -117,18 +88,16 @@ fn edition_of(year: Option<&str>) -> Edition {
     }
 }
 
-fn lines_of(value: Option<&str>, other: Option<usize>) -> Option<usize> {
-    match value {
-        Some(value) => number_in(value),
-        None => other,
-    }
+/// Returns the number of lines that an option requests.
+fn lines_of<A: Allocator + Copy>(args: &Args<'_, A>, name: &str) -> Option<usize> {
+    number_in(args.last(name)?)
 }
 
 /// Returns the numbers of lines around findings that a call requests.
 fn around_of<A: Allocator + Copy>(args: &Args<'_, A>) -> Option<Around> {
-    let both = lines_of(args.last("--context"), None);
-    let before = lines_of(args.last("--before-context"), both);
-    let after = lines_of(args.last("--after-context"), both);
+    let both = lines_of(args, "--context");
+    let before = lines_of(args, "--before-context").or(both);
+    let after = lines_of(args, "--after-context").or(both);
     if before.is_none() && after.is_none() {
         return None;
     }
@@ -147,14 +116,12 @@ impl<'a> Job<'a> {
         let mode = args.mode();
         let all = args.last("--macros") == Some("all");
         let macros = if all { Macros::All } else { Macros::Skip };
-        let any_suffix = args.has("--any-suffix");
         let (quiet, counts) = (args.has("--quiet"), args.has("--count"));
         let names = args.has("--files-with-matches");
         Job {
             mode,
             lists,
-            has_kinds: args.has("--only"),
-            any_suffix,
+            any_suffix: args.has("--any-suffix"),
             strays: args.has("--no-stray"),
             follows: mode == Mode::Bad && !all,
             edition: edition_of(args.last("--edition")),
@@ -196,11 +163,9 @@ impl<'a> Job<'a> {
 
     /// Returns the choice of the literals that are rewritten.
     pub(crate) fn choice(&self) -> Choice<'a> {
-        let kinds = self.lists.kinds;
-        Choice {
-            macros: self.macros,
-            kinds: if self.has_kinds { Some(kinds) } else { None },
-        }
+        let (macros, kinds) = (self.macros, self.lists.kinds);
+        let kinds = if kinds.is_empty() { None } else { Some(kinds) };
+        Choice { macros, kinds }
     }
 
     /// Whether the positions in a file, or else in standard input, are lines and columns.
@@ -218,16 +183,19 @@ impl<'a> Job<'a> {
     }
 
     /// Appends the code of a colour, if the output has colours.
-    pub(crate) fn push_color<A: Allocator>(
-        &self,
-        out: &mut String<A>,
-        code: &str,
-    ) -> Result<(), AllocError> {
+    pub(crate) fn push_color<A: Allocator>(&self, out: &mut String<A>, code: &str) -> Appended {
         if self.color {
             out.push_str(code)
         } else {
             Ok(())
         }
+    }
+
+    /// Whether errors with an identifier don't count.
+    pub(crate) fn allows_error(&self, id: &str) -> bool
+        ensures { IsTrue result → Allows self.now id.now }
+    {
+        is_among(self.lists.allowed, id)
     }
 
     /// Whether a finding doesn't count.
@@ -240,33 +208,42 @@ impl<'a> Job<'a> {
             return true;
         }
         match finding {
-            Finding::Hidden { c, .. } => allowed.iter().any(|id| character_of(id) == Some(*c)),
+            Finding::Hidden(c) => allowed.iter().any(|id| character_of(id) == Some(*c)),
             _ => false,
         }
     }
 
     /// Whether literals of a kind count.
     pub(crate) fn wants(&self, kind: Option<Kind>) -> bool {
-        !self.has_kinds || self.lists.kinds.iter().any(|wanted| *wanted == kind)
+        let kinds = self.lists.kinds;
+        kinds.is_empty() || kinds.iter().any(|wanted| *wanted == kind)
     }
 
-    /// Returns the job for errors of a file, which are lines of text.
+    /// Returns the job for errors of a file, which are lines of text. The types of literals aren't checked, but stray characters
+    /// are errors.
     pub(crate) fn for_errors(&self) -> Job<'a> {
         let mut job = *self;
         job.form = Form::Text;
         job.color = false;
         job.around = None;
         job.shows = self.messages;
+        job.any_suffix = true;
+        job.strays = true;
         job
     }
 
-    /// Returns the exit status of a run without errors.
-    pub(crate) fn status(&self, findings: u64) -> u8 {
-        let fails = match self.mode {
-            Mode::Bad | Mode::Invisible | Mode::Check | Mode::Diff => findings > 0,
-            Mode::Find => findings == 0,
-            _ => false,
-        };
-        if fails && !self.lists_files { 1 } else { 0 }
+    /// Returns the exit status of a run without errors. `are_accepted` tells whether `--bad` accepts all literals.
+    pub(crate) fn status(&self, findings: u64, are_accepted: bool) -> u8
+        ensures { result ≡ 0 → self.now.mode ≡ Bad → IsFalse self.now.lists_files → IsTrue are_accepted }
+    {
+        if self.lists_files {
+            return 0;
+        }
+        match self.mode {
+            Mode::Bad => if findings == 0 && are_accepted { 0 } else { 1 },
+            Mode::Invisible | Mode::Check | Mode::Diff => if findings == 0 { 0 } else { 1 },
+            Mode::Find => if findings == 0 { 1 } else { 0 },
+            _ => 0,
+        }
     }
 }

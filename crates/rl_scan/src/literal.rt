@@ -1,10 +1,8 @@
 //! A literal of a source with its parse result: its printed line, and its value.
 
-ghost use Rattle.std.specs.Prelude.{IfNone, IfSome};
-ghost use Rattle.std.specs.Str.{chars};
 ghost use Rattle.rl_lenient.specs.Founds.{IsFound};
-ghost use Rattle.rl_syntax.specs.Reading.{HasNoReading};
 
+use crate::failure::Appended;
 use rl_fronts::{bytes_of_body, str_of_body};
 use rl_lenient::{Found, parse_literal};
 use rl_program::push_found_line;
@@ -80,10 +78,7 @@ impl<'t> Literal<'t> {
 
     /// Returns the literal's kind, or `None` if the literal has no value.
     pub(crate) fn kind(&self) -> Option<Kind> {
-        match self.found {
-            Some(found) => Some(found.kind),
-            None => None,
-        }
+        self.found.map(|found| found.kind)
     }
 
     /// Returns the number that an integer represents.
@@ -123,11 +118,7 @@ impl<'t> Literal<'t> {
     }
 
     /// Appends the line of the literal: its kind, its value and its suffix.
-    pub(crate) fn push_line<A: Allocator + Copy>(
-        &self,
-        alloc: A,
-        out: &mut String<A>,
-    ) -> Result<(), AllocError> {
+    pub(crate) fn push_line<A: Allocator + Copy>(&self, alloc: A, out: &mut String<A>) -> Appended {
         push_found_line(alloc, out, self.text, self.found)
     }
 

@@ -11,6 +11,7 @@ mod escapes;
 mod failure;
 mod finding;
 mod findings;
+mod follower;
 mod generated;
 mod hidden;
 mod host;
@@ -84,13 +85,7 @@ fn main(rt: HostRuntime) -> ExitCode {
         out: &mut rt.stdout(),
         err: &mut rt.stderr(),
     };
-    let host = Host { rt: &rt };
-    let ending = run_with_arguments(
-        rt.alloc(),
-        args.as_slice(),
-        console,
-        &host,
-        &mut Host { rt: &rt },
-    );
+    let (tree, mut files) = (Host { rt: &rt }, Host { rt: &rt });
+    let ending = run_with_arguments(rt.alloc(), args.as_slice(), console, &tree, &mut files);
     finish(&rt, ending)
 }

@@ -1,7 +1,7 @@
 //! Output that is written in pieces, so that memory doesn't grow with its length.
 
 use crate::escapes::{Before, Escapes, push_char, push_number, push_text};
-use crate::failure::Failure;
+use crate::failure::Done;
 use rl_program::write_bytes;
 use std::alloc::Allocator;
 use std::io::Write;
@@ -25,14 +25,14 @@ impl<'p, A: Allocator + Copy, W: Write> Output<'p, A, W> {
     }
 
     /// Writes the output.
-    pub(crate) fn send(&mut self) -> Result<(), Failure<A>> {
+    pub(crate) fn send(&mut self) -> Done<A> {
         write_bytes(self.stream, self.text.as_bytes())?;
         self.text.clear();
         Ok(())
     }
 
     /// Writes the output if there is enough of it.
-    pub(crate) fn send_if_full(&mut self) -> Result<(), Failure<A>> {
+    pub(crate) fn send_if_full(&mut self) -> Done<A> {
         if self.text.len() < FULL {
             return Ok(());
         }
@@ -40,12 +40,7 @@ impl<'p, A: Allocator + Copy, W: Write> Output<'p, A, W> {
     }
 
     /// Prints a text with escapes. `before` describes the characters before it.
-    pub(crate) fn print(
-        &mut self,
-        escapes: Escapes,
-        before: Before,
-        text: &str,
-    ) -> Result<(), Failure<A>> {
+    pub(crate) fn print(&mut self, escapes: Escapes, before: Before, text: &str) -> Done<A> {
         if text.len() < FULL {
             push_text(&mut self.text, escapes, before, text)?;
             return Ok(());
@@ -58,8 +53,19 @@ impl<'p, A: Allocator + Copy, W: Write> Output<'p, A, W> {
         Ok(())
     }
 
+    /// Prints a text without escapes. A long text is written without a copy.
+    pub(crate) fn print_bare(&mut self, text: &str) -> Done<A> {
+        if text.len() < FULL {
+            self.text.push_str(text)?;
+            return Ok(());
+        }
+        self.send()?;
+        write_bytes(self.stream, text.as_bytes())?;
+        Ok(())
+    }
+
     /// Prints a text as a JSON string. `name` precedes it.
-    pub(crate) fn print_json(&mut self, name: &str, text: &str) -> Result<(), Failure<A>> {
+    pub(crate) fn print_json(&mut self, name: &str, text: &str) -> Done<A> {
         self.text.push_str(name)?;
         self.text.push('"')?;
         self.print(Escapes::Json, Before::Other, text)?;
@@ -68,7 +74,7 @@ impl<'p, A: Allocator + Copy, W: Write> Output<'p, A, W> {
     }
 
     /// Prints bytes as a JSON array.
-    pub(crate) fn print_array(&mut self, bytes: &[u8]) -> Result<(), Failure<A>> {
+    pub(crate) fn print_array(&mut self, bytes: &[u8]) -> Done<A> {
         let mut is_first = true;
         self.text.push('[')?;
         for byte in bytes {

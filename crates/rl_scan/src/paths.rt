@@ -2,16 +2,13 @@
 
 use crate::args::Args;
 use crate::checks::{extension_in, is_input};
-use crate::failure::Failure;
-use rl_files::{Tree, push_listed_paths, visible_text};
+use crate::failure::{Done, Failure};
+use crate::style::unread_file;
+use rl_files::{Tree, push_listed_paths};
 use std::alloc::{AllocError, Allocator};
 
 /// Checks that a call reads standard input at most once: as a source, a list or a style.
-fn check_input<A: Allocator + Copy>(
-    alloc: A,
-    args: &Args<'_, A>,
-    paths: &[String<A>],
-) -> Result<(), Failure<A>> {
+fn check_input<A: Allocator + Copy>(alloc: A, args: &Args<'_, A>, paths: &[String<A>]) -> Done<A> {
     let mut count = 0_usize;
     for path in paths {
         if is_input(path.as_str()) {
@@ -50,8 +47,7 @@ pub(crate) fn paths_of<A: Allocator + Copy, T: Tree>(
         paths.push(String::from_str(alloc, if reads_here { "." } else { "-" })?)?;
     }
     if let Err(unread) = push_listed_paths(alloc, tree, lists.as_slice(), &mut paths) {
-        let (shown, why) = (visible_text(alloc, unread.file)?, unread.why);
-        return Err(Failure::Said(format!(in alloc; "{shown}: {why}")?));
+        return Err(unread_file(alloc, unread.file, unread.why)?);
     }
     check_input(alloc, args, paths.as_slice())?;
     Ok(paths)

@@ -1,13 +1,15 @@
 //! Prints the findings of a source: as lines of text, as JSON objects, or as annotations for GitHub.
 
+ghost use Rattle.std.specs.Prelude.{◌≡◌};
+
 use crate::context::Context;
 use crate::escapes::{Before, Escapes, push_number, push_property, push_text};
-use crate::failure::Failure;
+use crate::failure::{Appended, Done};
 use crate::finding::{Finding, Place};
 use crate::job::{Form, Job};
 use crate::output::Output;
 use crate::position::Position;
-use std::alloc::{AllocError, Allocator};
+use std::alloc::Allocator;
 use std::io::Write;
 
 /// The findings of a source: their number, and their output.
@@ -47,7 +49,9 @@ impl<'p, 'a, A: Allocator + Copy, W: Write> Page<'p, 'a, A, W> {
         path: &'p str,
         source: &'p str,
         stream: &'p mut W,
-    ) -> Page<'p, 'a, A, W> {
+    ) -> Page<'p, 'a, A, W>
+        ensures { result.source.now ≡ source.now }
+    {
         let position = Position::first(source);
         Page {
             alloc,
@@ -59,19 +63,12 @@ impl<'p, 'a, A: Allocator + Copy, W: Write> Page<'p, 'a, A, W> {
             path: if path == "-" { None } else { Some(path) },
             head: String::new(alloc),
             position,
-            context: match job.around {
-                Some(around) => Some(Context::new(source, position.at, around)),
-                None => None,
-            },
+            context: job.around.map(|it| Context::new(source, position.at, it)),
         }
     }
 
     /// Counts a finding and prints it, unless it is allowed.
-    pub(crate) fn report_finding(
-        &mut self,
-        place: Place,
-        finding: Finding<'_>,
-    ) -> Result<(), Failure<A>> {
+    pub(crate) fn report_finding(&mut self, place: Place, finding: Finding<'_>) -> Done<A> {
         if self.job.allows(&finding) {
             return Ok(());
         }
@@ -91,9 +88,9 @@ impl<'p, 'a, A: Allocator + Copy, W: Write> Page<'p, 'a, A, W> {
     }
 
     /// Writes the output that isn't written yet. It must be called after the last finding.
-    pub(crate) fn close(&mut self) -> Result<(), Failure<A>> {
+    pub(crate) fn close(&mut self) -> Done<A> {
         if let Some(context) = &mut self.context {
-            context.print_end(&mut self.output)?;
+            context.print_owed(&mut self.output, self.source.len())?;
         }
         self.output.send()
     }
@@ -107,7 +104,7 @@ impl<'p, 'a, A: Allocator + Copy, W: Write> Page<'p, 'a, A, W> {
     }
 
     /// Makes the start of each finding's output.
-    fn push_head(&mut self) -> Result<(), AllocError> {
+    fn push_head(&mut self) -> Appended {
         let Some(path) = self.path else {
             return Ok(());
         };
@@ -132,7 +129,7 @@ impl<'p, 'a, A: Allocator + Copy, W: Write> Page<'p, 'a, A, W> {
     }
 
     /// Appends the path and the position of a finding as the start of a line of text.
-    fn push_text_start(&mut self, place: Place) -> Result<(), AllocError> {
+    fn push_text_start(&mut self, place: Place) -> Appended {
         let out = &mut self.output.text;
         out.push_str(self.head.as_str())?;
         self.job.push_color(out, "\x1b[32m")?;
@@ -150,7 +147,7 @@ impl<'p, 'a, A: Allocator + Copy, W: Write> Page<'p, 'a, A, W> {
     }
 
     /// Prints a finding as a line of text, with the source's lines around it.
-    fn print_text(&mut self, place: Place, finding: &Finding<'_>) -> Result<(), Failure<A>> {
+    fn print_text(&mut self, place: Place, finding: &Finding<'_>) -> Done<A> {
         if self.context.is_some() || self.job.shows_lines(self.path.is_some()) {
             self.position = self.position.moved(self.source, place.lo);
         }
@@ -174,7 +171,7 @@ impl<'p, 'a, A: Allocator + Copy, W: Write> Page<'p, 'a, A, W> {
     }
 
     /// Prints a finding as a JSON object.
-    fn print_object(&mut self, place: Place, finding: &Finding<'_>) -> Result<(), Failure<A>> {
+    fn print_object(&mut self, place: Place, finding: &Finding<'_>) -> Done<A> {
         let start = self.position.moved(self.source, place.lo);
         let end = start.moved(self.source, place.hi);
         self.position = start;
@@ -199,7 +196,7 @@ impl<'p, 'a, A: Allocator + Copy, W: Write> Page<'p, 'a, A, W> {
     }
 
     /// Prints a finding as an annotation.
-    fn print_annotation(&mut self, place: Place, finding: &Finding<'_>) -> Result<(), Failure<A>> {
+    fn print_annotation(&mut self, place: Place, finding: &Finding<'_>) -> Done<A> {
         let start = self.position.moved(self.source, place.lo);
         let end = start.moved(self.source, place.hi);
         self.position = start;

@@ -5,7 +5,7 @@ ghost use Rattle.rl_files.specs.Replacements.{handed_too, replacing};
 ghost use Rattle.rl_scan.specs.Fixes.{FixesSource};
 
 use crate::diff::print_diff;
-use crate::errors::{Checks, report_errors};
+use crate::errors::report_errors;
 use crate::failure::Failure;
 use crate::finding::{Finding, Place};
 use crate::modes::Mode;
@@ -19,6 +19,9 @@ use rl_restyle::{RULES, RestyleError, changing_rules, number_of, rewrite_source}
 use std::alloc::Allocator;
 use std::io::Write;
 
+/// The length of the longest literal for which `--check` names the rules that change it.
+const LONGEST_NAMED: usize = 1 << 20;
+
 /// Reports the change of a literal, and counts the rules that change it.
 fn report_change<A: Allocator + Copy, W: Write>(
     page: &mut Page<'_, '_, A, W>,
@@ -31,14 +34,17 @@ fn report_change<A: Allocator + Copy, W: Write>(
         return Ok(());
     }
     let before = page.source.get(..old.lo).unwrap_or("");
-    let changing = changing_rules(page.alloc, page.job.style, before, old.text)?;
+    let changing = if old.text.len() > LONGEST_NAMED {
+        Vec::new(page.alloc)
+    } else {
+        changing_rules(page.alloc, page.job.style, before, old.text)?
+    };
     for rule in changing.as_slice() {
         if let Some(count) = rules.get_mut(number_of(*rule)) {
             *count = count.saturating_add(1);
         }
     }
-    let (lo, hi) = (old.lo, old.hi);
-    let (old, rules) = (old.text, changing.as_slice());
+    let (lo, hi, old, rules) = (old.lo, old.hi, old.text, changing.as_slice());
     page.report_finding(Place { lo, hi }, Finding::Change { old, new, rules })
 }
 
@@ -67,8 +73,7 @@ impl<'o, 'e, 'a, A: Allocator + Copy, W: Write, E: Write> Call<'o, 'e, 'a, A, W,
         let job = self.job;
         let job = job.for_errors();
         let mut page = Page::new(self.alloc, &job, path, source, self.err);
-        let (types, strays) = (false, true);
-        report_errors(&mut page, Checks { types, strays })?;
+        report_errors(&mut page, job)?;
         page.close()?;
         Ok(page.count > 0)
     }

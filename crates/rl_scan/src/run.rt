@@ -1,23 +1,30 @@
 //! Runs `rl_scan`: visits files, prints their findings, and determines the exit status.
 
+ghost use Rattle.std.specs.Prelude.{◌≡◌, IfOk, IfSome, IsFalse, IsTrue};
+ghost use Rattle.rl_files.specs.Trees.{string_texts};
+ghost use Rattle.rl_files.specs.Walks.{given_waypoints, visited};
+ghost use Rattle.rl_files.specs.declared.tree.PathError.TheVariants.{PathNotUtf8};
+ghost use Rattle.rl_scan.specs.Accepted.{AcceptsAll, AreAccepted, IsAcceptedFile, IsAcceptedVisit};
 ghost use Rattle.rl_scan.specs.Fixes.{Fixes, FixesSource};
+ghost use Rattle.rl_scan.specs.declared.modes.Mode.TheVariants.{Bad};
 
 use crate::args::{Args, without_mark};
-use crate::errors::report_end;
+use crate::errors::{both, report_end};
 use crate::escapes::{Before, Escapes, push_text};
-use crate::failure::Failure;
+use crate::failure::{Appended, Done, Failure};
 use crate::findings::report_findings;
-use crate::job::{Job, Values};
+use crate::job::{Job, Lists};
+use crate::literal::integers_of;
 use crate::modes::Mode;
 use crate::options::row_named;
 use crate::pages::page_of;
 use crate::paths::{extensions_of, paths_of};
 use crate::print::Page;
 use crate::stats::Tally;
-use crate::style::style_of;
+use crate::style::{kinds_of, style_of};
 use rl_files::{PathError, Replace, Selection, Tree, Visit, Walk, WalkError};
 use rl_program::{Ending, write_bytes};
-use std::alloc::{AllocError, Allocator};
+use std::alloc::Allocator;
 use std::io::Write;
 
 /// The standard streams, and the properties of them that a call depends on.
@@ -44,10 +51,8 @@ pub(crate) struct Call<'o, 'e, 'a, A: Allocator, W, E> {
 }
 
 impl<'o, 'e, 'a, A: Allocator + Copy, W: Write, E: Write> Call<'o, 'e, 'a, A, W, E> {
-    // ---- errors of paths
-
     /// Prints a line about a file on standard error, after the program's name and the file's path.
-    pub(crate) fn complain(&mut self, path: &str, words: &str) -> Result<(), Failure<A>> {
+    pub(crate) fn complain(&mut self, path: &str, words: &str) -> Done<A> {
         if !self.job.messages {
             return Ok(());
         }
@@ -61,7 +66,7 @@ impl<'o, 'e, 'a, A: Allocator + Copy, W: Write, E: Write> Call<'o, 'e, 'a, A, W,
     }
 
     /// Prints that a path can't be read or written.
-    pub(crate) fn complain_why(&mut self, path: &str, why: PathError) -> Result<(), Failure<A>> {
+    pub(crate) fn complain_why(&mut self, path: &str, why: PathError) -> Done<A> {
         let mut words = format!(in self.alloc; "{why}")?;
         if matches!(why, PathError::NotFound) && !path.is_empty() {
             let option = format!(in self.alloc; "--{path}")?;
@@ -74,20 +79,21 @@ impl<'o, 'e, 'a, A: Allocator + Copy, W: Write, E: Write> Call<'o, 'e, 'a, A, W,
         self.complain(without_mark(path), words.as_str())
     }
 
-    /// Prints that a path can't be read, and counts it. A path that isn't UTF-8 is only skipped.
-    fn report_unread(&mut self, path: &str, why: PathError) -> Result<(), Failure<A>> {
+    /// Prints that a path can't be read, and counts it. A path that isn't UTF-8 is only skipped. Returns whether it is.
+    fn report_unread(&mut self, path: &str, why: PathError) -> Result<bool, Failure<A>>
+        ensures skipped { IfOk result (λ skipped. IsTrue skipped → why ≡ PathNotUtf8) }
+    {
         self.complain_why(path, why)?;
-        if !matches!(why, PathError::PathNotUtf8) {
-            self.tally.visited = self.tally.visited.saturating_add(1);
-            self.tally.errors = self.tally.errors.saturating_add(1);
+        if matches!(why, PathError::PathNotUtf8) {
+            return Ok(true);
         }
-        Ok(())
+        self.tally.visited = self.tally.visited.saturating_add(1);
+        self.tally.errors = self.tally.errors.saturating_add(1);
+        Ok(false)
     }
 
-    // ---- sources
-
     /// Appends a path of `--files`, `-l` or `-c`, with a mark after it.
-    fn push_file(&self, out: &mut String<A>, path: &str, mark: char) -> Result<(), AllocError> {
+    fn push_file(&self, out: &mut String<A>, path: &str, mark: char) -> Appended {
         self.job.push_color(out, "\x1b[35m")?;
         if self.job.nul {
             out.push_str(path)?;
@@ -99,7 +105,7 @@ impl<'o, 'e, 'a, A: Allocator + Copy, W: Write, E: Write> Call<'o, 'e, 'a, A, W,
     }
 
     /// Prints the path of a file, or the number of its findings.
-    fn print_count(&mut self, path: &str, count: u64) -> Result<(), Failure<A>> {
+    fn print_count(&mut self, path: &str, count: u64) -> Done<A> {
         let mut line = String::new(self.alloc);
         let is_input = path == "-";
         let is_fix = self.job.mode == Mode::Fix && !is_input && !self.job.quiet;
@@ -115,42 +121,33 @@ impl<'o, 'e, 'a, A: Allocator + Copy, W: Write, E: Write> Call<'o, 'e, 'a, A, W,
         Ok(())
     }
 
-    /// Prints the findings of a source. Returns their number.
-    fn print_findings<'t>(&mut self, path: &'t str, source: &'t str) -> Result<u64, Failure<A>> {
-        let job = self.job;
+    /// Prints the findings of a source. Returns their number, and whether `--bad` accepts all literals.
+    fn print_findings<'t>(
+        &mut self,
+        job: Job<'a>,
+        path: &'t str,
+        source: &'t str,
+    ) -> Result<(u64, bool), Failure<A>>
+        ensures { IfOk result (λ r. IsTrue r.1 → job.entry.mode ≡ Bad → AreAccepted job.entry source.now) }
+    {
         let mut page = Page::new(self.alloc, &job, path, source, self.out);
-        let end = report_findings(&mut page)?;
+        let (are_accepted, end) = report_findings(&mut page, job)?;
         page.close()?;
         let count = page.count;
         drop(page);
         if let Some(error) = end {
             let job = job.for_errors();
             let mut errors = Page::new(self.alloc, &job, path, source, self.err);
-            report_end(&mut errors, error)?;
+            report_end(&mut errors, job, error)?;
             errors.close()?;
             drop(errors);
             self.tally.errors = self.tally.errors.saturating_add(1);
         }
-        Ok(count)
+        Ok((count, are_accepted))
     }
 
-    /// Reads a source, prints its findings, and counts them.
-    fn report_source<'t, F: Replace>(
-        &mut self,
-        files: &mut F,
-        path: &'t str,
-        source: &'t str,
-    ) -> Result<(), Failure<A>>
-        ensures fixes { FixesSource path.now source.now (F.handed files.old) (F.handed files.new) }
-    {
-        self.tally.visited = self.tally.visited.saturating_add(1);
-        self.tally.read = self.tally.read.saturating_add(1);
-        let job = self.job;
-        let count = if job.rewrites() {
-            self.rewrite(files, path, source)?
-        } else {
-            self.print_findings(path, source)?
-        };
+    /// Counts the findings of a source, and prints their number or the path.
+    fn add_findings(&mut self, path: &str, count: u64) -> Done<A> {
         if count == 0 {
             return Ok(());
         }
@@ -159,36 +156,80 @@ impl<'o, 'e, 'a, A: Allocator + Copy, W: Write, E: Write> Call<'o, 'e, 'a, A, W,
         self.print_count(path, count)
     }
 
-    /// Reads a file, prints its findings, and counts them. With `--files`, it prints only the path.
+    /// Reads a source, prints its findings, and counts them. Returns whether `--bad` accepts all literals.
+    fn report_source<'t, F: Replace>(
+        &mut self,
+        job: Job<'a>,
+        files: &mut F,
+        path: &'t str,
+        source: &'t str,
+    ) -> Result<bool, Failure<A>>
+        ensures fixes { FixesSource path.now source.now (F.handed files.old) (F.handed files.new) }
+        ensures accepted { IfOk result (λ a. IsTrue a → job.entry.mode ≡ Bad → AreAccepted job.entry source.now) }
+    {
+        self.tally.visited = self.tally.visited.saturating_add(1);
+        self.tally.read = self.tally.read.saturating_add(1);
+        if job.rewrites() {
+            let count = self.rewrite(files, path, source)?;
+            self.add_findings(path, count)?;
+            return Ok(false);
+        }
+        let (count, are_accepted) = self.print_findings(job, path, source)?;
+        self.add_findings(path, count)?;
+        Ok(are_accepted)
+    }
+
+    /// Reads a file, and prints and counts its findings. `--files` prints only the path. Returns whether `--bad` accepts all literals.
     fn report_file<T: Tree, F: Replace>(
         &mut self,
+        job: Job<'a>,
         tree: &T,
         files: &mut F,
         path: &str,
-    ) -> Result<(), Failure<A>>
+    ) -> Result<bool, Failure<A>>
         ensures fixes { Fixes (T.holds tree.now) (F.handed files.old) (F.handed files.new) }
+        ensures accepted { IfOk result (λ a. IsTrue a → job.entry.mode ≡ Bad
+            → IfSome (T.holds tree.now) (λ w. IsAcceptedFile job.entry w path.now)) }
     {
-        if self.job.lists_files {
+        if job.lists_files {
             self.tally.visited = self.tally.visited.saturating_add(1);
             if self.job.quiet {
-                return Ok(());
+                return Ok(false);
             }
             let mut line = String::new(self.alloc);
             self.push_file(&mut line, path, '\n')?;
             write_bytes(self.out, line.as_bytes())?;
-            return Ok(());
+            return Ok(false);
         }
         let bytes = match tree.bytes(self.alloc, path) {
             Ok(bytes) => bytes,
             Err(why) => return self.report_unread(path, why),
         };
         match std::str::from_utf8(bytes.as_slice()) {
-            Ok(source) => self.report_source(files, path, source),
+            Ok(source) => self.report_source(job, files, path, source),
             Err(error) => self.report_unread(path, PathError::NotUtf8(error.valid_up_to())),
         }
     }
 
-    /// Prints the findings of all files of a walk, and counts them.
+    /// Reads the file that a walk returns, or prints why it can't be read. Returns whether `--bad` accepts all literals.
+    fn report_visit<T: Tree, F: Replace>(
+        &mut self,
+        job: Job<'a>,
+        tree: &T,
+        files: &mut F,
+        visit: Visit<A>,
+    ) -> Result<bool, Failure<A>>
+        ensures fixes { Fixes (T.holds tree.now) (F.handed files.old) (F.handed files.new) }
+        ensures accepted { IfOk result (λ a. IsTrue a → job.entry.mode ≡ Bad
+            → IfSome (T.holds tree.now) (λ w. IsAcceptedVisit job.entry w (visited visit))) }
+    {
+        match visit {
+            Visit::File(path) => self.report_file(job, tree, files, path.as_str()),
+            Visit::Failed(path, why) => self.report_unread(path.as_str(), why),
+        }
+    }
+
+    /// Prints the findings of all files of a walk, and counts them. Returns whether `--bad` accepts all literals.
     #[tactic(auto, using(crate::proofs::FixLemmas::fixes_none, crate::proofs::FixLemmas::fixes_both))]
     fn report_files<T: Tree, F: Replace>(
         &mut self,
@@ -196,14 +237,20 @@ impl<'o, 'e, 'a, A: Allocator + Copy, W: Write, E: Write> Call<'o, 'e, 'a, A, W,
         files: &mut F,
         walk: &mut Walk<A>,
         selection: Selection<'_>,
-    ) -> Result<(), Failure<A>>
+    ) -> Result<bool, Failure<A>>
         ensures fixes { Fixes (T.holds tree.now) (F.handed files.old) (F.handed files.new) }
+        ensures accepted { IfOk result (λ a. IsTrue a → self.old.job.mode ≡ Bad
+            → AcceptsAll self.old.job (T.holds tree.now) selection.entry walk.old) }
     {
+        let job = self.job;
+        let mut are_accepted = true;
         for _ in 0..u64::MAX {
             match walk.next(self.alloc, selection, tree) {
-                Ok(None) => return Ok(()),
-                Ok(Some(Visit::File(path))) => self.report_file(tree, files, path.as_str())?,
-                Ok(Some(Visit::Failed(path, why))) => self.report_unread(path.as_str(), why)?,
+                Ok(None) => return Ok(are_accepted),
+                Ok(Some(visit)) => {
+                    let is_accepted = self.report_visit(job, tree, files, visit)?;
+                    are_accepted = both(is_accepted, are_accepted);
+                }
                 Err(WalkError::OutOfMemory) => return Err(Failure::Memory),
                 Err(WalkError::TooManyDirectories) => break,
             }
@@ -212,19 +259,36 @@ impl<'o, 'e, 'a, A: Allocator + Copy, W: Write, E: Write> Call<'o, 'e, 'a, A, W,
     }
 }
 
-// ---- calls
-
-/// Returns the description of the files that a walk visits.
-fn selection_of<'x>(
-    all: bool,
-    extensions: &'x [&'x str],
-    excludes: &'x [&'x str],
-) -> Selection<'x> {
-    Selection {
-        all,
-        extensions,
-        excludes,
+/// Prints the findings of the selected files at `paths`, and the totals. Returns the exit status.
+fn run_walk<A: Allocator + Copy, T: Tree, W: Write, E: Write, F: Replace>(
+    call: &mut Call<'_, '_, '_, A, W, E>,
+    selection: Selection<'_>,
+    tree: &T,
+    files: &mut F,
+    paths: &mut Vec<String<A>, A>,
+) -> Result<u8, Failure<A>>
+    ensures fixes { Fixes (T.holds tree.now) (F.handed files.old) (F.handed files.new) }
+    // With `--bad`, the status is 0 only if all literals of all files are accepted.
+    ensures accepted { IfOk result (λ status. status ≡ 0 → call.old.job.mode ≡ Bad → IsFalse call.old.job.lists_files
+        → AcceptsAll call.old.job (T.holds tree.now) selection.entry (given_waypoints (string_texts paths.old.items))) }
+{
+    let (alloc, job, has_paths) = (call.alloc, call.job, !paths.is_empty());
+    let mut walk = Walk::of_paths(alloc, paths)?;
+    let are_accepted = match call.report_files(tree, files, &mut walk, selection) {
+        Ok(are_accepted) => are_accepted,
+        Err(Failure::Closed) if job.mode == Mode::Fix => return Err(Failure::Write),
+        Err(failure) => return Err(failure),
+    };
+    if job.stats {
+        call.print_totals()?;
     }
+    if has_paths && call.tally.visited == 0 {
+        return Err(Failure::said(alloc, "there was no file to read"));
+    }
+    if call.tally.errors > 0 {
+        return Ok(2);
+    }
+    Ok(job.status(call.tally.findings, are_accepted))
 }
 
 /// Prints the findings of the files at `paths`, and the totals. Returns the exit status.
@@ -237,28 +301,14 @@ fn run_call<A: Allocator + Copy, T: Tree, W: Write, E: Write, F: Replace>(
 ) -> Result<u8, Failure<A>>
     ensures fixes { Fixes (T.holds tree.now) (F.handed files.old) (F.handed files.new) }
 {
-    let (alloc, has_paths) = (call.alloc, !paths.is_empty());
-    let extensions = extensions_of(alloc, args)?;
-    let excludes = args.all(alloc, "--exclude")?;
-    let all = args.has("--all");
-    let selection = selection_of(all, extensions.as_slice(), excludes.as_slice());
-    let mut walk = Walk::of_paths(alloc, paths)?;
-    match call.report_files(tree, files, &mut walk, selection) {
-        Ok(()) => {}
-        Err(Failure::Closed) if call.job.mode == Mode::Fix => return Err(Failure::Write),
-        Err(failure) => return Err(failure),
-    }
-    if call.job.stats {
-        call.print_totals()?;
-    }
-    if has_paths && call.tally.visited == 0 {
-        return Err(Failure::said(alloc, "there was no file to read"));
-    }
-    if call.tally.errors > 0 {
-        return Ok(2);
-    }
-    let job = call.job;
-    Ok(job.status(call.tally.findings))
+    let extensions = extensions_of(call.alloc, args)?;
+    let excludes = args.all(call.alloc, "--exclude")?;
+    let selection = Selection {
+        all: args.has("--all"),
+        extensions: extensions.as_slice(),
+        excludes: excludes.as_slice(),
+    };
+    run_walk(call, selection, tree, files, paths)
 }
 
 /// Runs a call with the given options. Returns its exit status.
@@ -272,14 +322,22 @@ fn run_options<A: Allocator + Copy, T: Tree, W: Write, E: Write, F: Replace>(
     ensures fixes { Fixes (T.holds tree.now) (F.handed files.old) (F.handed files.new) }
 {
     let style = style_of(alloc, args, tree)?;
-    let values = Values::of(alloc, args)?;
+    let (finds, allowed) = (args.all(alloc, "--find")?, args.all(alloc, "--allow")?);
+    let numbers = integers_of(alloc, args.all(alloc, "--number")?.as_slice())?;
+    let kinds = kinds_of(alloc, args.last("--only").unwrap_or(""))?;
+    let lists = Lists {
+        finds: finds.as_slice(),
+        numbers: numbers.as_slice(),
+        allowed: allowed.as_slice(),
+        kinds: kinds.as_slice(),
+    };
     let Console {
         lacks_input,
         has_colors,
         out,
         err,
     } = console;
-    let job = Job::of(args, values.lists(), style, has_colors);
+    let job = Job::of(args, lists, style, has_colors);
     let mut paths = paths_of(alloc, args, tree, lacks_input || job.lists_files)?;
     let mut call = Call {
         alloc,

@@ -1,11 +1,11 @@
 //! The totals of a run.
 
-use crate::failure::Failure;
+use crate::failure::{Appended, Done};
 use crate::job::Form;
 use crate::run::Call;
 use rl_program::write_bytes;
 use rl_restyle::{RULES, number_of, settable_rules};
-use std::alloc::{AllocError, Allocator};
+use std::alloc::Allocator;
 use std::io::Write;
 
 /// The counts of a run.
@@ -42,7 +42,7 @@ fn push_rule_counts<A: Allocator>(
     text: &mut String<A>,
     is_json: bool,
     counts: &[u64; RULES],
-) -> Result<(), AllocError> {
+) -> Appended {
     let mut is_first = true;
     if is_json {
         text.push_str(",\"rules\":{")?;
@@ -63,11 +63,12 @@ fn push_rule_counts<A: Allocator>(
 
 impl<'o, 'e, 'a, A: Allocator + Copy, W: Write, E: Write> Call<'o, 'e, 'a, A, W, E> {
     /// Prints the totals: after a rewritten source on standard error, and otherwise on standard output.
-    pub(crate) fn print_totals(&mut self) -> Result<(), Failure<A>> {
+    pub(crate) fn print_totals(&mut self) -> Done<A> {
         let mut text = String::new(self.alloc);
         let (read, with_findings) = (self.tally.read, self.tally.with_findings);
         let (findings, errors) = (self.tally.findings, self.tally.errors);
-        let is_json = matches!(self.job.form, Form::Json);
+        let job = self.job;
+        let is_json = matches!(job.form, Form::Json);
         if is_json {
             write!(
                 text,
@@ -79,7 +80,6 @@ impl<'o, 'e, 'a, A: Allocator + Copy, W: Write, E: Write> Call<'o, 'e, 'a, A, W,
                 "files: {read}\nfiles with findings: {with_findings}\nfindings: {findings}\nfiles with an error: {errors}"
             )?;
         }
-        let job = self.job;
         if job.rewrites() {
             push_rule_counts(&mut text, is_json, &self.tally.rules)?;
         }

@@ -3,6 +3,7 @@
 use crate::args::Args;
 use crate::checks::list_contains;
 use crate::failure::Failure;
+use crate::position::Position;
 use rl_files::{PathError, Tree, push_visible, visible_text};
 use rl_lenient::parse_literal;
 use rl_lexer::{Sources, without_byte_order_mark};
@@ -34,8 +35,6 @@ pub(crate) fn kinds_of<A: Allocator>(
     Ok(kinds)
 }
 
-// ---- misspelled words
-
 /// Whether two words that begin with different bytes differ only by one typing error at their start: a byte too many, a byte too
 /// few, another byte, or two exchanged bytes.
 fn slips_here(said: &[u8], meant: &[u8]) -> bool {
@@ -61,14 +60,6 @@ pub(crate) fn is_near(word: &str, meant: &str) -> bool {
     true
 }
 
-/// Returns the part of an argument before the first `=`, or the whole argument.
-pub(crate) fn option_part(word: &str) -> &str {
-    let (option, _) = word.split_once('=').unwrap_or((word, ""));
-    option
-}
-
-// ---- the rules of a style
-
 /// Whether a value of `--rule` is a string without quotes: it consists of ASCII letters and `_`, and isn't `true` or `false`.
 fn is_bare_string(value: &str) -> bool {
     let bytes = value.as_bytes();
@@ -91,7 +82,7 @@ fn settings_text<A: Allocator>(alloc: A, settings: &[&str]) -> Result<String<A>,
 }
 
 /// Returns the error that a file can't be read.
-pub(crate) fn unread<A: Allocator + Copy>(
+pub(crate) fn unread_file<A: Allocator + Copy>(
     alloc: A,
     file: &str,
     why: PathError,
@@ -120,12 +111,7 @@ fn style_failure<A: Allocator + Copy>(
     text: &str,
     error: &StyleError<'_>,
 ) -> Result<Failure<A>, AllocError> {
-    let mut line = 1_usize;
-    for byte in text.as_bytes().get(..error.lo).unwrap_or(b"".as_slice()) {
-        if *byte == b'\n' {
-            line = line.saturating_add(1);
-        }
-    }
+    let line = Position::first(text).moved(text, error.lo).line;
     let mut words = visible_text(alloc, name)?;
     write!(words, ":{line}: ")?;
     if let Some(entry) = error.name {
@@ -206,11 +192,11 @@ pub(crate) fn style_of<A: Allocator + Copy, T: Tree>(
     if let Some(file) = args.last("--style") {
         let bytes = match tree.bytes(alloc, file) {
             Ok(bytes) => bytes,
-            Err(why) => return Err(unread(alloc, file, why)?),
+            Err(why) => return Err(unread_file(alloc, file, why)?),
         };
         return match std::str::from_utf8(bytes.as_slice()) {
             Ok(text) => parsed_style(alloc, file, without_byte_order_mark(text)),
-            Err(error) => Err(unread(alloc, file, PathError::NotUtf8(error.valid_up_to()))?),
+            Err(error) => Err(unread_file(alloc, file, PathError::NotUtf8(error.valid_up_to()))?),
         };
     }
     let rules = args.all(alloc, "--rule")?;

@@ -1,25 +1,22 @@
 //! Prints a finding itself: as words in a line, or as members of a JSON object.
 
 use crate::escapes::Escapes;
-use crate::failure::Failure;
+use crate::failure::{Appended, Done};
 use crate::finding::{Fault, Finding};
+use crate::hidden::bidi_name;
 use crate::literal::Literal;
 use crate::print::Page;
 use rl_program::label_of;
 use rl_restyle::Rule;
 use rl_syntax::Kind;
-use std::alloc::{AllocError, Allocator};
+use std::alloc::Allocator;
 use std::io::Write;
 
 /// The maximum length, in bytes, of the text of an invalid literal in JSON.
 const LONGEST: usize = 1024;
 
 /// Appends the names of rules with a separator between them.
-fn push_names<A: Allocator>(
-    out: &mut String<A>,
-    separator: &str,
-    rules: &[Rule],
-) -> Result<(), AllocError> {
+fn push_names<A: Allocator>(out: &mut String<A>, separator: &str, rules: &[Rule]) -> Appended {
     let mut is_first = true;
     for rule in rules {
         if !is_first {
@@ -40,7 +37,7 @@ fn digits_in(line: &str) -> &str {
 
 impl<'p, 'a, A: Allocator + Copy, W: Write> Page<'p, 'a, A, W> {
     /// Prints the words of a finding in a line.
-    pub(crate) fn print_words(&mut self, finding: &Finding<'_>) -> Result<(), Failure<A>> {
+    pub(crate) fn print_words(&mut self, finding: &Finding<'_>) -> Done<A> {
         let (within, escapes) = (self.within(), Escapes::Literal);
         match finding {
             Finding::Literal(literal) if self.job.as_written => {
@@ -61,8 +58,8 @@ impl<'p, 'a, A: Allocator + Copy, W: Write> Page<'p, 'a, A, W> {
                 self.output.text.push_str(": ")?;
                 self.output.print(escapes, within, fault.piece)
             }
-            Finding::Hidden { c, name, .. } => {
-                let code = *c as u32;
+            Finding::Hidden(c) => {
+                let (code, name) = (*c as u32, bidi_name(*c));
                 write!(self.output.text, "U+{code:04X}{name}")?;
                 Ok(())
             }
@@ -79,7 +76,7 @@ impl<'p, 'a, A: Allocator + Copy, W: Write> Page<'p, 'a, A, W> {
     }
 
     /// Prints the value of a literal as JSON.
-    fn print_value(&mut self, literal: &Literal<'_>) -> Result<(), Failure<A>> {
+    fn print_value(&mut self, literal: &Literal<'_>) -> Done<A> {
         if let (Some(Kind::Str), Some((_, value))) = (literal.kind(), literal.plain_value()) {
             return self.output.print_json("", value);
         }
@@ -105,7 +102,7 @@ impl<'p, 'a, A: Allocator + Copy, W: Write> Page<'p, 'a, A, W> {
     }
 
     /// Prints the members of an error.
-    fn print_fault(&mut self, fault: &Fault<'_>) -> Result<(), Failure<A>> {
+    fn print_fault(&mut self, fault: &Fault<'_>) -> Done<A> {
         match fault.literal {
             Some(text) if text.len() > LONGEST => self.output.text.push_str(",\"text\":null")?,
             Some(text) => self.output.print_json(",\"text\":", text)?,
@@ -120,7 +117,7 @@ impl<'p, 'a, A: Allocator + Copy, W: Write> Page<'p, 'a, A, W> {
     }
 
     /// Prints the members of a finding in a JSON object.
-    pub(crate) fn print_members(&mut self, finding: &Finding<'_>) -> Result<(), Failure<A>> {
+    pub(crate) fn print_members(&mut self, finding: &Finding<'_>) -> Done<A> {
         match finding {
             Finding::Literal(literal) => {
                 self.output
@@ -131,8 +128,8 @@ impl<'p, 'a, A: Allocator + Copy, W: Write> Page<'p, 'a, A, W> {
                 self.output.print_json(",\"suffix\":", literal.suffix())
             }
             Finding::Error(fault) => self.print_fault(fault),
-            Finding::Hidden { id, c, name } => {
-                let code = *c as u32;
+            Finding::Hidden(c) => {
+                let (id, code, name) = (finding.id(), *c as u32, bidi_name(*c));
                 write!(
                     self.output.text,
                     ",\"id\":\"{id}\",\"hidden\":\"U+{code:04X}{name}\""

@@ -1,5 +1,5 @@
 -- Integers above 128 bits: the byte offset of their suffix. Any other literal token parses by `syn`'s grammar.
-use Rattle.rl_strict.proofs.Names.{◌≡◌, ℕ, ◌+◌, ◌-◌, ◌<◌, ◌≤◌, ◌⊎◌, ◌||◌, ◌==◌, Bool, true, false, cond, List, [], ◌∷◌, ◌++◌, length, take, Some, None, refl, sym, ap, subst, ◌∙◌, inl, inr, cases_Bool, cases_lt, is_ascii_digit, IsUtf8, IsUtf8-take, Int, Float, Contents, Digits, NoSign, Sign, first_passes, limit, HasNoReading, HasReading, IsPast, byte_len, drop, IsCharBoundary, le-leb, lt-leb, IsTail, IntReads, dec, StrictFloat, StrictInt, begins_number, int_front, float_strict_reads, minus_int, signed_float, strict_float, strict_int, suffix_in, is_number_front, only_number, Reading, Unit, Integer, AFloat, Truth, suffix_at_if_above_128_bits, IsSignedToken, in_128_bits, IsSignedRead, IsToken, cut_boundary, cut_chars, within_reads, place_value}
+use Rattle.rl_strict.proofs.Names.{◌≡◌, ℕ, ◌+◌, ◌-◌, ◌<◌, ◌≤◌, ◌⊎◌, ◌||◌, ◌==◌, Bool, true, false, cond, List, [], ◌∷◌, ◌++◌, length, take, Some, None, refl, sym, ap, subst, ◌∙◌, inl, inr, cases_Bool, cases_lt, is_ascii_digit, IsUtf8, IsUtf8-take, Int, Float, Contents, Digits, NoSign, Sign, first_passes, limit, HasNoReading, HasReading, IsPast, byte_len, drop, IsCharBoundary, le-leb, lt-leb, IsTail, IntReads, dec, StrictFloat, StrictInt, begins_number, int_front, float_strict_reads, minus_int, signed_float, strict_float, strict_int, suffix_in, is_number_front, only_number, Reading, Unit, Integer, AFloat, Truth, suffix_at_if_above_128_bits, IsSignedToken, capped, IsSignedRead, IsToken, cut_boundary, cut_chars, within_reads, place_value}
 use Rattle.rl_syntax.proofs.Common.{chars}
 use Rattle.rl_lenient.proofs.Names.{Minus}
 use Rattle.rl_lenient.proofs.NumberLemmas.{past_number}
@@ -112,23 +112,23 @@ minus_read : (t number x : List ℕ) (n : ℕ) → chars t ≡ 45 ∷ number →
 minus_read t number x n text s =
     subst (λ z. IntReads z Minus n x) (sym text) (minus_int number x n (digits_read number x n s))
 
-over : (n : ℕ) → None ≡ in_128_bits n → limit < n
+over : (n : ℕ) → None ≡ capped n → limit < n
 over n h = elim (cases_lt limit n) [
   | inl past ↦ past
   | inr small ↦ let some : None ≡ Some n = h ∙ ap (λ b. cond b (Some n) None) (le-leb n limit small) in absurd (cc)
 ]
 
-under : (n m : ℕ) → Some m ≡ in_128_bits n → n ≤ limit
+under : (n m : ℕ) → Some m ≡ capped n → n ≤ limit
 under n m h = elim (cases_lt limit n) [
   | inl past ↦ let none : Some m ≡ None = h ∙ ap (λ b. cond b (Some n) None) (lt-leb n limit past) in absurd (cc)
   | inr small ↦ small
 ]
 
-past_of : (t x : List ℕ) (s : Sign) (n : ℕ) → IntReads t s n x → None ≡ in_128_bits n → (past : IsPast t)
+past_of : (t x : List ℕ) (s : Sign) (n : ℕ) → IntReads t s n x → None ≡ capped n → (past : IsPast t)
     × (past.suffix ≡ x)
 past_of t x s n r h = (record { sign = s; magnitude = n; suffix = x; reads = r; past = over n h }, refl)
 
-within_of : (t x : List ℕ) (s : Sign) (n m : ℕ) → IntReads t s n x → Some m ≡ in_128_bits n → HasReading t
+within_of : (t x : List ℕ) (s : Sign) (n m : ℕ) → IntReads t s n x → Some m ≡ capped n → HasReading t
 within_of t x s n m r h =
     let w = within_reads t x n (record { sign = s; reads = r; within = under n m h }) in
     (Int, (w.0, x, w.1))

@@ -19,7 +19,7 @@ pub use Rattle.rl_lenient.proofs.UnitLemmas.{backslash_not_plain, holds_more, tw
 pub use Rattle.rl_lenient.specs.Forms.{HasNoParts, form_opener, has_form, is_plain_body}
 pub use Rattle.rl_lenient.specs.Founds.{IsBodyWithin, IsFound, IsQuotedAt, body_in, suffix_in}
 unfoldable pub use Rattle.rl_lenient.specs.Mirrors.NumberAt.{radix_at, run}
-pub use Rattle.rl_lenient.specs.Mirrors.NumberAt.{after_digits, after_minus, after_power_sign, capped, digit_run_at, has_digit_at, has_value, magnitude_at, radix_of}
+pub use Rattle.rl_lenient.specs.Mirrors.NumberAt.{after_digits, after_minus, after_power_sign, digit_run_at, has_digit_at, has_value, magnitude_at, radix_of}
 unfoldable pub use Rattle.rl_lenient.specs.Mirrors.OpenerAt.{opener_at}
 pub use Rattle.rl_lenient.specs.Mirrors.OpenerAt.{FoundOpener, byte_opener_at, found_opener, string_opener_at}
 pub use Rattle.rl_lenient.specs.Mirrors.PlainAt.{is_some_text}
@@ -47,7 +47,8 @@ pub use Rattle.rl_strict.specs.Mirrors.StrictAt.{ends_quoted, escape_rest, is_in
 unfoldable pub use Rattle.rl_strict.specs.Mirrors.StrictFlawAt.{raw_stop, strict_escape_flaw_at, strict_unit_flaw_at, suffix_rest}
 pub use Rattle.rl_strict.specs.Mirrors.StrictFlawAt.{begins_hash, raw_character_flaw_of, suffix_end_flaw_at}
 unfoldable pub use Rattle.rl_strict.specs.Mirrors.SuffixRead.{suffix_read_at}
-pub use Rattle.rl_strict.specs.Mirrors.SuffixRead.{is_lone_underscore, is_suffix_byte, suffix_end_read}
+pub use Rattle.rl_strict.specs.Mirrors.SuffixRead.{is_lone_underscore, suffix_end_read}
+pub use Rattle.rl_syntax.specs.Mirrors.RunsAt.{is_ascii_id_continue}
 unfoldable pub use Rattle.rl_strict.specs.Mirrors.UnitFlawAt.{escape_flaw_at, first_digit_flaw_at, hex_flaw_at, unicode_flaw_at}
 pub use Rattle.rl_strict.specs.Mirrors.UnitFlawAt.{FoundFlaw, character_flaw_of, code_flaw_at, code_flaw_of, found_flaw, is_code, low_digit_flaw_at, spoiled_flaw_of, unclosed_flaw_at}
 unfoldable pub use Rattle.rl_strict.specs.Mirrors.WordFlawAt.{word_flaw_at}
@@ -58,7 +59,7 @@ pub use Rattle.rl_strict.specs.SignedFlaws.{ExplainsSigned, IsMinusFlawOf, IsSig
 pub use Rattle.rl_strict.specs.StrictFlawKinds.{ClosedFlaw, HasStrictQuotedFlaw, IsClosed, IsOpen, OpenFlaw, StrictCloserFlaw, StrictQuotedFlaw, StrictRawFlaw, StrictUnitFlaw, SuffixFlaw, form_quote, goes_on_with_suffix, is_raw_form, is_suffix_front, suffix_piece}
 pub use Rattle.rl_strict.specs.StrictFlaws.{ExplainsStrictly, IsStrictFlawOf}
 pub use Rattle.rl_strict.specs.StrictNumberFlaws.{BeginsWord, EndsInPower, IsBasedRun, IsDigitFlaw, IsStrictFraction, IsStrictNumberFlaw, IsStrictWordFlaw, IsWordFlaw, is_float_mark}
-pub use Rattle.rl_strict.specs.StrictNumbersRead.{IsFloatRead, IsIntegerRead, IsNumberRead, IsStop, in_128_bits, suffix_of}
+pub use Rattle.rl_strict.specs.StrictNumbersRead.{IsFloatRead, IsIntegerRead, IsNumberRead, IsStop, suffix_of}
 pub use Rattle.rl_strict.specs.StrictRead.{IsFlawAt, IsMinusStop, IsSignedRead, IsStrictReading, placed_in}
 pub use Rattle.rl_strict.specs.StrictShapes.{ClosesForm, ClosesInside, ClosesRaw, ClosesUnits, IsToken}
 pub use Rattle.rl_strict.specs.declared.flaws.Flaw.{Flaw}
@@ -77,7 +78,7 @@ pub use Rattle.rl_syntax.proofs.Rests.{tail_drop, tail_length}
 pub use Rattle.rl_syntax.proofs.StrictNumbers.{begins_front, digit_front as number_front, float_strict_reads, foreign_dot, letter_no_part, minus_int, no_part, signed_float, strict_float, strict_int, suffix_no_part, suffix_of_strict, suffix_without}
 pub use Rattle.rl_syntax.proofs.StrictQuoted.{MayFollow, between, blanks_after, is_return, no_blank, no_return, one_unit, stands}
 pub use Rattle.rl_syntax.proofs.TailLemmas.{cut_boundary, cut_chars, cut_drop, ok_tail, some_tail, tail_step}
-pub use Rattle.rl_syntax.specs.Numbers.{AllowsSuffix, exponent_text, is_power_sign}
+pub use Rattle.rl_syntax.specs.Numbers.{AllowsSuffix, exponent_text, is_power_sign, capped}
 unfoldable pub use Rattle.rl_syntax.specs.Strict.{dec}
 pub use Rattle.rl_syntax.specs.Strict.{BasedPrefix, BlanksEnd, HasUnits, IsDecimalText, IsDigits, IsDotAlone, IsNumberSuffix, IsPointed, IsRawInside, IsScientific, IsStrictExponent, Strict, StrictCooked, StrictFloat, StrictInt, StrictRaw, is_allowed_in_single_quotes, is_plain_letter, strict_closer, strict_opener, strict_raw_opener}
 pub use Rattle.rl_syntax.specs.Texts.{IsWord, begins, is_among, is_continue, is_start, is_white}

@@ -1,6 +1,5 @@
 -- The position where a text that begins with a minus can't continue as a literal token or as a negative number.
-use Rattle.rl_strict.proofs.Names.{◌≡◌, ℕ, ◌==◌, true, false, List, [], ◌∷◌, ◌++◌, ◌+◌, length, refl, sym, ap, subst, ◌∙◌, inl, inr, both_ways, is_ascii_digit, IsUtf8, byte_len, first_passes, chars, NoNumber, UnexpectedEnd, StopsBefore, IsMinusFlawOf, IsSignedToken, IsToken, FoundFlaw, passes_more, end_flaw_at}
-use Rattle.rl_strict.proofs.StrictExplainLemmas.{cut_bytes}
+use Rattle.rl_strict.proofs.Names.{◌≡◌, ℕ, ◌==◌, true, false, List, [], ◌∷◌, ◌++◌, ◌+◌, refl, sym, ap, subst, ◌∙◌, inl, inr, both_ways, is_ascii_digit, first_passes, NoNumber, UnexpectedEnd, StopsBefore, IsMinusFlawOf, IsSignedToken, IsToken, FoundFlaw, passes_more, end_flaw_at}
 use Rattle.rl_strict.proofs.ReadNumbers.{goes_on as digit_goes_on, one_digit}
 use Rattle.rl_strict.proofs.StrictWordFlaws.{minus_no_token}
 use Rattle.rl_strict.proofs.Stops.{Flawed, raised}
@@ -58,7 +57,3 @@ unsigned t n (inr (m, e, d, c)) = absurd (both_ways (first_passes (λ c. c == 45
     (ap (first_passes (λ c. c == 45)) e))
 
 -- ---- the number of bytes of a text with a minus, before and after the flaw
-
-pub signed_bytes : (t number rest : List ℕ) → chars t ≡ 45 ∷ chars number → IsUtf8 t → IsUtf8 rest
-    → (s : StopsBefore IsSignedToken (45 ∷ chars number) (chars rest)) → length t ≡ byte_len s.front + length rest
-signed_bytes t number rest e ut ur s = cut_bytes t rest s.front ut ur (e ∙ s.text_is)

@@ -12,11 +12,6 @@ cut_bytes t rest front ut ur cut =
     ∙ length-append (encode_utf8_all front) (encode_utf8_all (chars rest))
     ∙ ap (λ z. byte_len front + length z) (encodes-chars rest ur)
 
--- A text has as many bytes as its longest completable prefix and the text after this prefix together.
-pub front_bytes : (t rest : List ℕ) → IsUtf8 t → IsUtf8 rest → (s : StopsBefore IsToken (chars t) (chars rest)) → length
-    t ≡ byte_len s.front + length rest
-front_bytes t rest ut ur s = cut_bytes t rest s.front ut ur s.text_is
-
 -- ---- the text to show for a flaw is an end of the whole text
 
 abbrev Tail : List ℕ → List ℕ → Type 0
@@ -82,12 +77,6 @@ piece_front k t piece rest s (inl q) = elim q.spoils [
 ]
 piece_front k t piece rest s (inr (inl n)) = ([], sym n.2)
 piece_front k t piece rest s (inr (inr w)) = ([], sym w.1)
-
-pub piece_bytes : (k : FlawKind) (t piece rest : List ℕ) → IsUtf8 t → IsUtf8 piece
-    → (s : StopsBefore IsToken (chars t) (chars rest)) → (f : IsStrictFlawOf k (chars t) (chars piece) (chars rest))
-    → length t ≡ byte_len (piece_front k (chars t) (chars piece) (chars rest) s f).0 + length piece
-piece_bytes k t piece rest ut up s f = let cut = piece_front k (chars t) (chars piece) (chars rest) s f in
-    cut_bytes t piece cut.0 ut up cut.1
 
 -- ---- the flaw is in the text after the opening delimiter
 

@@ -1,5 +1,5 @@
 -- The flaws of raw strings in Rust's grammar.
-use Rattle.rl_strict.proofs.Names.{◌≡◌, ◌+◌, ℕ, zero, suc, Option, Some, None, ◌<◌, ◌≤◌, ◌||◌, ◌&&◌, Bool, true, false, not, ◌==◌, cond, List, [], ◌∷◌, ◌++◌, replicate, refl, sym, ap, subst, ◌∙◌, inl, inr, arith, append_assoc, nat_lt, and_from, and_parts, both_ways, cases_Bool, eqb-true, not-true, or_parts, or_from, append_cancel_right, ltb-true, ltb-false, ◌⊎◌, list_all, AllByRecursion, cond_both, IsScalar, Kind, Str, ByteStr, CStr, first_passes, is_string, after_run, is_hash, and_left, IfNone, IfSome, is_some, begins, apart, hashes_past, begins_front, FlawKind, UnexpectedEnd, NoQuote, Unclosed, TooManyHashes, RawForm, StopsBefore, IsOpen, StrictRawFlaw, suffix_piece, ClosesForm, ClosesRaw, ends_raw, is_inside, is_raw_character, is_strict_suffix, raw_stop, raw_character_flaw_of, spoiled_flaw_of}
+use Rattle.rl_strict.proofs.Names.{◌≡◌, ◌+◌, ℕ, zero, suc, ◌<◌, ◌≤◌, ◌||◌, ◌&&◌, Bool, true, false, not, ◌==◌, cond, List, [], ◌∷◌, ◌++◌, replicate, refl, sym, ap, subst, ◌∙◌, inl, inr, arith, append_assoc, nat_lt, and_from, and_parts, both_ways, cases_Bool, eqb-true, not-true, or_parts, or_from, append_cancel_right, ltb-true, ltb-false, ◌⊎◌, list_all, AllByRecursion, cond_both, IsScalar, Kind, Str, ByteStr, CStr, first_passes, is_string, after_run, is_hash, and_left, begins, apart, hashes_past, FlawKind, UnexpectedEnd, NoQuote, Unclosed, TooManyHashes, RawForm, StopsBefore, IsOpen, StrictRawFlaw, suffix_piece, ClosesForm, ClosesRaw, ends_raw, is_inside, is_raw_character, is_strict_suffix, raw_stop, raw_character_flaw_of, spoiled_flaw_of}
 use Rattle.rl_strict.proofs.StrictRawLemmas.{NoCloser, inside_sound, none_before, nothing_inside, past_body, raw_close, raw_complete, raw_on, raw_sound}
 use Rattle.rl_strict.proofs.StrictSuffixFlaws.{Closer, FlawInside, SuffixSpoiled, closed_flaw, same_flaw}
 
@@ -86,14 +86,6 @@ pub walk_on : (k : Kind) (hashes t cs s : List ℕ) (c : ℕ) → t ≡ c ∷ cs
 unfolding raw_stop
 walk_on k hashes t cs s c e h same =
     sym (ap (λ b. cond b (c ∷ cs) (raw_stop k hashes cs)) h) ∙ ap (raw_stop k hashes) (sym e) ∙ same
-
--- The code's test for a closing delimiter passes exactly if the text begins with a quote and the raw string's hashes.
-pub closer_test : {R : Type 0} (o : Option R) (text : R → List ℕ) (hashes after : List ℕ) (c : ℕ) (b : Bool)
-    → IfSome o (λ r. (c ≡ 34) × (after ≡ hashes ++ text r)) → IfNone o ((c == 34 && begins hashes after) ≡ false) → b
-    ≡ is_some o → b ≡ (c == 34 && begins hashes after)
-closer_test (Some r) text hashes after c b some none is = is ∙ sym (and_from (c == 34) (begins hashes after) (ap (λ z. z
-    == 34) some.0) (ap (begins hashes) some.1 ∙ begins_front hashes (text r)))
-closer_test None text hashes after c b some none is = is ∙ sym none
 
 -- If a hash follows `n` hashes, the text begins with `n + 1` hashes.
 pub hash_more : (n : ℕ) (t a z : List ℕ) (c : ℕ) → t ≡ replicate n 35 ++ a → a ≡ c ∷ z → c ≡ 35 → t

@@ -1,5 +1,6 @@
 -- The suffixes of literals in Rust's grammar are the texts that pass the tests `is_strict_suffix` and `is_number_suffix`.
-use Rattle.rl_strict.proofs.Names.{◌≡◌, ◌≢◌, ℕ, ◌||◌, ◌&&◌, Bool, true, not, ◌==◌, cond, List, [], ◌∷◌, refl, ap, subst, sym, ◌∙◌, inl, inr, and_from, and_parts, both_ways, cases_Bool, eqb-true, not-true, not_from_false, list_all, is_xid_start, is_xid_continue, is_underscore, first_passes, IsStrictSuffix, IsWord, is_white, is_continue, is_start, IsNumberSuffix, is_number_suffix, is_strict_suffix, is_some_text}
+use Rattle.rl_strict.proofs.Names.{◌≡◌, ◌≢◌, ℕ, ◌||◌, ◌&&◌, Bool, true, not, ◌==◌, cond, List, [], ◌∷◌, refl, ap, subst, sym, ◌∙◌, inl, inr, and_from, and_parts, both_ways, cases_Bool, eqb-true, not-true, not_from_false, list_all, is_xid_start, is_xid_continue, is_underscore, first_passes, IsStrictSuffix, IsWord, is_white, is_continue, is_start, IsNumberSuffix, is_number_suffix, is_strict_suffix, is_some_text, all_weaker}
+use Rattle.rl_syntax.proofs.WhiteLemmas.{continues, starts}
 
 -- If all characters of a text pass two tests, all of them pass the conjunction of the tests.
 pub all_both : (f g : ℕ → Bool) (cs : List ℕ) → list_all f cs ≡ true → list_all g cs ≡ true
@@ -41,10 +42,8 @@ strict_suffix_complete [] h = refl
 strict_suffix_complete (c ∷ cs) (inl e) = absurd (cc)
 strict_suffix_complete (c ∷ cs) (inr w) =
     let p = and_parts (c == 95 || is_xid_start c) (list_all is_xid_continue cs) w.identifier in
-    let q = and_parts (not (is_white c)) (list_all (λ c. not (is_white c)) cs) w.no_white in
     and_from (cond (c == 95) (is_some_text cs) (is_start c)) (list_all is_continue cs)
-    (word_front c cs (and_from (c == 95 || is_xid_start c) (not (is_white c)) p.0 q.0) w.not_underscore)
-    (all_both is_xid_continue (λ c. not (is_white c)) cs p.1 q.1)
+    (word_front c cs (starts c p.0) w.not_underscore) (all_weaker is_xid_continue is_continue continues cs p.1)
 
 -- The text without its first character.
 abbrev following : List ℕ → List ℕ
@@ -56,11 +55,10 @@ word_of : (c : ℕ) (cs : List ℕ) → is_start c ≡ true → list_all is_cont
     → IsWord (c ∷ cs)
 word_of c cs s h n =
     let p = and_parts (c == 95 || is_xid_start c) (not (is_white c)) s in
-    let q = all_apart is_xid_continue (λ c. not (is_white c)) cs h in
     record {
-      identifier = and_from (c == 95 || is_xid_start c) (list_all is_xid_continue cs) p.0 q.0;
+      identifier = and_from (c == 95 || is_xid_start c) (list_all is_xid_continue cs) p.0
+          (all_apart is_xid_continue (λ c. not (is_white c)) cs h).0;
       not_underscore = n;
-      no_white = and_from (not (is_white c)) (list_all (λ c. not (is_white c)) cs) p.1 q.1;
     }
 
 -- A text that passes the test `is_strict_suffix` is a suffix of a quoted literal.

@@ -1,5 +1,5 @@
--- Executable models of the code: functions on lists of characters. It is proved that the code returns what these functions
--- return. No public contract mentions these functions.
+-- Executable models of the code: functions on lists of characters. It is proved that the code returns equal results. Contracts of
+-- private functions cite them, and so do contracts of some functions that are public only for other crates of this repository.
 
 pub mod StrictAt
 pub mod StrictFlawAt

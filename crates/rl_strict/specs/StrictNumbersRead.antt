@@ -1,7 +1,7 @@
 -- The parse result of a number of Rust's grammar.
-use Rattle.std.specs.Prelude.{◌≡◌, ℕ, List, Option, Some, None, nat_le, if◌then◌else◌}
+use Rattle.std.specs.Prelude.{◌≡◌, ℕ, List, Option}
 use Rattle.std.specs.Str.{chars}
-use Rattle.rl_syntax.specs.Numbers.{limit}
+use Rattle.rl_syntax.specs.Numbers.{capped}
 use Rattle.rl_syntax.specs.declared.kind.Kind.TheVariants.{Int, Float as FloatKind}
 use Rattle.rl_syntax.specs.Reading.{Contents, Digits}
 use Rattle.rl_syntax.specs.Strict.{Strict, dec}
@@ -12,13 +12,9 @@ use Rattle.rl_strict.specs.declared.read_numbers.Number.{Number}
 use Rattle.rl_strict.specs.declared.read_numbers.Number.TheVariants.{Integer, Float}
 use Rattle.rl_strict.specs.StrictShapes.{IsToken}
 
--- The number `n` if it fits 128 bits, and `None` otherwise.
-abbrev pub in_128_bits : ℕ → Option ℕ
-in_128_bits n = if nat_le n limit then Some n else None
-
 -- The text is an integer of any size with the suffix `suffix`. `magnitude` is `None` above 128 bits.
 abbrev pub IsIntegerRead : List ℕ → Option ℕ → List ℕ → Type 0
-IsIntegerRead text magnitude suffix = (n : ℕ) × Strict text Int (Digits (dec n)) suffix × (magnitude ≡ in_128_bits n)
+IsIntegerRead text magnitude suffix = (n : ℕ) × Strict text Int (Digits (dec n)) suffix × (magnitude ≡ capped n)
 
 -- The text is a float with this suffix.
 abbrev pub IsFloatRead : List ℕ → List ℕ → Type 0

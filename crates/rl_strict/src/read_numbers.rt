@@ -8,10 +8,11 @@ ghost use Rattle.rl_strict.specs.StrictNumbersRead.{IsNumberRead, IsStop, suffix
 ghost use Rattle.std.specs.List.{list_all};
 ghost use Rattle.std.specs.Str.{chars};
 ghost use Rattle.rl_syntax.specs.Texts.{IsTail, first_passes};
-ghost use Rattle.rl_lenient.specs.Mirrors.NumberAt.{after_power_sign, capped, magnitude_at};
+ghost use Rattle.rl_lenient.specs.Mirrors.NumberAt.{after_power_sign, magnitude_at};
+ghost use Rattle.rl_syntax.specs.Numbers.{capped};
 ghost use Rattle.rl_strict.specs.StrictNumberFlaws.{is_float_mark};
 ghost use Rattle.rl_strict.specs.Mirrors.StrictFlawAt.{suffix_rest};
-ghost use Rattle.rl_strict.specs.Mirrors.SuffixRead.{is_suffix_byte};
+ghost use Rattle.rl_syntax.specs.Mirrors.RunsAt.{is_ascii_id_continue};
 ghost use Rattle.rl_strict.specs.Mirrors.NumberRead.{based_read_at, digits_end_at, fraction_end_at, number_outcome, number_read_at, outcome, power_end_at, suffix_end_at, whole_read_at};
 
 use crate::flaws::FlawKind;
@@ -52,7 +53,7 @@ pub(crate) fn skip_suffix(text: &str) -> &str
 /// Whether each byte is an ASCII letter, an ASCII digit or an underscore.
 #[inline(always)]
 fn are_suffix_bytes(bytes: &[u8]) -> bool
-    ensures { result ≡ list_all is_suffix_byte bytes.now }
+    ensures { result ≡ list_all is_ascii_id_continue bytes.now }
 {
     bytes
         .iter()

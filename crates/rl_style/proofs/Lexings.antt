@@ -1,9 +1,9 @@
 -- The text after a literal token decides where the lexer ends the token.
-use Rattle.rl_syntax.proofs.Common.{◌≡◌, ℕ, ◌≤◌, suc, ◌⊎◌, inl, inr, Bool, true, false, not, ◌&&◌, ◌||◌, ◌==◌, cond, List, [], ◌∷◌, ◌++◌, length, Option, Some, None, drop, replicate, refl, sym, ◌∙◌, ap, subst, arith, append_assoc, lit<, and_parts, and_from, or_cases, eqb-true, nat_lt, digit_value, list_all, list_any, is_ascii_digit, is_xid_continue, option_map}
-use Rattle.rl_syntax.specs.Texts.{is_underscore, is_white, first_passes, is_run_part, is_start, is_continue, begins_char}
+use Rattle.rl_syntax.proofs.Common.{◌≡◌, ℕ, ◌≤◌, suc, ◌⊎◌, inl, inr, Bool, true, false, not, ◌&&◌, ◌||◌, ◌==◌, cond, List, [], ◌∷◌, ◌++◌, length, Option, Some, None, drop, replicate, refl, sym, ◌∙◌, ap, subst, arith, append_assoc, lit<, and_parts, and_from, or_cases, eqb-true, nat_lt, digit_value, list_all, list_any, is_ascii_digit, option_map}
+use Rattle.rl_syntax.specs.Texts.{is_underscore, first_passes, is_run_part, is_start, is_continue, begins_char}
 use Rattle.rl_syntax.specs.Classes.{after_run}
-use Rattle.rl_syntax.proofs.Basics.{all_weaker, false_unless, word_continues}
-use Rattle.rl_syntax.specs.Strict.{IsDecimalText, IsDigits, IsStrictExponent, IsStrictSuffix}
+use Rattle.rl_syntax.proofs.Basics.{all_weaker, false_unless}
+use Rattle.rl_syntax.specs.Strict.{IsDecimalText, IsDigits, IsStrictExponent}
 use Rattle.rl_lexer.specs.Lexemes.{is_base_letter, begins_dot, BodyPart, body_text, IsBody, CharacterBody, character_body_text, IsCharacterBody, IsRawBody, LiteralPrefix, NoPrefix, BytePrefix, CPrefix, LexemeForm, LiteralForm, lexeme_text, QuotedLexeme, RawLexeme, CharacterLexeme}
 use Rattle.rl_lexer.specs.Mirrors.LexemeAt.{after_suffix, after_decimal, after_digit, after_lexed_exponent, after_lexed_fraction, after_raw, after_sign, lexeme_at, literal_at, quoted_at, raw_at, single_at, word_at, LetterBHead, LetterCHead, LetterRHead, QuoteHead, ApostropheHead, DigitHead, begins_hashed_quote}
 use Rattle.rl_syntax.specs.Classes.{is_hash}
@@ -315,15 +315,3 @@ pub row_goes_on : (n : ℕ) (row : List ℕ) → n ≤ 16 → list_all (is_run_p
     → list_all is_continue row ≡ true
 row_goes_on n row few h = all_weaker (is_run_part (λ d. nat_lt (digit_value d) n)) is_continue
     (λ c h. row_continues n c few h) row h
-
-all_both : (f g : ℕ → Bool) (cs : List ℕ) → list_all f cs ≡ true → list_all g cs ≡ true → list_all (λ c. f c && g c) cs
-    ≡ true
-all_both f g [] a b = refl
-all_both f g (c ∷ cs) a b =
-    let p = and_parts (f c) (list_all f cs) a in
-    let q = and_parts (g c) (list_all g cs) b in
-    and_from (f c && g c) (list_all (λ c. f c && g c) cs) (and_from (f c) (g c) p.0 q.0) (all_both f g cs p.1 q.1)
-
-pub suffix_goes_on : (x : List ℕ) → IsStrictSuffix x → list_all is_continue x ≡ true
-suffix_goes_on x (inl e) = ap (list_all is_continue) e
-suffix_goes_on x (inr w) = all_both is_xid_continue (λ c. not (is_white c)) x (word_continues x w.identifier) w.no_white

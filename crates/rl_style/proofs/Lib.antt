@@ -20,6 +20,7 @@ pub mod SameLiterals
 pub mod WrittenNumbers
 pub mod WrittenQuoted
 pub mod WrittenUnraw
+pub mod Room
 pub mod FrontEnds
 pub mod FrontTests
 pub mod Stays

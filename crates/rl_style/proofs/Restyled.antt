@@ -16,7 +16,8 @@ use Rattle.rl_style.proofs.LostRaw.{lost}
 use Rattle.rl_style.proofs.Recut.{Begun}
 use Rattle.rl_style.proofs.UnrawCuts.{unquoted}
 use Rattle.rl_lexer.proofs.LexemeFronts.{start_ascii}
-use Rattle.rl_style.proofs.Lexings.{DecimalForm, based_goes, character_goes, decimal_ends, decimal_goes, digits_gone, fraction_gone, pointed_power_ends, power_ends, quoted_goes, raw_goes, row_goes_on, suffix_goes_on}
+use Rattle.rl_style.proofs.Lexings.{DecimalForm, based_goes, character_goes, decimal_ends, decimal_goes, digits_gone, fraction_gone, pointed_power_ends, power_ends, quoted_goes, raw_goes, row_goes_on}
+use Rattle.rl_lexer.proofs.LiteralEnds.{suffix_continues}
 use Rattle.rl_lexer.proofs.QuotedLexemes.{SingleKind, StringKind, StringParts, byte_kind, byte_string_kind, c_string_kind, character_kind, raw_body, single_parts, string_kind, string_parts}
 use Rattle.rl_style.proofs.SameFloats.{same_shape}
 use Rattle.rl_style.proofs.FloatForms.{DotShape, FloatForm, FloatShape, PointShape, PowerShape, closed_shape, shape_of}
@@ -174,7 +175,7 @@ based letter n t x v s front base few is =
       letter = letter;
       digits = s.run ++ x;
       is_letter = is;
-      each = list_all-append is_continue s.run x ∙ and_from _ _ run (suffix_goes_on x s.suffix.0);
+      each = list_all-append is_continue s.run x ∙ and_from _ _ run (suffix_continues x s.suffix.0);
       text_is = s.text ∙ ap (λ z. (z ++ s.run) ++ x) front;
       prefix_is = front;
     }

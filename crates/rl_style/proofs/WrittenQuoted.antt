@@ -11,7 +11,8 @@ use Rattle.rl_writing.specs.RawStrings.{HasFewestHashes, HasNoRaw, raw_contents,
 use Rattle.rl_writing.proofs.AsciiLemmas.{encoded_low, is_low, low_join}
 use Rattle.rl_style.specs.declared.style.Style.{Style}
 use Rattle.rl_style.specs.Mirrors.{AreUnits, CookedParts, RawParts}
-use Rattle.rl_style.specs.Rewriting.{HasHashes, RewritesCooked, RewritesRaw, loses_raw, restyled_inside, unraw_text}
+use Rattle.rl_style.specs.Rewriting.{HasHashes, RewritesCooked, RewritesRaw, grown, loses_raw, restyled_inside, unraw_text}
+use Rattle.rl_style.proofs.Room.{grown_around}
 use Rattle.rl_style.proofs.SameRaw.{length_hashes, raw_followed, raw_joined, raw_strict}
 use Rattle.rl_style.proofs.UnitTexts.{units_scalars}
 use Rattle.rl_style.proofs.WrittenTexts.{scalars_join, text_of}
@@ -80,6 +81,14 @@ cooked_length k t i s ut ui us p =
     parts_length t i s (strict_opener k) (strict_closer k) ut ui us (opener_low k) (closer_low k) p.text_is
     ∙ ap (λ z. length z + (length i + (length (strict_closer k) + length s))) (sym (opens_so k))
     ∙ ap (λ z. length (opener k) + (length i + (length z + length s))) (one_closer k)
+
+-- The delimiters and the suffix of a literal with escapes don't grow.
+pub cooked_room : (style : Style) (k : Kind) (t i s : List ℕ) → IsUtf8 t → IsUtf8 i → IsUtf8 s
+    → CookedParts k (chars t) (chars i) (chars s)
+    → length (opener k) + (grown style (length i) + (1 + length s)) ≤ grown style (length t)
+cooked_room style k t i s ut ui us p =
+    let whole = cooked_length k t i s ut ui us p in
+    grown_around style (length (opener k)) (length i) (length s) (length t) (omega (arith, whole))
 
 pub closer_length : (k : Kind) → length (encode_utf8 (closer k)) ≡ 1
 closer_length k = ap length (encode_ascii (closer k) (low k))

@@ -10,8 +10,9 @@ use Rattle.rl_writing.proofs.AsciiLemmas.{encoded_low, is_low, low_join}
 use Rattle.rl_style.specs.declared.style.Style.{Style}
 use Rattle.rl_syntax.specs.Texts.{first_passes}
 use Rattle.rl_style.specs.Mirrors.{RawParts, itself_text, raw_character, raw_inside}
-use Rattle.rl_style.specs.Rewriting.{needs_backslash, raw_unit, restyled_inside, unraw_text}
+use Rattle.rl_style.specs.Rewriting.{grown, needs_backslash, raw_unit, restyled_inside, unraw_text}
 use Rattle.rl_style.proofs.LostRaw.{raw_texts}
+use Rattle.rl_style.proofs.Room.{grown_around}
 use Rattle.rl_style.proofs.UnitTexts.{chosen_scalars, itself_scalars}
 use Rattle.rl_style.proofs.WrittenQuoted.{hashes_low, opens_so, parts_length, raw_is_string, raw_low, regrouped}
 use Rattle.rl_style.proofs.WrittenTexts.{scalars_join, text_of}
@@ -23,11 +24,11 @@ opener_is ByteStr h = (refl, refl, refl, refl)
 opener_is CStr h = (refl, refl, refl, refl)
 opener_is kind h = absurd (cc)
 
--- If a raw string becomes a string with escapes, each byte of its content becomes at most four bytes. The whole new text has
--- at most four times as many bytes as the raw string.
-pub unraw_room : (k : Kind) (t i s : List ℕ) → IsUtf8 t → IsUtf8 i → IsUtf8 s
-    → RawParts k (chars t) (chars i) (chars s) → length (opener k) + 4 * length i + 1 + length s ≤ 4 * length t
-unraw_room k t i s ut ui us p =
+-- If a raw string becomes a string with escapes, its delimiters and its suffix don't grow.
+pub unraw_room : (style : Style) (k : Kind) (t i s : List ℕ) → IsUtf8 t → IsUtf8 i → IsUtf8 s
+    → RawParts k (chars t) (chars i) (chars s)
+    → length (opener k) + (grown style (length i) + (1 + length s)) ≤ grown style (length t)
+unraw_room style k t i s ut ui us p =
     let h : List ℕ = replicate p.hashes 35 in
     let a : List ℕ = strict_raw_opener k ++ (h ++ (34 ∷ [])) in
     let la = low_join (strict_raw_opener k) (h ++ (34 ∷ [])) (raw_low k)
@@ -37,7 +38,7 @@ unraw_room k t i s ut ui us p =
     let front : length a ≡ length (strict_raw_opener k) + length (h ++ (34 ∷ [])) =
     length-append (strict_raw_opener k) (h ++ (34 ∷ [])) in
     let same = (opener_is k (raw_is_string k (chars t) (chars i) (chars s) p)).0 in
-    omega (arith, whole, front, same)
+    grown_around style (length (opener k)) (length i) (length s) (length t) (omega (arith, whole, front, same))
 
 raw_scalars : (style : Style) (cs : List ℕ) → scalars cs ≡ true → scalars (raw_inside style cs) ≡ true
 raw_scalars style [] h = refl

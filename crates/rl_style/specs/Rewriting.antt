@@ -1,10 +1,11 @@
 -- Rewritten literals: the new text of a literal token in a style, and the properties that no style changes. Characters are
 -- code points.
-use Rattle.std.specs.Prelude.{◌≡◌, ◌⊎◌, ℕ, ◌+◌, ◌-◌, ◌/◌, ◌%◌, Bool, true, false, not, ◌&&◌, ◌||◌, ◌==◌, nat_le, nat_lt, List, [], ◌∷◌, ◌++◌, Option, None, map, if◌then◌else◌, IsTrue, IsFalse, codes}
+use Rattle.std.specs.Prelude.{◌≡◌, ◌⊎◌, ℕ, ◌+◌, ◌-◌, ◌*◌, ◌/◌, ◌%◌, Bool, true, false, not, ◌&&◌, ◌||◌, ◌==◌, nat_le, nat_lt, List, [], ◌∷◌, ◌++◌, Option, None, map, length, if◌then◌else◌, IsTrue, IsFalse, codes}
 use Rattle.std.specs.List.{flat_map, list_all, list_any}
 use Prim.Native.Char.{code}
 use Rattle.rl_writing.specs.Hiding.{is_control_invisible_or_bidi}
 use Rattle.std.specs.Char.{is_ascii_digit}
+use Rattle.std.specs.Str.{chars}
 use Rattle.rl_syntax.specs.Texts.{first_passes}
 use Rattle.rl_syntax.specs.declared.kind.Kind.{Kind}
 use Rattle.rl_syntax.specs.declared.kind.Kind.TheVariants.{Str, Char, Float}
@@ -292,6 +293,19 @@ Rewrites style front old new =
     RewritesInt style old new
     ⊎ (RewritesFloat style old new
     ⊎ (RewritesRaw style front old new ⊎ (RewritesCooked style old new ⊎ KeepsTruth old new)))
+
+-- The most bytes of a quoted literal's new text for `n` bytes of its old text: an escape has at most four bytes for each byte of an
+-- invisible character. One more byte is needed if a raw string gets the fewest hashes.
+abbrev pub grown : Style → ℕ → ℕ
+grown style n = if style.hidden then 4 * n else n
+
+-- The most bytes of a literal's new text for each byte of its old text, without one more byte.
+abbrev pub growth : Style → List ℕ → ℕ
+growth style text = if first_passes is_ascii_digit text then 2 else (if style.hidden then 4 else 1)
+
+-- The length in bytes of a buffer that is large enough for a literal's new text.
+unfoldable pub room_for : Style → List ℕ → ℕ
+room_for style text = length text * growth style (chars text) + 1
 
 -- No rule of the style is set.
 pub record HasNoRule (style : Style) : Type 0 where

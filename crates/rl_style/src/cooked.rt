@@ -7,7 +7,7 @@ ghost use Rattle.rl_syntax.specs.Strict.{StrictUnit};
 ghost use Rattle.rl_syntax.specs.Written.{closer};
 ghost use Rattle.rl_lenient.specs.Mirrors.UnitAt.{piece_value, unit_at};
 ghost use Rattle.rl_style.specs.Mirrors.{AreUnits, CookedParts, ascii_in, lettered, number_text, restyled_text, represents_digit, visible_text};
-ghost use Rattle.rl_style.specs.Rewriting.{RewritesCooked, gets_letter, is_visible, letter_of, restyled_inside};
+ghost use Rattle.rl_style.specs.Rewriting.{RewritesCooked, gets_letter, grown, is_visible, letter_of, restyled_inside};
 
 use crate::codes::put_digits;
 use crate::hidden::put_itself;
@@ -204,27 +204,44 @@ fn put_plain(out: &mut [u8], at: usize, kind: Kind, style: Style, unit: &str, by
     }
 }
 
-/// Writes the new form of one character or escape: at most four bytes for each byte of its text.
+/// Writes the new form of an unescaped character, or of a CR LF that is one character. Only a style that escapes invisible characters
+/// changes it.
+fn put_unescaped(out: &mut [u8], at: usize, kind: Kind, style: Style, unit: &str, byte: u8) -> usize
+    requires room { at + grown style (length unit.now) ≤ length out.old }
+    requires plain { IsFalse (first_passes (λ c. c == code "\\") (chars unit.now)) }
+    ensures end { result ≤ at + grown style (length unit.now) }
+    ensures bytes { take result out.new
+        ≡ take at out.old ++ encode_utf8_all (restyled_text style kind byte (chars unit.now)) }
+    ensures len { length out.new ≡ length out.old }
+{
+    if !style.hidden {
+        return put_text(out, at, unit);
+    }
+    put_plain(out, at, kind, style, unit, byte)
+}
+
+/// Writes the new form of one character or escape: at most four bytes for each byte of its text, and at most its length if the
+/// style doesn't escape invisible characters.
 ///
 /// `byte` is the value if it is ASCII, and 128 otherwise. `byte` is also 128 for a NUL that may not be written as `\0`.
 fn put_unit(out: &mut [u8], at: usize, kind: Kind, style: Style, unit: &str, byte: u8) -> usize
-    requires room { at + 4 * length unit.now ≤ length out.old }
+    requires room { at + grown style (length unit.now) ≤ length out.old }
     requires small { byte ≤ 128 }
-    ensures end { result ≤ at + 4 * length unit.now }
+    ensures end { result ≤ at + grown style (length unit.now) }
     ensures bytes { take result out.new
         ≡ take at out.old ++ encode_utf8_all (restyled_text style kind byte (chars unit.now)) }
     ensures len { length out.new ≡ length out.old }
 {
     match strip_byte(unit, b'\\') {
         Some(escape) => put_escape(out, at, kind, style, unit, escape, byte),
-        None => put_plain(out, at, kind, style, unit, byte),
+        None => put_unescaped(out, at, kind, style, unit, byte),
     }
 }
 
 /// Writes the new form of each character and escape of a literal's body.
 fn put_units(out: &mut [u8], at: usize, kind: Kind, style: Style, inside: &str) -> usize
-    requires { at + 4 * length inside.now ≤ length out.old }
-    ensures end { result ≤ at + 4 * length inside.now }
+    requires { at + grown style (length inside.now) ≤ length out.old }
+    ensures end { result ≤ at + grown style (length inside.now) }
     ensures bytes { (us : List StrictUnit) → AreUnits kind us (chars inside.now) → take result out.new
         ≡ take at out.old ++ encode_utf8_all (restyled_inside style kind us) }
     ensures len { length out.new ≡ length out.old }
@@ -249,10 +266,10 @@ pub(crate) fn write_cooked(
     out: &mut [u8],
 ) -> usize
     requires parts { CookedParts kind (chars text.now) (chars inside.now) (chars suffix.now) }
-    requires room { 4 * length text.now ≤ length out.old }
+    requires room { grown style (length text.now) ≤ length out.old }
     ensures written { RewritesCooked style (chars text.now) (chars (take result out.new)) }
     ensures utf8 { IsUtf8 (take result out.new) }
-    ensures within { result ≤ 4 * length text.now }
+    ensures within { result ≤ grown style (length text.now) }
 {
     let at = put_text(out, 0, kind.opener());
     let at = put_units(out, at, kind, style, inside);

@@ -47,7 +47,7 @@ mod whole;
 
 pub use crate::calls::{Calls, advance_calls, is_in_call};
 pub use crate::restylable::{Restylable, Restylables};
-pub use crate::rewrite::rewrite_into;
+pub use crate::rewrite::{growth, rewrite_into, rewrite_within};
 pub use crate::rules::{Rule, all_rules, is_changed_by_style};
 pub use crate::style::{Case, DigitGroups, Separator, Style};
 pub use crate::whole::is_safe_to_restyle;

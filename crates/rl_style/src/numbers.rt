@@ -160,10 +160,10 @@ fn number_style(style: Style, base: u32, suffix: &str) -> Manner
 fn write_integer(text: &str, suffix: &str, style: Style, out: &mut [u8]) -> usize
     requires following { IsTail text.now suffix.now }
     requires integer { (v : Contents) × StrictInt (chars text.now) v (chars suffix.now) }
-    requires room { 4 * length text.now + 1 ≤ length out.old }
+    requires room { 2 * length text.now + 1 ≤ length out.old }
     ensures written { RewritesInt style (chars text.now) (chars (take result out.new)) }
     ensures utf8 { IsUtf8 (take result out.new) }
-    ensures within { result ≤ 4 * length text.now + 1 }
+    ensures within { result ≤ 2 * length text.now + 1 }
 {
     if is_mistyped(suffix, text) {
         return put_text(out, 0, text);
@@ -234,10 +234,10 @@ fn put_fraction(out: &mut [u8], at: usize, manner: Manner, rest: &str) -> usize
 fn write_float(text: &str, suffix: &str, style: Style, out: &mut [u8]) -> usize
     requires following { IsTail text.now suffix.now }
     requires float { (v : Contents) × StrictFloat (chars text.now) v (chars suffix.now) }
-    requires room { 4 * length text.now + 1 ≤ length out.old }
+    requires room { 2 * length text.now + 1 ≤ length out.old }
     ensures written { RewritesFloat style (chars text.now) (chars (take result out.new)) }
     ensures utf8 { IsUtf8 (take result out.new) }
-    ensures within { result ≤ 4 * length text.now + 1 }
+    ensures within { result ≤ 2 * length text.now + 1 }
 {
     if is_mistyped_float(suffix, text) {
         return put_text(out, 0, text);
@@ -254,10 +254,10 @@ fn write_float(text: &str, suffix: &str, style: Style, out: &mut [u8]) -> usize
 pub(crate) fn write_number(text: &str, number: Number<'_>, style: Style, out: &mut [u8]) -> usize
     requires number { IsNumberRead (chars text.now) number }
     requires following { IsTail text.now (suffix_of number) }
-    requires room { 4 * length text.now + 1 ≤ length out.old }
+    requires room { 2 * length text.now + 1 ≤ length out.old }
     ensures written { (front : List ℕ) → Rewrites style front (chars text.now) (chars (take result out.new)) }
     ensures utf8 { IsUtf8 (take result out.new) }
-    ensures within { result ≤ 4 * length text.now + 1 }
+    ensures within { result ≤ 2 * length text.now + 1 }
 {
     match number {
         Number::Integer(_, suffix) => write_integer(text, suffix, style, out),

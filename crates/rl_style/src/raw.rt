@@ -1,12 +1,12 @@
 //! Rewrites raw strings by a style.
 
-ghost use Rattle.std.specs.Prelude.{◌≡◌, ◌≤◌, ◌+◌, ◌*◌, ◌++◌, ◌||◌, ◌==◌, not, length, take, encode_utf8, encode_utf8_all};
+ghost use Rattle.std.specs.Prelude.{◌≡◌, ◌≤◌, ◌+◌, ◌*◌, ◌++◌, ◌||◌, ◌==◌, not, length, take, encode_utf8, encode_utf8_all, IsFalse, IsTrue};
 ghost use Rattle.std.specs.List.{list_all};
 ghost use Rattle.std.specs.Str.{chars, IsUtf8};
 ghost use Rattle.rl_syntax.specs.Texts.{code};
 ghost use Rattle.rl_style.specs.Around.{may_precede_quote};
 ghost use Rattle.rl_style.specs.Mirrors.{RawParts, raw_character, raw_inside};
-ghost use Rattle.rl_style.specs.Rewriting.{RewritesRaw, loses_raw, may_lose_r, needs_backslash, unraw_text};
+ghost use Rattle.rl_style.specs.Rewriting.{RewritesRaw, grown, loses_raw, may_lose_r, needs_backslash, unraw_text};
 
 use crate::cooked::put_pair;
 use crate::hidden::{holds_hidden, put_itself};
@@ -105,6 +105,22 @@ fn put_raw_inside(out: &mut [u8], at: usize, style: Style, inside: &str) -> usiz
     end
 }
 
+/// Writes the content of a raw string as the body of a string with escapes. Only a style that escapes invisible characters changes
+/// it.
+fn put_inside(out: &mut [u8], at: usize, style: Style, inside: &str) -> usize
+    requires room { at + grown style (length inside.now) ≤ length out.old }
+    requires bare { IsFalse style.hidden → IsTrue (list_all (λ c. not (needs_backslash c)) (chars inside.now)) }
+    ensures end { result ≤ at + grown style (length inside.now) }
+    ensures bytes { take result out.new
+        ≡ take at out.old ++ encode_utf8_all (raw_inside style (chars inside.now)) }
+    ensures len { length out.new ≡ length out.old }
+{
+    if !style.hidden {
+        return put_text(out, at, inside);
+    }
+    put_raw_inside(out, at, style, inside)
+}
+
 /// Writes a raw string as a string with escapes. `inside` is its content.
 fn write_unraw(
     text: &str,
@@ -115,13 +131,14 @@ fn write_unraw(
     out: &mut [u8],
 ) -> usize
     requires parts { RawParts kind (chars text.now) (chars inside.now) (chars suffix.now) }
-    requires room { 4 * length text.now ≤ length out.old }
+    requires room { grown style (length text.now) ≤ length out.old }
+    requires bare { IsFalse style.hidden → IsTrue (list_all (λ c. not (needs_backslash c)) (chars inside.now)) }
     ensures written { chars (take result out.new) ≡ unraw_text style kind (chars inside.now) (chars suffix.now) }
     ensures utf8 { IsUtf8 (take result out.new) }
-    ensures within { result ≤ 4 * length text.now }
+    ensures within { result ≤ grown style (length text.now) }
 {
     let at = put_text(out, 0, kind.opener());
-    let at = put_raw_inside(out, at, style, inside);
+    let at = put_inside(out, at, style, inside);
     let at = put_byte(out, at, b'"');
     put_text(out, at, suffix)
 }
@@ -137,10 +154,10 @@ pub(crate) fn write_raw(
     out: &mut [u8],
 ) -> usize
     requires parts { RawParts kind (chars text.now) (chars inside.now) (chars suffix.now) }
-    requires room { 4 * length text.now + 1 ≤ length out.old }
+    requires room { grown style (length text.now) + 1 ≤ length out.old }
     ensures written { RewritesRaw style (chars front.now) (chars text.now) (chars (take result out.new)) }
     ensures utf8 { IsUtf8 (take result out.new) }
-    ensures within { result ≤ 4 * length text.now + 1 }
+    ensures within { result ≤ grown style (length text.now) + 1 }
 {
     if loses_raw(style, kind, front, inside) {
         return write_unraw(text, kind, style, inside, suffix, out);

@@ -10,7 +10,7 @@ ghost use Rattle.rl_strict.specs.StrictShapes.{IsToken};
 ghost use Rattle.rl_strict.specs.StrictFlaws.{ExplainsStrictly};
 ghost use Rattle.rl_strict.specs.StrictRead.{IsStrictReading};
 ghost use Rattle.rl_style.specs.Mirrors.{OpensAs};
-ghost use Rattle.rl_style.specs.Rewriting.{Rewrites};
+ghost use Rattle.rl_style.specs.Rewriting.{Rewrites, growth, grown, room_for};
 
 use crate::cooked::write_cooked;
 use crate::numbers::write_number;
@@ -51,10 +51,10 @@ fn write_quoted(
     requires token { IsToken (chars text.now) }
     requires begins { OpensAs form kind (chars text.now) }
     requires reads { IsStrictReading text.now reading }
-    requires room { 4 * length text.now + 1 ≤ length out.old }
+    requires room { grown style (length text.now) + 1 ≤ length out.old }
     ensures written { Rewrites style (chars front.now) (chars text.now) (chars (take result out.new)) }
     ensures utf8 { IsUtf8 (take result out.new) }
-    ensures within { result ≤ 4 * length text.now + 1 }
+    ensures within { result ≤ grown style (length text.now) + 1 }
 {
     let body = body_of(text, form, kind, reading);
     let inside = &text[body.lo..body.hi];
@@ -68,10 +68,10 @@ fn write_quoted(
 /// Writes the new form of a number. Returns the number of written bytes, or the flaw if the text isn't a number.
 fn rewrite_number(text: &str, style: Style, out: &mut [u8]) -> Result<usize, Flaw>
     requires digit { IsTrue (first_passes is_ascii_digit (chars text.now)) }
-    requires room { 4 * length text.now + 1 ≤ length out.old }
+    requires room { 2 * length text.now + 1 ≤ length out.old }
     ensures written { IfOk result (λ n. (front : List ℕ) → Rewrites style front (chars text.now) (chars (take n out.new))) }
     ensures utf8 { IfOk result (λ n. IsUtf8 (take n out.new)) }
-    ensures within { IfOk result (λ n. n ≤ 4 * length text.now + 1) }
+    ensures within { IfOk result (λ n. n ≤ 2 * length text.now + 1) }
     ensures flaw { IfErr result (ExplainsStrictly (chars text.now)) }
 {
     match parse_number_token(text) {
@@ -80,6 +80,44 @@ fn rewrite_number(text: &str, style: Style, out: &mut [u8]) -> Result<usize, Fla
             Some(flaw) => Err(flaw),
             None => unreachable!(),
         },
+    }
+}
+
+/// Returns a factor for the length of the buffer of [`rewrite_within`]. The new text of the literal `text` has at most this many bytes
+/// for each byte of `text`, and one more byte.
+pub fn growth(style: Style, text: &str) -> usize
+    ensures { result ≡ growth style (chars text.now) }
+{
+    if begins_digit(text) {
+        2
+    } else if style.hidden {
+        4
+    } else {
+        1
+    }
+}
+
+/// Writes the literal token `text`, rewritten by `style`, to the start of `out`, as [`rewrite_into`] does. But `out` may be shorter: it
+/// must only be longer than `text` times [`growth`].
+///
+/// # Errors
+///
+/// Returns the flaw of [`explain`](rl_strict::explain) if `text` isn't a literal token.
+pub fn rewrite_within(front: &str, text: &str, style: Style, out: &mut [u8]) -> Result<usize, Flaw>
+    requires { room_for style text.now ≤ length out.old }
+    ensures written { IfOk result
+        (λ n. Rewrites style (chars front.now) (chars text.now) (chars (take n out.new))) }
+    ensures utf8 { IfOk result (λ n. IsUtf8 (take n out.new)) }
+    ensures within { IfOk result (λ n. n ≤ room_for style text.now) }
+    ensures flaw { IfErr result (ExplainsStrictly (chars text.now)) }
+{
+    if begins_digit(text) {
+        return rewrite_number(text, style, out);
+    }
+    let reading = read(text, LineEnds::Text, false)?;
+    match split_opener(text) {
+        Some((form, kind, _)) => Ok(write_quoted(front, text, form, kind, reading, style, out)),
+        None => Ok(put_text(out, 0, text)),
     }
 }
 
@@ -103,12 +141,5 @@ pub fn rewrite_into(front: &str, text: &str, style: Style, out: &mut [u8]) -> Re
     ensures within { IfOk result (λ n. n ≤ 4 * length text.now + 1) }
     ensures flaw { IfErr result (ExplainsStrictly (chars text.now)) }
 {
-    if begins_digit(text) {
-        return rewrite_number(text, style, out);
-    }
-    let reading = read(text, LineEnds::Text, false)?;
-    match split_opener(text) {
-        Some((form, kind, _)) => Ok(write_quoted(front, text, form, kind, reading, style, out)),
-        None => Ok(put_text(out, 0, text)),
-    }
+    rewrite_within(front, text, style, out)
 }

@@ -3,9 +3,10 @@
 ghost use Rattle.std.specs.Prelude.{◌≡◌, ◌≤◌, ◌+◌, ◌*◌, ◌↔◌, length, IfOk, IfErr, IsTrue};
 ghost use Rattle.std.specs.Str.{chars};
 ghost use Rattle.rl_strict.specs.StrictFlaws.{ExplainsStrictly};
+ghost use Rattle.rl_style.specs.Rewriting.{room_for};
 ghost use Rattle.rl_style.specs.Rules.{Changes, all_rules as all_of_them, only as style_of, rule_label};
 
-use crate::rewrite::rewrite_into;
+use crate::rewrite::rewrite_within;
 use crate::style::Style;
 use rl_strict::Flaw;
 
@@ -155,7 +156,7 @@ impl Style {
     }
 }
 
-/// Returns `true` if the style changes the literal token `text`. `front` is the text before the literal. [`rewrite_into`]
+/// Returns `true` if the style changes the literal token `text`. `front` is the text before the literal. [`rewrite_within`]
 /// writes the new text to the start of `out`.
 ///
 /// # Errors
@@ -167,11 +168,11 @@ pub fn is_changed_by_style(
     style: Style,
     out: &mut [u8],
 ) -> Result<bool, Flaw>
-    requires { 4 * length text.now + 1 ≤ length out.old }
+    requires { room_for style text.now ≤ length out.old }
     ensures change { IfOk result (λ is. IsTrue is ↔ Changes style (chars front.now) (chars text.now)) }
     ensures flaw { IfErr result (ExplainsStrictly (chars text.now)) }
 {
-    let len = rewrite_into(front, text, style, out)?;
+    let len = rewrite_within(front, text, style, out)?;
     let is_same = &out[..len] == text.as_bytes();
     Ok(!is_same)
 }

@@ -2,6 +2,7 @@ pub mod Common
 pub mod TailLemmas
 pub mod Rests
 pub mod Basics
+pub mod WhiteLemmas
 pub mod AsciiLemmas
 pub mod RowSteps
 pub mod BeginsLemmas

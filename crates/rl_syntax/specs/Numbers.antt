@@ -1,7 +1,7 @@
 -- Integer and float literals of the lenient grammar, which are those of `syn` 3.0.9, src/lit.rs. Each definition names
 -- the function of `syn` that it follows. The suffixes that a number may have, and the limit of an integer, are this
 -- project's own choice.
-use Rattle.std.specs.Prelude.{◌≡◌, ◌⊎◌, ℕ, ◌^◌, ◌-◌, Bool, true, false, not, ◌||◌, ◌==◌, nat_lt, List, [], codes, ◌∷◌, ◌++◌, filter, map, IsTrue, IsFalse, ⊤, if◌then◌else◌}
+use Rattle.std.specs.Prelude.{◌≡◌, ◌⊎◌, ℕ, ◌^◌, ◌-◌, Bool, true, false, not, ◌||◌, ◌==◌, nat_lt, nat_le, Option, Some, None, List, [], codes, ◌∷◌, ◌++◌, filter, map, IsTrue, IsFalse, ⊤, if◌then◌else◌}
 use Rattle.std.specs.Char.{digit_value, is_ascii_digit}
 use Rattle.std.specs.List.{list_all, list_any}
 use Prim.Native.Char.{code}
@@ -89,6 +89,10 @@ pub record IntReads (text : List ℕ) (sign : Sign) (magnitude : ℕ) (suffix : 
 -- The greatest magnitude of an integer literal that is parsed, 2^128 - 1. It fits 128 bits.
 abbrev pub limit : ℕ
 limit = 2 ^ 128 - 1
+
+-- The number, or `None` if it is above 128 bits.
+abbrev pub capped : ℕ → Option ℕ
+capped n = if nat_le n limit then Some n else None
 
 -- The fraction of a float: nothing, or a dot and any number of digits and underscores.
 pub data Fraction : Type 0 where

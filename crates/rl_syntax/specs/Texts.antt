@@ -15,16 +15,14 @@ abbrev pub is_white : ℕ → Bool
 is_white c = is_whitespace c || c == 0x200e || c == 0x200f
 
 -- Whether a text is an identifier, which the lenient grammar accepts as a suffix. The text `_` counts as an identifier.
--- White space isn't excluded separately.
 abbrev pub xid_ok : List ℕ → Bool
 xid_ok [] = false
 xid_ok (c ∷ cs) = (c == code "_" || is_xid_start c) && list_all is_xid_continue cs
 
--- The text is an identifier that Rust's grammar accepts as a suffix: it isn't `_`, and contains no white space.
+-- The text is an identifier that Rust's grammar accepts as a suffix: it isn't `_`.
 pub record IsWord (x : List ℕ) : Type 0 where
   pub identifier : IsTrue (xid_ok x)
   pub not_underscore : x ≢ code "_" ∷ []
-  pub no_white : IsTrue (list_all (λ c. not (is_white c)) x)
 
 -- Whether a text begins with a character that passes the test.
 abbrev pub first_passes : (ℕ → Bool) → List ℕ → Bool

@@ -5,7 +5,7 @@ use Rattle.rl_syntax.specs.Spelling.{place_value}
 use Rattle.rl_syntax.specs.Strict.{UnicodeEscape, LineBreak, strict_text, is_plain_letter, plain_value_in, plain_escapes, is_unicode_escape, spaced_digit, spaced_value}
 use Rattle.rl_syntax.proofs.Basics.{hex_is_sixteen, all_same, passes_same}
 use Rattle.rl_syntax.proofs.StrictQuoted.{digits_count}
-use Rattle.rl_theorem.specs.Notation.{Rule, Text, One, Many, As, If, Follow, Means, ◌⋅◌, skip}
+use Rattle.rl_theorem.specs.Notation.{Rule, Text, One, Many, As, If, Follow, Means, ◌⋅◌}
 use Rattle.rl_theorem.specs.RustRules.{digit, quote_escape, letter_escape, x_escape, u_escape, string_continue}
 use Rattle.rl_theorem.proofs.RuleParts.{text_then, then_text, close_then, then_close, unless_then, then_unless, none_passes, passes_none, IsRuleOf, many_to, many_from, row_from_all, all_from_row, run_to, run_from, or_same}
 
@@ -206,7 +206,7 @@ spaces : (c : ℕ) → is_dropped_blank c ≡ is_space c
 spaces c = or_same (eqb c 32) (eqb c 9 ∷ eqb c 10 ∷ [])
 
 abbrev line_break : Rule
-line_break = skip (Text (92 ∷ 10 ∷ []) ⋅ Many (One is_space))
+line_break = As (λ v. []) (Text (92 ∷ 10 ∷ []) ⋅ Many (One is_space))
 
 pub continue_to : (blanks after : List ℕ) → list_all is_dropped_blank blanks ≡ true
     → first_passes is_dropped_blank after ≡ false → Means string_continue (strict_text (LineBreak blanks)) after []

@@ -18,7 +18,8 @@ use Rattle.rust_literals.specs.Literals.{kind_of, token_of, IsReadFrom}
 use Rattle.rust_literals.specs.LitParts.{HasLitSuffix, IsSuffixAs}
 use Rattle.rust_literals.specs.Held.{HasDigits}
 use Rattle.rust_literals.specs.ReadBack.{HoldsOrMemory, IsItemRead, AreItems as AreItemsRead}
-use Rattle.rl_theorem.specs.Headline.{HoldsReading, HoldsItsReading, Writes, plain_reading}
+use Rattle.rl_theorem.specs.Headline.{HoldsReading, HoldsItsReading, GivesValue, Writes, plain_reading}
+use Rattle.rl_theorem.specs.declared.Value.{Value}
 use Rattle.rl_theorem.specs.Printed.{ListItem, IsItemAt, HoldItems}
 use Rattle.rl_theorem.proofs.ByTheRules.{strict_by, by_reads, reads_by, the_only}
 use Rattle.rl_theorem.proofs.PrintedItems.{IsEntryOf, AreEntries}
@@ -79,6 +80,15 @@ holds_float lit token digits r same kind has holds =
     one_float (chars (token_of lit).text) digits r
     (subst (λ (t : SpannedText). HasDigits Float (chars t.text) digits) (sym same) has) (sym kind ∙ holds.kind)
     (held lit r holds)
+
+some_kind : (k l : Kind) → Some k ≡ Some l → k ≡ l
+some_kind k l e = cc
+
+-- A value of the kind that the literal has is a value of the kind of its parse result.
+pub gives_value : {A B : Type 0} (lit : Lit A) (k : Kind) (value : Option (Value B)) (r : Reading) → kind_of lit ≡ Some k
+    → HoldsReading lit r → GivesValue value k r.contents → GivesValue value r.kind r.contents
+gives_value lit k value r kind holds gives =
+    subst (λ (z : Kind). GivesValue value z r.contents) (some_kind k r.kind (sym kind ∙ holds.kind)) gives
 
 suffix_of_reading : (text : List ℕ) (k : Kind) (v : Contents) (x : List ℕ) (r : Reading) → Reads text k v x
     → IsTheReading text r → x ≡ r.suffix

@@ -1,5 +1,4 @@
 mod RuleParts
-mod WhiteLemmas
 mod SuffixRule
 mod TruthRule
 mod EscapeRules

@@ -10,7 +10,7 @@ use Rattle.rl_syntax.specs.Reading.{Contents, Digits}
 use Rattle.rl_syntax.specs.Strict.{dec, IsDigits, IsDecimalText, BasedPrefix, StrictInt, IsStrictExponent, IsDotAlone, IsPointed, IsScientific, StrictFloat}
 use Rattle.rl_syntax.proofs.Basics.{apart, digit_is_ten, hex_is_sixteen, all_same, any_same, passes_same}
 use Rattle.rl_theorem.specs.Notation.{Rule, Text, One, As, Unless, Means, ◌⋅◌, ◌∣◌, maybe, any_of, end}
-use Rattle.rl_theorem.specs.RustRules.{digit, some_digits, dec_literal, with_prefix, number, no_prefix, integer_literal, float_exponent, float_literal}
+use Rattle.rl_theorem.specs.RustRules.{digit, some_digits, dec_literal, number, no_prefix, integer_literal, float_exponent, float_literal}
 use Rattle.rl_theorem.proofs.RuleParts.{text_then, then_text, NoneAt, unless_then, then_unless, unless_before, before_unless, none_passes, passes_none, none_begins, begins_none, none_of_both, kept, kept_digit, kept_all, parts_to, parts_from, or_same}
 use Rattle.rl_theorem.proofs.QuotedRules.{By}
 use Rattle.rl_theorem.proofs.SuffixRule.{suffix_to, suffix_from, at_end, alone}
@@ -140,6 +140,9 @@ abbrev pub is_e : ℕ → Bool
 is_e c = eqb c 101 || eqb c 69
 
 -- ---- integers
+
+abbrev pub with_prefix : List ℕ → ℕ → Rule
+with_prefix prefix base = Text prefix ⋅ some_digits base
 
 abbrev forms : Rule
 forms =

@@ -5,6 +5,7 @@ use Rattle.std.specs.List.{AllByRecursion}
 use Rattle.rl_syntax.specs.declared.kind.Kind.{Kind}
 use Rattle.rl_syntax.specs.declared.kind.Kind.TheVariants.{Str, ByteStr, CStr, Byte, Char, Int, Float, Bool as BoolKind}
 use Rattle.rl_syntax.specs.Texts.{first_passes, is_among}
+use Rattle.rl_syntax.specs.Quoted.{is_number}
 use Rattle.rl_syntax.specs.Trivia.{IsTrivia}
 use Rattle.rl_syntax.specs.Reading.{Contents, Digits, Reads}
 use Rattle.rl_syntax.specs.Readings.{Reading}
@@ -38,18 +39,23 @@ literal_item t Char v x s r = other t Char v x (λ e. absurd (cc)) s r
 literal_item t Int v x s r = other t Int v x (λ e. absurd (cc)) s r
 literal_item t Float v x s r = other t Float v x (λ e. absurd (cc)) s r
 
+number_kind : (k : Kind) → (k ≡ Int) ⊎ (k ≡ Float) → IsTrue (is_number k)
+number_kind k (inl e) = subst (λ (z : Kind). IsTrue (is_number z)) (sym e) refl
+number_kind k (inr e) = subst (λ (z : Kind). IsTrue (is_number z)) (sym e) refl
+
 old_item : (t : List ℕ) (r : Reading) → IsLiteral t r ⊎ IsNegative t r → Reads t r.kind r.contents r.suffix
     → Old t r.kind r.contents r.suffix
 old_item t r (inl l) reads = literal_item t r.kind r.contents r.suffix (by_strict t r l) reads
 old_item t r (inr n) reads =
+    let number = number_kind r.kind n.is_number in
     let s = by_strict n.number (record { kind = r.kind; contents = Digits n.digits; suffix = r.suffix }) n.strict in
     record {
       item = MinusItem n.number;
       text = sym n.text_is;
-      of = (n.digits, n.is_number, s, n.contents_is);
+      of = (n.digits, number, s, n.contents_is);
       strict = (
         r.kind,
-        n.is_number,
+        number,
         (Digits n.digits, r.suffix, s),
         (r.kind, (r.contents, r.suffix, subst (λ z. Reads z r.kind r.contents r.suffix) n.text_is reads)),
       );

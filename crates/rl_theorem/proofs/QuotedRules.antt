@@ -9,12 +9,27 @@ use Rattle.rl_syntax.specs.Strict.{StrictUnit, Itself, QuoteEscape, PlainEscape,
 use Rattle.rl_syntax.proofs.StrictQuoted.{one_unit, blanks_after}
 use Rattle.rl_syntax.proofs.Basics.{hex_is_sixteen}
 use Rattle.rl_theorem.specs.Notation.{Rule, Text, Many, Means, ◌⋅◌, but, maybe}
-use Rattle.rl_theorem.specs.RustRules.{char_content, string_content, byte_content, byte_string_content, c_string_content, quote_escape, letter_escape, ascii_escape, byte_escape, x_escape, string_continue, suffix, as_contents, IsLiteralBy}
-use Rattle.rl_theorem.proofs.RuleParts.{text_then, then_text, close_then, then_close, IsRuleOf, Row, many_to, many_from, or_same}
+use Rattle.rl_theorem.specs.RustRules.{char_literal, string_literal, byte_literal, byte_string_literal, c_string_literal, quote_escape, letter_escape, ascii_escape, byte_escape, x_escape, string_continue, suffix, as_contents, IsLiteralBy}
+use Rattle.rl_theorem.proofs.RuleParts.{between, repeated, text_then, then_text, close_then, then_close, IsRuleOf, Row, many_to, many_from, or_same}
 use Rattle.rl_theorem.proofs.SuffixRule.{suffix_to, suffix_from}
 use Rattle.rl_theorem.proofs.EscapeRules.{quote_to, quote_from, letters, hex_text, hex_value, letter_to, letter_from, hex_to, hex_from, unicode_to, unicode_from, continue_to, continue_from}
 
 -- ---- characters and escapes
+
+abbrev pub char_content : Rule
+char_content = between char_literal
+
+abbrev pub string_content : Rule
+string_content = repeated (between string_literal)
+
+abbrev pub byte_content : Rule
+byte_content = between byte_literal
+
+abbrev pub byte_string_content : Rule
+byte_string_content = repeated (between byte_string_literal)
+
+abbrev pub c_string_content : Rule
+c_string_content = repeated (between c_string_literal)
 
 -- The text `after` may follow the unit.
 abbrev pub EndsAt : StrictUnit → List ℕ → Type 0

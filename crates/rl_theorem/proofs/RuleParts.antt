@@ -114,6 +114,17 @@ pub none_of_both : (a b : Rule) (text : List ℕ) → NoneAt a text → NoneAt b
 none_of_both a b text left right u w x e (inl m) = left u w x e m
 none_of_both a b text left right u w x e (inr m) = right u w x e m
 
+-- ---- the parts of a literal's rule
+
+-- The rule of the text between two quotes, and the rule that may occur any number of times.
+abbrev pub between : Rule → Rule
+between (a ⋅ (b ⋅ c)) = b
+between a = a
+
+abbrev pub repeated : Rule → Rule
+repeated (Many a) = a
+repeated a = a
+
 -- ---- rows of items
 
 -- The texts and values of the rule are those of items.

@@ -6,9 +6,9 @@ use Rattle.rl_syntax.specs.declared.kind.Kind.TheVariants.{Str, ByteStr, CStr, B
 use Rattle.rl_syntax.specs.Reading.{Contents}
 use Rattle.rl_syntax.specs.Strict.{StrictCooked, StrictRaw, IsRawInside}
 use Rattle.rl_theorem.specs.Notation.{Rule, Many, ◌∣◌, maybe}
-use Rattle.rl_theorem.specs.RustRules.{char_content, byte_content, string_content, byte_string_content, c_string_content, raw_string_literal, raw_byte_string_literal, raw_c_string_literal, suffix, StrictIsByTheRules}
+use Rattle.rl_theorem.specs.RustRules.{raw_string_literal, raw_byte_string_literal, raw_c_string_literal, suffix, StrictIsByTheRules}
 use Rattle.rl_theorem.proofs.RuleParts.{all_pass}
-use Rattle.rl_theorem.proofs.QuotedRules.{By, frame, cooked_rule, char_between, byte_between, string_between, byte_string_between, c_string_between, by_other}
+use Rattle.rl_theorem.proofs.QuotedRules.{char_content, byte_content, string_content, byte_string_content, c_string_content, By, frame, cooked_rule, char_between, byte_between, string_between, byte_string_between, c_string_between, by_other}
 use Rattle.rl_theorem.proofs.RawRules.{raw_rule}
 use Rattle.rl_theorem.proofs.NumberRules.{int_rule, float_rule}
 use Rattle.rl_theorem.proofs.TruthRule.{truth_rule, strict_truth}

@@ -1,11 +1,9 @@
 -- The suffix of a literal, by both definitions.
-use Rattle.rl_syntax.proofs.Common.{◌≡◌, ℕ, ◌||◌, Bool, true, false, not, eqb, List, [], ◌∷◌, ◌++◌, refl, sym, ap, ◌∙◌, inl, inr, append-nil, list_all, and_parts, and_from, or_left, or_right, or_cases, not_from_false, is_xid_start, is_xid_continue}
-use Rattle.rl_syntax.specs.Texts.{IsWord, is_white, xid_ok, first_passes}
+use Rattle.rl_syntax.proofs.Common.{◌≡◌, ℕ, ◌||◌, Bool, true, false, eqb, List, [], ◌∷◌, ◌++◌, refl, sym, ap, ◌∙◌, inl, inr, append-nil, list_all, and_parts, and_from, or_left, or_right, or_cases, is_xid_start, is_xid_continue}
+use Rattle.rl_syntax.specs.Texts.{IsWord, xid_ok, first_passes}
 use Rattle.rl_syntax.specs.Strict.{IsStrictSuffix}
-use Rattle.rl_syntax.proofs.Basics.{word_continues, all_weaker}
 use Rattle.rl_theorem.specs.Notation.{Text, One, ◌⋅◌, ◌∣◌, Means, maybe, any_of, end}
 use Rattle.rl_theorem.specs.RustRules.{identifier_or_keyword, suffix}
-use Rattle.rl_theorem.proofs.WhiteLemmas.{continue_not_white}
 use Rattle.rl_theorem.proofs.RuleParts.{none_passes, passes_none, then_unless, unless_before, before_unless, run_to, run_from, or_same}
 
 pub end_here : Means end [] [] []
@@ -63,12 +61,9 @@ word_to x word =
 word_from : (x v : List ℕ) → Means suffix x [] v → IsWord x
 word_from x v m =
     let (none, is) = before_unless identifier_or_keyword (Text (95 ∷ []) ⋅ end) x [] v m in
-    let identifier = identifier_from x [] v is in
     record {
-      identifier = identifier;
+      identifier = identifier_from x [] v is;
       not_underscore = λ e. none (95 ∷ []) [] [] (append-nil x ∙ e) (95 ∷ [], [], [], [], refl, refl, (refl, refl), end_here);
-      no_white = all_weaker is_xid_continue (λ c. not (is_white c)) (λ c h. not_from_false (is_white c) (continue_not_white c h))
-          x (word_continues x identifier);
     }
 
 pub suffix_to : (x : List ℕ) → IsStrictSuffix x → (v : List ℕ) × Means (maybe suffix) x [] v

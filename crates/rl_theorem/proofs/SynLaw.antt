@@ -8,10 +8,10 @@ use Rattle.rl_syntax.specs.Reading.{Contents, ReadsQuoted, quoted_contents}
 use Rattle.rl_syntax.specs.Quoted.{Cooked, Raw, Single, is_string, is_single, raw_opener, content_of}
 use Rattle.rl_theorem.specs.Notation.{Rule, One, Many, Means, ◌∣◌}
 use Rattle.rl_theorem.specs.RustRules.{IsLiteralBy}
-use Rattle.rl_theorem.specs.SynRules.{char_inside, byte_inside, str_inside, byte_str_inside, c_str_inside, raw_to_last, parse_lit_str_raw, parse_lit_byte_str_raw, parse_lit_c_str_raw, ReadsIsByTheRules}
+use Rattle.rl_theorem.specs.SynRules.{str_inside, byte_str_inside, c_str_inside, raw_to_last, parse_lit_str_raw, parse_lit_byte_str_raw, parse_lit_c_str_raw, ReadsIsByTheRules}
 use Rattle.rl_theorem.proofs.RuleParts.{run_to, all_pass}
 use Rattle.rl_theorem.proofs.QuotedRules.{IsQuoted}
-use Rattle.rl_theorem.proofs.SynQuotedRules.{Framed, frame, raw_rule, raw_all, char_cooked, byte_cooked, str_cooked, byte_str_cooked, c_str_cooked}
+use Rattle.rl_theorem.proofs.SynQuotedRules.{Framed, frame, char_inside, byte_inside, raw_rule, raw_all, char_cooked, byte_cooked, str_cooked, byte_str_cooked, c_str_cooked}
 use Rattle.rl_theorem.proofs.SynNumberRules.{int_rule, float_rule}
 use Rattle.rl_theorem.proofs.TruthRule.{truth_rule}
 

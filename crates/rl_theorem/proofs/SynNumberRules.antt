@@ -11,13 +11,13 @@ use Rattle.rl_syntax.specs.Strict.{dec}
 use Rattle.rl_syntax.proofs.Basics.{any_same, digit_is_ten}
 use Rattle.rl_syntax.proofs.Dec.{dec_is_decimal}
 use Rattle.rl_theorem.specs.Notation.{Rule, Text, Many, Unless, Means, ◌⋅◌, ◌∣◌, maybe, any_of, end}
-use Rattle.rl_theorem.specs.RustRules.{identifier_or_keyword, digit, digits, some_digits, dec_literal, with_prefix, no_prefix, IsLiteralBy}
+use Rattle.rl_theorem.specs.RustRules.{identifier_or_keyword, digit, digits, some_digits, dec_literal, no_prefix, IsLiteralBy}
 use Rattle.rl_theorem.specs.SynRules.{number_suffix, exponent_suffix, tested_number, parse_lit_int, parse_lit_float, syn_literal}
 use Rattle.rl_theorem.proofs.RuleParts.{text_then, then_text, NoneAt, unless_then, then_unless, unless_before, before_unless, none_passes, passes_none, one, kept, part, digit_part, parts_to, parts_from}
 use Rattle.rl_theorem.proofs.SuffixRule.{identifier_to, identifier_from, end_here, at_end, alone}
 use Rattle.rl_theorem.proofs.EscapeRules.{underscores_to, underscores_from}
 use Rattle.rl_theorem.proofs.SynQuotedRules.{Framed, around}
-use Rattle.rl_theorem.proofs.NumberRules.{of_base, some_to, some_from, some_digit, decimal_parts, dec_to, dec_from, prefixes, no_prefix_to, no_prefix_from, is_e, among_e, underscores, digits_joined, digits_written, whole_to, whole_from, letter, letter_to, letter_from, sign, IsSign, sign_to, sign_from, dot, dot_from}
+use Rattle.rl_theorem.proofs.NumberRules.{with_prefix, of_base, some_to, some_from, some_digit, decimal_parts, dec_to, dec_from, prefixes, no_prefix_to, no_prefix_from, is_e, among_e, underscores, digits_joined, digits_written, whole_to, whole_from, letter, letter_to, letter_from, sign, IsSign, sign_to, sign_from, dot, dot_from}
 
 -- ---- suffixes
 

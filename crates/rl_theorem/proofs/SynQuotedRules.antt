@@ -9,10 +9,10 @@ use Rattle.rl_syntax.specs.Texts.{first_passes, is_blank, is_underscore, is_run_
 use Rattle.rl_syntax.specs.Spelling.{place_value, without_underscores}
 use Rattle.rl_syntax.specs.Quoted.{Letter, LowerN, LowerR, LowerT, Backslash, Apostrophe, Quote, Zero, letter_text, letter_value, QuotedUnit, Plain, CrLf, Named, Hex, Unicode, Continuation, unit_text, unit_value, unicode_value, is_hex_digit, is_line_end, IsUnit, texts, EndsBefore, ContinuationsEnd, opener, raw_opener, content_of, is_raw, is_string, is_single, Cooked, Raw, Single}
 use Rattle.rl_syntax.proofs.Basics.{all_same, passes_same, hex_is_sixteen}
-use Rattle.rl_theorem.specs.Notation.{Rule, Text, One, Many, As, If, Means, ◌⋅◌, but, skip}
-use Rattle.rl_theorem.specs.RustRules.{digit, digits, byte_escape}
-use Rattle.rl_theorem.specs.SynRules.{backslash_u, line_continue, char_inside, byte_inside, str_inside, byte_str_inside, c_str_inside, raw_to_last}
-use Rattle.rl_theorem.proofs.RuleParts.{text_then, then_text, close_then, then_close, NoneAt, unless_then, then_unless, none_passes, passes_none, IsRuleOf, Row, many_to, many_from, run_to, run_from, parts_to, parts_from, all_pass, or_same}
+use Rattle.rl_theorem.specs.Notation.{Rule, Text, One, Many, As, If, Means, ◌⋅◌, but}
+use Rattle.rl_theorem.specs.RustRules.{digit, digits, byte_escape, byte_literal}
+use Rattle.rl_theorem.specs.SynRules.{backslash_u, line_continue, parse_lit_char, str_inside, byte_str_inside, c_str_inside, raw_to_last}
+use Rattle.rl_theorem.proofs.RuleParts.{between, text_then, then_text, close_then, then_close, NoneAt, unless_then, then_unless, none_passes, passes_none, IsRuleOf, Row, many_to, many_from, run_to, run_from, parts_to, parts_from, all_pass, or_same}
 use Rattle.rl_theorem.proofs.EscapeRules.{hex_text, hex_value, hex_to as x_to, hex_from as x_from}
 use Rattle.rl_theorem.proofs.QuotedRules.{in_quotes, in_string, alone, passes_cut, passes_joined}
 use Rattle.rl_theorem.proofs.NumberRules.{of_base, without_digit, split}
@@ -134,7 +134,7 @@ line_break = Text (92 ∷ []) ⋅ One is_end ⋅ Many (One is_space)
 continue_to : (e : ℕ) (run after : List ℕ) → is_line_end e ≡ true → list_all is_blank run ≡ true
     → first_passes is_blank after ≡ false → Means line_continue (92 ∷ e ∷ run) after []
 continue_to e run after is_e each at_end =
-    unless_then (skip line_break) (One is_space) (92 ∷ e ∷ run) after [] (
+    unless_then (As (λ v. []) line_break) (One is_space) (92 ∷ e ∷ run) after [] (
       e ∷ run,
       text_then (92 ∷ []) (One is_end ⋅ Many (One is_space)) (e ∷ run) after (e ∷ run) (
         e ∷ [],
@@ -153,7 +153,7 @@ continue_from : (text after value : List ℕ) → Means line_continue text after
     → (e : ℕ) × (run : List ℕ) × (is_line_end e ≡ true) × (list_all is_blank run ≡ true) × (first_passes is_blank after ≡ false)
     × (text ≡ 92 ∷ e ∷ run) × (value ≡ [])
 continue_from text after value m =
-    let ((x, inner, value_is), none) = then_unless (skip line_break) (One is_space) text after value m in
+    let ((x, inner, value_is), none) = then_unless (As (λ v. []) line_break) (One is_space) text after value m in
     let (w, text_is, (a, run, p, q, w_is, x_is, (e, is_e, a_is, p_is), blanks)) = then_text (92 ∷ []) (One is_end ⋅ Many (One is_space)) text after x inner in (
       e,
       run,
@@ -190,6 +190,9 @@ ascii_itself c h = (ap (λ z. z ++ []) (encode_ascii c (ltb-true c 128 h)))
 not_slash : (c : ℕ) → not (eqb c 92) ≡ but (codes "\\") c
 not_slash c = ap not (or_same (eqb c 92) [])
 
+abbrev pub char_inside : Rule
+char_inside = between parse_lit_char
+
 char_unit : UnitRule Char char_inside
 char_unit = record { to = to; from = from }
   where
@@ -212,6 +215,9 @@ char_unit = record { to = to; from = from }
     from text after value (inr (inr m)) =
         let (first, more, s, t, v) = unicode_from text after value m in
         (Unicode first more, ((refl, s.is_first, s.each, s.few, s.scalar, refl), tt), t, v)
+
+abbrev pub byte_inside : Rule
+byte_inside = between byte_literal
 
 byte_unit : UnitRule Byte byte_inside
 byte_unit = record { to = to; from = from }

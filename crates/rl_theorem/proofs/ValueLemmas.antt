@@ -21,9 +21,10 @@ use Rattle.rl_lenient.specs.Founds.{IsFound, IsQuotedAt, body_in, suffix_in, is_
 use Rattle.rl_lenient.proofs.FormLemmas.{not_both, parts_read}
 use Rattle.rl_lenient.proofs.FoundContents.{unit_of}
 use Rattle.rust_literals.proofs.LitLemmas.{truth_reads}
-use Rattle.rl_theorem.specs.Notation.{Rule, Many, Means}
+use Rattle.rl_theorem.specs.Notation.{Rule, One, Many, Means}
 use Rattle.rl_theorem.specs.SynRules.{str_inside, byte_str_inside, c_str_inside}
-use Rattle.rl_theorem.specs.Lists.{IsDecoded, GivesContents}
+use Rattle.rl_theorem.specs.Lists.{body_rule, GivesContents}
+use Rattle.rl_theorem.proofs.RuleParts.{run_to, all_pass}
 use Rattle.rl_theorem.proofs.HeadlineLemmas.{one_value}
 use Rattle.rl_theorem.proofs.SynQuotedRules.{UnitRule, inside_to, str_unit, byte_str_unit, c_str_unit}
 
@@ -50,24 +51,32 @@ begins_cooked ByteStr t s = refl
 begins_cooked CStr t s = refl
 begins_cooked k t s = absurd (cc)
 
+raw_body : (k : Kind) (body after value : List ℕ) → is_string k ≡ true → value ≡ content_of k body
+    → Means (body_rule true k) body after value
+raw_body Str body after value s e =
+    subst (λ v. Means (Many (One (λ c. true))) body after v) (sym e) (run_to (λ c. true) body after (all_pass body))
+raw_body ByteStr body after value s e = (body, run_to (λ c. true) body after (all_pass body), e)
+raw_body CStr body after value s e = (body, run_to (λ c. true) body after (all_pass body), e)
+raw_body k body after value s e = absurd (cc)
+
 decoded : (k : Kind) (a : Rule) → UnitRule k a → is_string k ≡ true
-    → ((body value : List ℕ) → Means (Many a) body (34 ∷ []) value → IsDecoded false k body value)
+    → ((body value : List ℕ) → Means (Many a) body (34 ∷ []) value → Means (body_rule false k) body (34 ∷ []) value)
     → (form : QuotedForm) (t value body x : List ℕ) → PartsAre form k t value body x
-    → IsDecoded (begins (raw_opener k) t) k body value
+    → Means (body_rule (begins (raw_opener k) t) k) body (34 ∷ []) value
 decoded k a rule string same CookedForm t value body x (c, body_is) =
-    subst (λ b. IsDecoded b k body value) (sym (ap (begins (raw_opener k)) c.text_is ∙ begins_cooked k _ string))
+    subst (λ b. Means (body_rule b k) body (34 ∷ []) value) (sym (ap (begins (raw_opener k)) c.text_is ∙ begins_cooked k _ string))
     (same body value (subst (λ z. Means (Many a) z (34 ∷ []) value) (sym body_is) (inside_to k a rule t value x c [])))
 decoded k a rule string same RawForm t value body x (r, body_is) =
-    subst (λ b. IsDecoded b k body value) (sym (ap (begins (raw_opener k)) r.text_is ∙ begins_raw k _ string))
-    (r.value_is ∙ ap (content_of k) (sym body_is))
+    subst (λ b. Means (body_rule b k) body (34 ∷ []) value) (sym (ap (begins (raw_opener k)) r.text_is ∙ begins_raw k _ string))
+    (raw_body k body (34 ∷ []) value string (r.value_is ∙ ap (content_of k) (sym body_is)))
 decoded k a rule string same SingleForm t value body x (s, body_is) = absurd (not_both k string s.single)
 
 string_gives : (k : Kind) (a : Rule) → UnitRule k a → is_string k ≡ true → is_quoted k ≡ true
-    → ((body value : List ℕ) → Means (Many a) body (34 ∷ []) value → IsDecoded false k body value)
+    → ((body value : List ℕ) → Means (Many a) body (34 ∷ []) value → Means (body_rule false k) body (34 ∷ []) value)
     → ((t x : List ℕ) (v : List ℕ) (form : QuotedForm) (body : List ℕ) → PartsAre form k t v body x → Reads t k (quoted_contents k v) x)
     → (text : List ℕ) (f : Found) (r : Reading) → IsFound text f → f.kind ≡ k → IsTheReading (chars text) r
     → (value : List ℕ) × (r.contents ≡ quoted_contents k value)
-    × IsDecoded (begins (raw_opener k) (chars text)) k (chars (body_in text f.body)) value
+    × Means (body_rule (begins (raw_opener k) (chars text)) k) (chars (body_in text f.body)) (34 ∷ []) value
 string_gives k a rule string quoted same reads text f r found e is =
     let q : IsQuotedAt k text f.body = subst (λ z. IsQuotedAt z text f.body) e (found.quoted (ap is_quoted e ∙ quoted)) in (
       q.value,

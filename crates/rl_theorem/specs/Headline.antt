@@ -1,14 +1,15 @@
 -- The theorem of the libraries, as properties of what their calls return. A parse result has a kind, a value and a
 -- suffix.
-use Rattle.std.specs.Prelude.{◌≡◌, ◌⊎◌, ℕ, ◌==◌, ◌/◌, ◌%◌, List, [], ◌∷◌, ◌++◌, Option, Some, None, codes, string_bytes, if◌then◌else◌}
+use Rattle.std.specs.Prelude.{◌≡◌, ◌⊎◌, ℕ, ◌==◌, ◌/◌, ◌%◌, ◌||◌, ◌&&◌, not, nat_lt, List, [], ◌∷◌, ◌++◌, Option, Some, None, codes, string_bytes, if◌then◌else◌}
 use Rattle.std.specs.List.{flat_map}
 use Rattle.std.specs.Str.{chars}
 use Prim.Native.Char.{code}
 use Rattle.rl_syntax.specs.declared.kind.Kind.{Kind}
+use Rattle.rl_syntax.specs.declared.kind.Kind.TheVariants.{Str, ByteStr, CStr, Byte, Char, Int, Float, Bool as BoolKind}
 use Rattle.rl_syntax.specs.Reading.{Contents, Characters, Bytes, Digits, Truth, quoted_contents}
 use Rattle.rl_syntax.specs.Readings.{Reading}
-use Rattle.rl_syntax.specs.Quoted.{opener}
-use Rattle.rl_syntax.specs.Written.{closer, is_written_as_number, upper_digit}
+use Rattle.rl_syntax.specs.Quoted.{opener, decodes_to_chars}
+use Rattle.rl_syntax.specs.Written.{closer, upper_digit}
 use Rattle.rust_literals.specs.declared.lit.Lit.{Lit}
 use Rattle.rust_literals.specs.Literals.{kind_of, token_of}
 use Rattle.rl_theorem.specs.declared.Value.{Value}
@@ -36,20 +37,17 @@ pub record HoldsNoReading {A : Type 0} (lit : Lit A) : Type 0 where
 abbrev pub HoldsItsReading : {A : Type 0} → Lit A → Type 0
 HoldsItsReading lit = ((r : Reading) × HoldsReading lit r) ⊎ HoldsNoReading lit
 
--- The value that an accessor returned.
-abbrev pub contents_of : {A : Type 0} → Value A → Contents
-contents_of (given.Text s) = Characters (chars (string_bytes s))
-contents_of (given.Bytes v) = Bytes v.items
-contents_of (given.CBytes v) = Bytes v
-contents_of (given.Byte b) = Bytes (b ∷ [])
-contents_of (given.Character c) = Characters (c ∷ [])
-contents_of (given.Digits ds) = Digits (chars ds.now)
-contents_of (given.Truth b) = Truth b
-
--- The accessor returned the value of the parse result.
-abbrev pub GivesValue : {A : Type 0} → Reading → Option (Value A) → Type 0
-GivesValue r (Some v) = contents_of v ≡ r.contents
-GivesValue r None = ⊥
+-- The accessor returned the value `v` of a literal of the kind, in the variant of this kind.
+abbrev pub GivesValue : {A : Type 0} → Option (Value A) → Kind → Contents → Type 0
+GivesValue (Some (given.Text s)) Str v = Characters (chars (string_bytes s)) ≡ v
+GivesValue (Some (given.Bytes bs)) ByteStr v = Bytes bs.items ≡ v
+GivesValue (Some (given.CBytes bs)) CStr v = Bytes bs ≡ v
+GivesValue (Some (given.Byte b)) Byte v = Bytes (b ∷ []) ≡ v
+GivesValue (Some (given.Character c)) Char v = Characters (c ∷ []) ≡ v
+GivesValue (Some (given.Digits ds)) Int v = Digits (chars ds.now) ≡ v
+GivesValue (Some (given.Digits ds)) Float v = Digits (chars ds.now) ≡ v
+GivesValue (Some (given.Truth b)) BoolKind v = Truth b ≡ v
+GivesValue _ _ v = ⊥
 
 -- The parse result of a literal without a suffix whose value is `value`.
 abbrev pub plain_reading : Kind → List ℕ → Reading
@@ -66,16 +64,12 @@ escaped kind c =
     (if c == code "\r" then codes "\\r" else
     (if c == code "\\" then codes "\\\\" else
     (if c == closer kind then code "\\" ∷ closer kind ∷ [] else
-    (if is_written_as_number kind c then code "\\" ∷ code "x" ∷ upper_digit (c / 16) ∷ upper_digit (c % 16) ∷ []
+    (if nat_lt c (code " ") || c == 127 || (nat_lt 127 c && not (decodes_to_chars kind)) then code "\\" ∷ code "x" ∷ upper_digit (c / 16) ∷ upper_digit (c % 16) ∷ []
     else c ∷ []))))))
 
--- The literal that is written for a value: its characters or bytes between quotes.
-abbrev pub written_literal : Kind → List ℕ → List ℕ
-written_literal kind value = opener kind ++ (flat_map (escaped kind) value ++ (closer kind ∷ []))
-
--- The text is the literal that is written for a value. By both grammars, it is a literal with this value and no suffix. By
--- `syn`'s grammar it has no other parse result.
+-- The text is the literal that is written for a value: its characters or bytes, each as itself or as an escape, between
+-- quotes. By both grammars, it is a literal with this value and no suffix. By `syn`'s grammar it has no other parse result.
 pub record Writes (kind : Kind) (value text : List ℕ) : Type 0 where
-  pub text_is : text ≡ written_literal kind value
+  pub text_is : text ≡ opener kind ++ (flat_map (escaped kind) value ++ (closer kind ∷ []))
   pub strict : IsLiteral text (plain_reading kind value)
   pub reads : HasTheReading text (plain_reading kind value)

@@ -1,40 +1,35 @@
 -- The literals of a printed list, as the loop over the list returns them. No memory is taken, so no definition speaks of
 -- it.
-use Rattle.std.specs.Prelude.{◌≡◌, ℕ, zero, suc, ◌+◌, Bool, true, false, List, [], ◌∷◌, ◌++◌, Some, codes, if◌then◌else◌}
+use Rattle.std.specs.Prelude.{◌≡◌, ℕ, zero, suc, ◌+◌, ◌-◌, take, drop, encode_utf8_all, Bool, true, false, List, [], ◌∷◌, ◌++◌, Some, codes, if◌then◌else◌}
 use Rattle.std.specs.Str.{chars}
 use Prim.Native.Char.{code}
 use Rattle.rl_syntax.specs.declared.kind.Kind.{Kind}
 use Rattle.rl_syntax.specs.declared.kind.Kind.TheVariants.{Str, ByteStr, CStr, Byte, Char, Int, Float, Bool as BoolKind}
 use Rattle.rl_syntax.specs.Texts.{byte_len, begins, begins_char}
 use Rattle.rl_syntax.specs.Numbers.{float_digits}
-use Rattle.rl_syntax.specs.Quoted.{content_of, raw_opener}
+use Rattle.rl_syntax.specs.Quoted.{raw_opener}
 use Rattle.rl_syntax.specs.Reading.{Contents, Digits, Truth, quoted_contents}
 use Rattle.rl_syntax.specs.Strict.{dec}
 use Rattle.rl_lenient.specs.declared.found.Found.{Found}
-use Rattle.rl_lenient.specs.Founds.{body_in, suffix_in}
 use Rattle.rl_cursors.specs.declared.next_literals.NextLiteral.{NextLiteral}
 use Rattle.rl_cursors.specs.declared.next_literals.ListStep.{ListStep}
 use Rattle.rl_cursors.specs.declared.next_literals.ListStep.TheVariants.{End, Literal}
 use Rattle.rl_cursors.specs.NextLiterals.{whole_text}
 use Rattle.rl_cursors.specs.Lists.{begins_at}
 use Rattle.rust_literals.specs.declared.lit.Lit.{Lit}
-use Rattle.rl_theorem.specs.Notation.{Rule, Text, Many, Means}
+use Rattle.rl_theorem.specs.Notation.{Rule, One, Many, As, Means}
 use Rattle.rl_theorem.specs.SynRules.{str_inside, byte_str_inside, c_str_inside}
 use Rattle.rl_theorem.specs.Headline.{HasTheReading}
 use Rattle.rl_theorem.specs.Printed.{ListItem, IsItemAt}
 
--- A character or escape between the quotes of a string literal of the kind.
-abbrev pub inside : Kind → Rule
-inside Str = str_inside
-inside ByteStr = byte_str_inside
-inside CStr = c_str_inside
-inside _ = Text []
-
--- The text between the quotes of a string of the kind has the value. In a raw string, which the first argument tells, it is
--- the value. In another string it is characters and escapes, which the rule decodes.
-abbrev pub IsDecoded : Bool → Kind → List ℕ → List ℕ → Type 0
-IsDecoded true kind body value = value ≡ content_of kind body
-IsDecoded false kind body value = Means (Many (inside kind)) body (codes "\"") value
+-- The rule of the text between the quotes of a string of the kind: any characters in a raw string, which the first
+-- argument tells, and characters and escapes in another string.
+abbrev pub body_rule : Bool → Kind → Rule
+body_rule true Str = Many (One (λ c. true))
+body_rule true _ = As encode_utf8_all (Many (One (λ c. true)))
+body_rule false ByteStr = Many byte_str_inside
+body_rule false CStr = Many c_str_inside
+body_rule false _ = Many str_inside
 
 -- The parse result that the code returns for the text has the value: by the magnitude of an integer, the `bool`, the
 -- character or byte, or the range of a string's body. The minus of an integer, and a float, are read from the text.
@@ -42,13 +37,14 @@ abbrev pub GivesContents : Kind → List ℕ → Found → Contents → Type 0
 GivesContents Int text f contents =
     contents ≡ Digits ((if begins_char (code "-") (chars text) then codes "-" else []) ++ dec f.magnitude)
 GivesContents Float text f contents =
-    (numeral : List ℕ) × (chars text ≡ numeral ++ chars (suffix_in text f.body)) × (contents ≡ Digits (float_digits numeral))
+    (numeral : List ℕ) × (chars text ≡ numeral ++ chars (drop f.body.suffix_at text)) × (contents ≡ Digits (float_digits numeral))
 GivesContents BoolKind text f contents = contents ≡ Truth f.truth
 GivesContents Byte text f contents = contents ≡ quoted_contents Byte (f.unit ∷ [])
 GivesContents Char text f contents = contents ≡ quoted_contents Char (f.unit ∷ [])
 GivesContents kind text f contents =
     (value : List ℕ) × (contents ≡ quoted_contents kind value)
-    × IsDecoded (begins (raw_opener kind) (chars text)) kind (chars (body_in text f.body)) value
+    × Means (body_rule (begins (raw_opener kind) (chars text)) kind) (chars (take (f.body.hi - f.body.lo) (drop f.body.lo text)))
+    (codes "\"") value
 
 -- The literal is the item that begins at the byte offset `at`: it has the item's text and range, and the kind, value and
 -- suffix of the item's parse result. The text has no other parse result.
@@ -57,13 +53,13 @@ pub record IsItemReturned (at : ℕ) (i : ListItem) (l : NextLiteral) : Type 0 w
   pub found_is : l.found ≡ Some found
   pub kind : found.kind ≡ i.reading.kind
   pub value : GivesContents i.reading.kind (whole_text l) found i.reading.contents
-  pub suffix : chars (suffix_in (whole_text l) found.body) ≡ i.reading.suffix
+  pub suffix : chars (drop found.body.suffix_at (whole_text l)) ≡ i.reading.suffix
   pub text : chars (whole_text l) ≡ i.text
   pub reads : HasTheReading i.text i.reading
   pub lo : begins_at l.minus_at l.token.lo ≡ at
   pub hi : l.token.hi ≡ at + byte_len i.text
 
--- The step number `n` over a printed list, counted from 0: the item of this number, or the end if the list is shorter.
+-- The step number `n` over a printed list, counted from 0: the item of this number, or the end if there are at most `n` items.
 -- The list begins at the byte offset `at`.
 abbrev pub IsStepAt : ℕ → List ListItem → ℕ → ListStep → Type 0
 IsStepAt at [] n step = step ≡ End
@@ -71,8 +67,8 @@ IsStepAt at (i ∷ is) zero step =
     (l : NextLiteral) × (step ≡ Literal l) × IsItemReturned (at + byte_len i.gap) i l
 IsStepAt at (i ∷ is) (suc n) step = IsStepAt (at + byte_len i.gap + byte_len i.text) is n step
 
--- The step number `n` and the literal of this number are one item of a list. If there are fewer literals, the step is
--- the end.
+-- The step number `n` and the literal of this number are one item of a list. If there are at most `n` literals, the step
+-- is the end.
 abbrev pub IsAlsoAt : {A : Type 0} → ℕ → List (Lit A) → ℕ → ListStep → Type 0
 IsAlsoAt file [] n step = step ≡ End
 IsAlsoAt file (lit ∷ lits) zero step =

@@ -4,15 +4,17 @@ use Rattle.rl_syntax.specs.Texts.{is_among}
 
 -- A rule has texts, and each text of a rule has a value: the characters, bytes or digits that it represents. The text that
 -- follows may decide whether a text is one of the rule's. There are nine forms of rules.
+infixr 30 ◌⋅◌
+infixr 20 ◌∣◌
 pub data Rule : Type 0 where
   -- Exactly this text. Its value is empty.
   Text : (text : List ℕ) → Rule
   -- One character that passes the test. It is its own value.
   One : (test : ℕ → Bool) → Rule
-  -- A text of the first rule and then a text of the second rule. The value is both values, joined.
-  Then : (first second : Rule) → Rule
-  -- A text of one of the two rules.
-  Or : (left right : Rule) → Rule
+  -- `a ⋅ b`: a text of `a` and then a text of `b`. The value is both values, joined.
+  ◌⋅◌ : (first second : Rule) → Rule
+  -- `a ∣ b`: a text of one of the two rules.
+  ◌∣◌ : (left right : Rule) → Rule
   -- Any number of texts of the rule, one after another, perhaps none. The value is all values, joined.
   Many : (rule : Rule) → Rule
   -- A text of the rule, with a value that is computed from the rule's.
@@ -23,16 +25,6 @@ pub data Rule : Type 0 where
   Some : (rule_of : ℕ → Rule) → Rule
   -- The empty text, if no text of the rule follows.
   Unless : (rule : Rule) → Rule
-
--- The sign for `Then`.
-infixr 30 ◌⋅◌
-abbrev pub ◌⋅◌ : Rule → Rule → Rule
-a ⋅ b = Then a b
-
--- The sign for `Or`.
-infixr 20 ◌∣◌
-abbrev pub ◌∣◌ : Rule → Rule → Rule
-a ∣ b = Or a b
 
 -- The parts, each a text and its value, have the meaning, one after another.
 abbrev pub Follow : (List ℕ → List ℕ → List ℕ → Type 0) → List (List ℕ × List ℕ) → List ℕ → List ℕ → List ℕ
@@ -46,9 +38,9 @@ Follow means (part ∷ parts) text after value =
 abbrev pub Means : Rule → List ℕ → List ℕ → List ℕ → Type 0
 Means (Text t) text after value = (text ≡ t) × (value ≡ [])
 Means (One test) text after value = (c : ℕ) × IsTrue (test c) × (text ≡ c ∷ []) × (value ≡ c ∷ [])
-Means (Then a b) text after value =
+Means (a ⋅ b) text after value =
     (u w x y : List ℕ) × (text ≡ u ++ w) × (value ≡ x ++ y) × Means a u (w ++ after) x × Means b w after y
-Means (Or a b) text after value = Means a text after value ⊎ Means b text after value
+Means (a ∣ b) text after value = Means a text after value ⊎ Means b text after value
 Means (Many a) text after value = (parts : List (List ℕ × List ℕ)) × Follow (Means a) parts text after value
 Means (As change a) text after value = (x : List ℕ) × Means a text after x × (value ≡ change x)
 Means (If test a) text after value = IsTrue (test value) × Means a text after value
@@ -78,7 +70,3 @@ end = Unless (One (λ c. true))
 infix 40 ◌is◌
 abbrev pub ◌is◌ : List ℕ → ℕ → Rule
 t is c = As (λ v. c ∷ []) (Text t)
-
--- A text of the rule, without a value.
-abbrev pub skip : Rule → Rule
-skip a = As (λ v. []) a

@@ -5,7 +5,7 @@ use Rattle.std.specs.Str.{chars}
 use Prim.Native.Char.{code}
 use Rattle.rl_syntax.specs.Texts.{byte_len, first_passes, is_among}
 use Rattle.rl_syntax.specs.Trivia.{IsTrivia}
-use Rattle.rl_syntax.specs.Quoted.{is_number}
+use Rattle.rl_syntax.specs.declared.kind.Kind.TheVariants.{Int, Float}
 use Rattle.rl_syntax.specs.Reading.{Digits}
 use Rattle.rl_syntax.specs.Readings.{Reading}
 use Rattle.rust_literals.specs.declared.lit.Lit.{Lit}
@@ -26,7 +26,7 @@ pub record IsNegative (text : List ℕ) (r : Reading) : Type 0 where
   pub digits : List ℕ
   pub text_is : text ≡ code "-" ∷ number
   pub contents_is : r.contents ≡ Digits (code "-" ∷ digits)
-  pub is_number : IsTrue (is_number r.kind)
+  pub is_number : (r.kind ≡ Int) ⊎ (r.kind ≡ Float)
   pub strict : IsLiteral number (record { kind = r.kind; contents = Digits digits; suffix = r.suffix })
 
 -- The item has its parse result by Rust's grammar, which also allows a minus before a number here. The item has it by

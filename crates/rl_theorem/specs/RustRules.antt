@@ -12,7 +12,7 @@ use Rattle.rl_syntax.specs.Spelling.{place_value}
 use Rattle.rl_syntax.specs.Reading.{Contents, Digits, Truth, quoted_contents}
 use Rattle.rl_syntax.specs.Readings.{Reading}
 use Rattle.rl_syntax.specs.Strict.{Strict, dec}
-use Rattle.rl_theorem.specs.Notation.{Rule, Text, One, Many, As, If, Some, Unless, ◌⋅◌, ◌∣◌, Means, maybe, any_of, but, end, ◌is◌, skip}
+use Rattle.rl_theorem.specs.Notation.{Rule, Text, One, Many, As, If, Some, Unless, ◌⋅◌, ◌∣◌, Means, maybe, any_of, but, end, ◌is◌}
 
 -- ---- suffixes
 
@@ -74,64 +74,49 @@ u_escape =
 
 -- STRING_CONTINUE: a backslash and an LF. By chapter Literal expressions, all spaces, TABs and LFs after them are dropped.
 abbrev pub string_continue : Rule
-string_continue = skip (Text (codes "\\\n") ⋅ Many (any_of (codes " \t\n"))) ⋅ Unless (any_of (codes " \t\n"))
+string_continue = As (λ v. []) (Text (codes "\\\n") ⋅ Many (any_of (codes " \t\n"))) ⋅ Unless (any_of (codes " \t\n"))
 
 -- ---- quoted literals
 
--- Between the quotes of CHAR_LITERAL: a character other than `'`, `\`, LF, CR and TAB, or an escape.
-abbrev pub char_content : Rule
-char_content = One (but (codes "'\\\n\r\t")) ∣ quote_escape ∣ ascii_escape ∣ u_escape
-
--- CHAR_LITERAL: one of these between single quotes.
+-- CHAR_LITERAL: a character other than `'`, `\`, LF, CR and TAB, or an escape, between single quotes.
 abbrev pub char_literal : Rule
-char_literal = Text (codes "'") ⋅ char_content ⋅ Text (codes "'")
+char_literal =
+    Text (codes "'") ⋅ (One (but (codes "'\\\n\r\t")) ∣ quote_escape ∣ ascii_escape ∣ u_escape) ⋅ Text (codes "'")
 
--- Between the quotes of STRING_LITERAL: a character other than `"`, `\` and CR, or an escape.
-abbrev pub string_content : Rule
-string_content = One (but (codes "\"\\\r")) ∣ quote_escape ∣ ascii_escape ∣ u_escape ∣ string_continue
-
--- STRING_LITERAL: any number of these between double quotes.
+-- STRING_LITERAL: any number of characters other than `"`, `\` and CR, and of escapes, between double quotes.
 abbrev pub string_literal : Rule
-string_literal = Text (codes "\"") ⋅ Many string_content ⋅ Text (codes "\"")
+string_literal =
+    Text (codes "\"")
+    ⋅ Many (One (but (codes "\"\\\r")) ∣ quote_escape ∣ ascii_escape ∣ u_escape ∣ string_continue) ⋅ Text (codes "\"")
 
 -- ASCII_FOR_CHAR: an ASCII character other than `'`, `\`, LF, CR and TAB.
 abbrev pub ascii_for_char : Rule
 ascii_for_char = One (λ c. is_ascii c && but (codes "'\\\n\r\t") c)
 
--- Between the quotes of BYTE_LITERAL: ASCII_FOR_CHAR or BYTE_ESCAPE.
-abbrev pub byte_content : Rule
-byte_content = ascii_for_char ∣ byte_escape
-
--- BYTE_LITERAL: `b`, and one of these between single quotes.
+-- BYTE_LITERAL: `b`, and ASCII_FOR_CHAR or BYTE_ESCAPE between single quotes.
 abbrev pub byte_literal : Rule
-byte_literal = Text (codes "b'") ⋅ byte_content ⋅ Text (codes "'")
+byte_literal = Text (codes "b'") ⋅ (ascii_for_char ∣ byte_escape) ⋅ Text (codes "'")
 
 -- ASCII_FOR_STRING: an ASCII character other than `"`, `\` and CR.
 abbrev pub ascii_for_string : Rule
 ascii_for_string = One (λ c. is_ascii c && but (codes "\"\\\r") c)
 
--- Between the quotes of BYTE_STRING_LITERAL: ASCII_FOR_STRING, BYTE_ESCAPE or STRING_CONTINUE.
-abbrev pub byte_string_content : Rule
-byte_string_content = ascii_for_string ∣ byte_escape ∣ string_continue
-
--- BYTE_STRING_LITERAL: `b`, and any number of these between double quotes.
+-- BYTE_STRING_LITERAL: `b`, and any number of ASCII_FOR_STRING, BYTE_ESCAPE and STRING_CONTINUE between double quotes.
 abbrev pub byte_string_literal : Rule
-byte_string_literal = Text (codes "b\"") ⋅ Many byte_string_content ⋅ Text (codes "\"")
+byte_string_literal =
+    Text (codes "b\"") ⋅ Many (ascii_for_string ∣ byte_escape ∣ string_continue) ⋅ Text (codes "\"")
 
 -- A text of the rule whose value has no NUL.
 abbrev pub not_nul : Rule → Rule
 not_nul a = If (list_all (λ c. not (c == 0))) a
 
--- Between the quotes of C_STRING_LITERAL: a character other than `"`, `\`, CR and NUL, or an escape that isn't NUL. The
--- value is bytes. Characters are encoded as UTF-8, and `\x` is one byte.
-abbrev pub c_string_content : Rule
-c_string_content =
-    As encode_utf8_all (One (λ c. but (codes "\"\\\r") c && not (c == 0))) ∣ not_nul byte_escape
-    ∣ As encode_utf8_all (not_nul u_escape) ∣ string_continue
-
--- C_STRING_LITERAL: `c`, and any number of these between double quotes.
+-- C_STRING_LITERAL: `c`, and any number of characters other than `"`, `\`, CR and NUL, and of escapes that aren't NUL,
+-- between double quotes. The value is bytes. Characters are encoded as UTF-8, and `\x` is one byte.
 abbrev pub c_string_literal : Rule
-c_string_literal = Text (codes "c\"") ⋅ Many c_string_content ⋅ Text (codes "\"")
+c_string_literal =
+    Text (codes "c\"")
+    ⋅ Many (As encode_utf8_all (One (λ c. but (codes "\"\\\r") c && not (c == 0))) ∣ not_nul byte_escape
+    ∣ As encode_utf8_all (not_nul u_escape) ∣ string_continue) ⋅ Text (codes "\"")
 
 -- A raw literal: the prefix, at most 255 hashes and `"`, any number of characters other than CR that pass the test, and the
 -- first `"` with as many hashes after it.
@@ -160,21 +145,17 @@ raw_c_string_literal = As encode_utf8_all (raw (codes "cr") (λ c. not (c == 0))
 abbrev pub dec_literal : Rule
 dec_literal = digit 10 ⋅ digits 10
 
--- A prefix, and digits and underscores with at least one digit.
-abbrev pub with_prefix : List ℕ → ℕ → Rule
-with_prefix prefix base = Text prefix ⋅ some_digits base
-
--- BIN_LITERAL: a number in base 2.
+-- BIN_LITERAL: `0b`, and digits of base 2 and underscores with at least one digit.
 abbrev pub bin_literal : Rule
-bin_literal = with_prefix (codes "0b") 2
+bin_literal = Text (codes "0b") ⋅ some_digits 2
 
--- OCT_LITERAL: a number in base 8.
+-- OCT_LITERAL: `0o`, and the same in base 8.
 abbrev pub oct_literal : Rule
-oct_literal = with_prefix (codes "0o") 8
+oct_literal = Text (codes "0o") ⋅ some_digits 8
 
--- HEX_LITERAL: a number in base 16.
+-- HEX_LITERAL: `0x`, and the same in base 16.
 abbrev pub hex_literal : Rule
-hex_literal = with_prefix (codes "0x") 16
+hex_literal = Text (codes "0x") ⋅ some_digits 16
 
 -- The value of digits: their number in base ten.
 abbrev pub number : ℕ → Rule → Rule

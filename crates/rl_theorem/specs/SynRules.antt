@@ -1,6 +1,6 @@
 -- The literals of `syn` 3.0.9, src/lit.rs. There is one rule for each function of `syn` that parses a literal or a part of
 -- it, under the function's name. The unescaped characters of bytes and byte strings are those that rustc accepts.
-use Rattle.std.specs.Prelude.{◌↔◌, ℕ, Bool, true, not, ◌&&◌, ◌==◌, nat_le, List, [], ◌∷◌, ◌++◌, codes, length, replicate, encode_utf8_all}
+use Rattle.std.specs.Prelude.{◌↔◌, ℕ, ◌^◌, ◌-◌, Bool, true, not, ◌&&◌, ◌==◌, nat_le, List, [], ◌∷◌, ◌++◌, codes, length, replicate, encode_utf8_all}
 use Rattle.std.specs.List.{list_all}
 use Rattle.std.specs.Char.{is_ascii}
 use Rattle.std.specs.Str.{all_scalars}
@@ -8,11 +8,10 @@ use Prim.Native.Char.{code}
 use Rattle.rl_syntax.specs.declared.kind.Kind.{Kind}
 use Rattle.rl_syntax.specs.declared.kind.Kind.TheVariants.{Str, ByteStr, CStr, Byte, Char, Int, Float, Bool as BoolKind}
 use Rattle.rl_syntax.specs.Spelling.{place_value}
-use Rattle.rl_syntax.specs.Numbers.{limit}
 use Rattle.rl_syntax.specs.Reading.{Contents, Reads}
 use Rattle.rl_syntax.specs.Readings.{Reading}
-use Rattle.rl_theorem.specs.Notation.{Rule, Text, One, Many, As, If, Some, Unless, ◌⋅◌, ◌∣◌, maybe, any_of, but, end, ◌is◌, skip}
-use Rattle.rl_theorem.specs.RustRules.{identifier_or_keyword, digit, digits, some_digits, byte_escape, not_nul, ascii_for_char, ascii_for_string, dec_literal, bin_literal, oct_literal, hex_literal, number, no_prefix, boolean_literal, IsLiteralBy}
+use Rattle.rl_theorem.specs.Notation.{Rule, Text, One, Many, As, If, Some, Unless, ◌⋅◌, ◌∣◌, maybe, any_of, but, end, ◌is◌}
+use Rattle.rl_theorem.specs.RustRules.{identifier_or_keyword, digit, digits, some_digits, byte_escape, not_nul, byte_literal, ascii_for_string, dec_literal, bin_literal, oct_literal, hex_literal, number, no_prefix, boolean_literal, IsLiteralBy}
 
 -- ---- characters and escapes
 
@@ -36,25 +35,13 @@ backslash_u =
 -- An escaped line end: a backslash, an LF or CR, and all spaces, TABs, LFs and CRs after them.
 abbrev pub line_continue : Rule
 line_continue =
-    skip (Text (codes "\\") ⋅ any_of (codes "\n\r") ⋅ Many (any_of (codes " \t\n\r"))) ⋅ Unless (any_of (codes " \t\n\r"))
+    As (λ v. []) (Text (codes "\\") ⋅ any_of (codes "\n\r") ⋅ Many (any_of (codes " \t\n\r"))) ⋅ Unless (any_of (codes " \t\n\r"))
 
 -- ---- quoted literals
 
--- Between the quotes of a character: a character other than `\`, or an escape. `\x` represents an ASCII character.
-abbrev pub char_inside : Rule
-char_inside = One (but (codes "\\")) ∣ ascii_only byte_escape ∣ backslash_u
-
--- `parse_lit_char`: one of these between single quotes.
+-- `parse_lit_char`: a character other than `\`, or an escape, between single quotes. `\x` represents an ASCII character.
 abbrev pub parse_lit_char : Rule
-parse_lit_char = Text (codes "'") ⋅ char_inside ⋅ Text (codes "'")
-
--- Between the quotes of a byte: ASCII_FOR_CHAR, or an escape.
-abbrev pub byte_inside : Rule
-byte_inside = ascii_for_char ∣ byte_escape
-
--- `parse_lit_byte`: `b`, and one of these between single quotes.
-abbrev pub parse_lit_byte : Rule
-parse_lit_byte = Text (codes "b'") ⋅ byte_inside ⋅ Text (codes "'")
+parse_lit_char = Text (codes "'") ⋅ (One (but (codes "\\")) ∣ ascii_only byte_escape ∣ backslash_u) ⋅ Text (codes "'")
 
 -- Between the quotes of a string: a character other than `"`, `\` and CR, or CR LF, or an escape.
 abbrev pub str_inside : Rule
@@ -137,15 +124,15 @@ parse_lit_float =
 
 -- ---- all literals
 
--- The rules of each kind of literals, without the suffix. An integer is within 128 bits. A number is a float only if it
+-- The rules of each kind of literals, without the suffix. `parse_lit_byte` is BYTE_LITERAL. An integer is within 128 bits. A number is a float only if it
 -- isn't an integer of any size.
 abbrev pub syn_literal : Kind → Rule
 syn_literal Str = parse_lit_str_cooked ∣ parse_lit_str_raw
 syn_literal ByteStr = parse_lit_byte_str_cooked ∣ parse_lit_byte_str_raw
 syn_literal CStr = parse_lit_c_str_cooked ∣ parse_lit_c_str_raw
-syn_literal Byte = parse_lit_byte
+syn_literal Byte = byte_literal
 syn_literal Char = parse_lit_char
-syn_literal Int = parse_lit_int (λ n. nat_le n limit)
+syn_literal Int = parse_lit_int (λ n. nat_le n (2 ^ 128 - 1))
 syn_literal Float = Unless (parse_lit_int (λ n. true) ⋅ number_suffix ⋅ end) ⋅ parse_lit_float
 syn_literal BoolKind = boolean_literal
 

@@ -35,6 +35,7 @@ pub fn parsed<A: Allocator>(alloc: A, token: Literal<A>) -> Result<Lit<A>, Kept<
     // The literal is what the token's text is parsed as, or the literal is `Verbatim` and the text has no parse result.
     ensures parsed { IfOk result HoldsItsReading }
     ensures same { IfOk result (λ lit. token_of lit ≡ token) }
+    ensures kept { IfErr result (λ kept. kept.value ≡ token) }
     ensures memory { IfErr result (λ kept. kept.error.kind ≡ Memory) }
 {
     Lit::new(alloc, token)
@@ -65,7 +66,7 @@ pub fn value_of<'a, A: Allocator, B: Allocator>(
     literal: &'a Lit<A>,
 ) -> Result<Option<Value<'a, B>>, Error<B>>
     // If the literal holds a parse result, the value is that of the parse result.
-    ensures value { (r : Reading) → HoldsReading literal.now r → IfOk result (GivesValue r) }
+    ensures value { (r : Reading) → HoldsReading literal.now r → IfOk result (λ value. GivesValue value r.kind r.contents) }
     ensures none { HoldsNoReading literal.now → IfOk result (λ value. value ≡ None) }
     ensures memory { IfErr result (λ e. e.kind ≡ Memory) }
 {
@@ -106,6 +107,7 @@ pub fn written_string<A: Allocator>(
     span: Span,
 ) -> Result<LitStr<A>, Error<A>>
     ensures written { IfOk result (λ l. Writes Str (chars value.now) (chars l.text)) }
+    ensures span { IfOk result (λ l. l.span ≡ span) }
     ensures memory { IfErr result (λ e. e.kind ≡ Memory) }
 {
     LitStr::new(alloc, value, span)
@@ -118,6 +120,7 @@ pub fn written_bytes<A: Allocator>(
     span: Span,
 ) -> Result<LitByteStr<A>, Error<A>>
     ensures written { IfOk result (λ l. Writes ByteStr value.now (chars l.text)) }
+    ensures span { IfOk result (λ l. l.span ≡ span) }
     ensures memory { IfErr result (λ e. e.kind ≡ Memory) }
 {
     LitByteStr::new(alloc, value, span)
@@ -130,6 +133,7 @@ pub fn written_c_string<A: Allocator, C: Allocator>(
     span: Span,
 ) -> Result<LitCStr<A>, Error<A>>
     ensures written { IfOk result (λ l. Writes CStr value.now (chars l.text)) }
+    ensures span { IfOk result (λ l. l.span ≡ span) }
     ensures memory { IfErr result (λ e. e.kind ≡ Memory) }
 {
     LitCStr::new(alloc, value, span)
@@ -138,6 +142,7 @@ pub fn written_c_string<A: Allocator, C: Allocator>(
 /// Writes a byte as a literal.
 pub fn written_byte<A: Allocator>(alloc: A, value: u8, span: Span) -> Result<LitByte<A>, Error<A>>
     ensures written { IfOk result (λ l. Writes Byte (value ∷ []) (chars l.text)) }
+    ensures span { IfOk result (λ l. l.span ≡ span) }
     ensures memory { IfErr result (λ e. e.kind ≡ Memory) }
 {
     LitByte::new(alloc, value, span)
@@ -150,6 +155,7 @@ pub fn written_character<A: Allocator>(
     span: Span,
 ) -> Result<LitChar<A>, Error<A>>
     ensures written { IfOk result (λ l. Writes Char (value ∷ []) (chars l.text)) }
+    ensures span { IfOk result (λ l. l.span ≡ span) }
     ensures memory { IfErr result (λ e. e.kind ≡ Memory) }
 {
     LitChar::new(alloc, value, span)
@@ -170,7 +176,7 @@ pub fn read_back<A: Allocator + Copy>(
 
 /// Returns the step number `n` of the loop over a list, counted from 0.
 pub fn literal_at(text: &str, n: usize) -> ListStep<'_>
-    // If the text is a printed list of literals, the step is the item number `n`, or the end if the list is shorter.
+    // If the text is a printed list of literals, the step is the item number `n`, or the end if there are at most `n` items.
     ensures { (items : List ListItem) (last : List ℕ) → PrintedList (chars text.now) items last
         → IsStepAt 0 items n result }
 {
@@ -191,6 +197,8 @@ pub fn both_ways<'t, A: Allocator + Copy>(
     // If the text is a printed list of literals, both ways return the same item of the list.
     ensures same { (items : List ListItem) (last : List ℕ) → PrintedList (chars text.now) items last
         → IfOk result (λ both. IsAlsoAt file both.0.items n both.1) }
+    ensures memory { (items : List ListItem) (last : List ℕ) → PrintedList (chars text.now) items last
+        → IfErr result (λ e. e.kind ≡ Memory) }
 {
     match read_back(alloc, text, file) {
         Ok(literals) => Ok((literals, literal_at(text, n))),
@@ -209,6 +217,9 @@ pub fn read_again<A: Allocator + Copy>(
     // are the same, except for their spans, or an allocation failed.
     ensures again { IfOk result (λ both. (spaced : List (Spaced A)) (last : List ℕ) → lits_of spaced ≡ both.0.items
         → IsReprint (chars text.now) spaced last → HoldsOrMemory (SameButSpans both.0.items) both.1) }
+    // If `source` is a printed list of literals, the only error is an allocation failure.
+    ensures memory { (items : List ListItem) (last : List ℕ) → PrintedList (chars source.now) items last
+        → IfErr result (λ e. e.kind ≡ Memory) }
 {
     match read_all(alloc, source, 0) {
         Ok(literals) => Ok((literals, read_all(alloc, text, file))),

@@ -10,9 +10,9 @@ use Rattle.rl_lexer.specs.Lexemes.{LexemeBefore, Lexeme, DelimiterLexeme, lexeme
 use Rattle.rl_lexer.specs.Cursors.{form_view, CursorState, TakesNext, IsFirstError}
 use Rattle.rl_lexer.specs.declared.cursor.Lexeme.{Lexeme as Borrowed}
 use Rattle.rl_tokens.specs.Trees.{Tree, stream_view, flat_trees}
-use Rattle.rl_lexer.specs.Cuts.{OpenGroup, LexesUpTo, error_place, BeginsLexeme, BeginsNoLexeme, ErrorAt, HasFirstError, LeavesRestAt, Rejects}
+use Rattle.rl_lexer.specs.Cuts.{OpenGroup, LexesUpTo, error_place, EndsInGroup, OpensTooDeep, BeginsLexeme, BeginsNoLexeme, ErrorAt, HasFirstError, LeavesRestAt, Rejects}
 use Rattle.rl_tokens.specs.Lexing.{Lexes}
-use Rattle.rl_tokens.specs.Mirrors.TreeBuilders.{groups_of, flat_builder, EndsInGroup, ClosesWrong, OpensTooDeep, RejectsForm}
+use Rattle.rl_tokens.specs.Mirrors.TreeBuilders.{groups_of, flat_builder, ClosesWrong, RejectsForm}
 use Rattle.rl_tokens.proofs.LexLoop.{HasCut}
 use Rattle.rl_lexer.proofs.ErrorKinds.{rest_place, error_rejects}
 

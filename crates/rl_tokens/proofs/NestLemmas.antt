@@ -12,9 +12,9 @@ use Rattle.rl_tokens.specs.declared.token.Delimiter.{Delimiter}
 use Rattle.rl_tokens.specs.declared.token.Delimiter.TheVariants.{Parenthesis, Brace, Bracket}
 use Rattle.rl_lexer.specs.declared.lex_error.LexKind.TheVariants.{UnclosedGroup}
 use Rattle.rl_tokens.specs.Trees.{Tree, FlatToken, Opening, Closing, FlatPunct, FlatLiteral, FlatIdent, opener_span, closer_span, trees_of, delimiter_of, stream_of, group_span, tree_view, stream_view, flat, flat_trees}
-use Rattle.rl_lexer.specs.Cuts.{is_pair, closes, popped, innermost, after_form}
+use Rattle.rl_lexer.specs.Cuts.{is_pair, closes, popped, innermost, after_form, EndsInGroup}
 use Rattle.rl_tokens.specs.Lexing.{flat_form}
-use Rattle.rl_tokens.specs.Mirrors.TreeBuilders.{opener_of, closer_of, group_of, groups_of, flat_open, flat_builder, TakesToken, TakesTree, OpensGroup, ClosesGroup, EndsInGroup}
+use Rattle.rl_tokens.specs.Mirrors.TreeBuilders.{opener_of, closer_of, group_of, groups_of, flat_open, flat_builder, TakesToken, TakesTree, OpensGroup, ClosesGroup}
 use Rattle.rl_tokens.specs.Puncts.{Mark}
 use Rattle.rl_syntax.specs.Texts.{SpannedText}
 use Rattle.rl_lexer.specs.Lexemes.{LexemeForm, MarkForm, LiteralForm, IdentifierForm}

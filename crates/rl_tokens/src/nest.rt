@@ -40,7 +40,8 @@ pub(crate) struct TreeBuilder<A: Allocator> {
 
 impl<A: Allocator + Copy> TreeBuilder<A> {
     ghost use Rattle.rl_tokens.specs.Trees.{stream_view, flat_trees};
-    ghost use Rattle.rl_tokens.specs.Mirrors.TreeBuilders.{groups_of, flat_builder, IsFitting, TakesToken, TakesTree, OpensGroup, ClosesGroup, RejectsForm, RejectsOpener, RejectsCloser, EndsInGroup};
+    ghost use Rattle.rl_lexer.specs.Cuts.{EndsInGroup};
+    ghost use Rattle.rl_tokens.specs.Mirrors.TreeBuilders.{groups_of, flat_builder, IsFitting, TakesToken, TakesTree, OpensGroup, ClosesGroup, RejectsForm, RejectsOpener, RejectsCloser};
 
     /// Creates an empty builder. The spans of its token trees get the file number `file`.
     pub(crate) fn new(alloc: A, file: u32) -> TreeBuilder<A>

@@ -4,5 +4,5 @@ pub mod ReasonLemmas
 pub mod RewriteLemmas
 pub mod CountLemmas
 pub mod ShortageLemmas
-mod TreeLemmas
+pub mod CapitalLemmas
 mod ConfigLemmas

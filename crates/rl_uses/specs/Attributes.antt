@@ -7,7 +7,8 @@ use Rattle.rl_tokens.specs.declared.error.Error.{Error}
 use Rattle.rl_tokens.specs.Errors.{memory_at}
 use Rattle.rl_syntax.specs.Texts.{SpannedText}
 use Rattle.rl_tokens.specs.Trees.{Tree, IdentTree}
-use Rattle.rl_tokens.specs.Buffers.{begins_ident, begins_mark, IsAfterMark, IsRejection}
+use Rattle.rl_tokens.specs.Buffers.{begins_mark, IsAfterMark, IsRejection}
+use Rattle.rl_attributes.specs.Attributes.{MissesName}
 use Rattle.rl_grammar.specs.Fronts.{IsFrontOf, RunsAs}
 use Rattle.rl_uses.specs.declared.attribute.Attribute.{Attribute}
 
@@ -42,13 +43,6 @@ pub record IsStringAttribute (trees : List Tree) (name value : SpannedText) (res
   pub named : trees ≡ IdentTree name ∷ following
   pub set : IsAttributeValue following value rest
 
--- The error `e` is the error for token trees that don't begin with an identifier, where an attribute's name is
--- expected.
-pub record MissesAttributeName {A : Type 0} (trees : List Tree) (scope : Span) (e : Error A)
-    : Type 0 where
-  pub none : IsFalse (begins_ident trees)
-  pub rejection : IsRejection trees scope (codes "identifier") e
-
 -- The error `e` is an allocation failure for the identifier at the start of the token trees, with the identifier's
 -- span.
 pub record LacksMemoryForIdentifier {A : Type 0} (trees : List Tree) (e : Error A) : Type 0 where
@@ -68,7 +62,7 @@ pub record MissesValue {A : Type 0} (trees : List Tree) (scope : Span) (e : Erro
 -- first missing part, or an allocation failure.
 pub record RejectsAttribute {A : Type 0} (trees : List Tree) (scope : Span) (e : Error A)
     : Type 0 where
-  pub why : MissesAttributeName trees scope e ⊎ LacksMemoryForIdentifier trees e
+  pub why : MissesName trees scope e ⊎ LacksMemoryForIdentifier trees e
       ⊎ MissesValue trees scope e
 
 -- The result of the parser of an attribute: the attribute, or an error, with no token tree consumed.

@@ -9,6 +9,4 @@ pub mod Rewrites
 pub mod Counts
 pub mod Configs
 pub mod Mounts
-pub mod Sums
-pub mod Raws
-pub mod Uppers
+pub mod Capitals

@@ -1,7 +1,6 @@
 -- The number of hashes that a raw string needs, according to the hashes after each quote in it.
-use Rattle.rl_syntax.proofs.Common.{◌≡◌, ℕ, zero, suc, ◌+◌, ◌<◌, ◌≤◌, ◌&&◌, Bool, true, false, cond, eqb, List, [], ◌∷◌, ◌++◌, replicate, refl, sym, ap, subst, ◌∙◌, inl, inr, arith, eqb-true, cases_Bool, cases_lt, nat_lt, lt-ltb, if◌then◌else◌}
+use Rattle.rl_syntax.proofs.Common.{◌≡◌, ℕ, zero, suc, ◌+◌, ◌<◌, ◌≤◌, Bool, true, false, cond, eqb, List, [], ◌∷◌, ◌++◌, replicate, refl, ap, ◌∙◌, inl, inr, arith, eqb-true, cases_Bool, cases_lt}
 use Rattle.std.specs.Prelude.{max}
-use Rattle.rl_writing.specs.Mirrors.RawSteps.{hashes_opened}
 
 -- The number of hashes at the start of a text.
 abbrev pub run : List ℕ → ℕ
@@ -86,50 +85,3 @@ needed_from needed opened t = max needed (max (pending opened t) (needed_in t))
 pub needed_end : (needed opened : ℕ) → opened ≤ needed → needed_from needed opened [] ≡ needed
 needed_end needed zero h = omega arith
 needed_end needed (suc k) h = omega (arith, h)
-
-step_quote : (needed opened : ℕ) (t : List ℕ) → opened ≤ needed
-    → needed_from needed opened (34 ∷ t) ≡ needed_from (max needed 1) 1 t
-step_quote needed zero t h = omega arith
-step_quote needed (suc k) t h = omega (arith, h)
-
-step_hash : (needed opened : ℕ) (t : List ℕ) → opened ≤ needed
-    → needed_from needed opened (35 ∷ t)
-    ≡ needed_from (max needed (hashes_opened opened 35)) (hashes_opened opened 35) t
-step_hash needed zero t h = omega arith
-step_hash needed (suc k) t h =
-    let one : suc k + 1 ≡ suc (suc k) = omega arith in
-    let more : hashes_opened (suc k) 35 ≡ suc (suc k) =
-    ap (λ b. if b then suc k + 1 else 0) (lt-ltb 0 (suc k) (omega arith)) ∙ one in
-    let step : needed_from needed (suc k) (35 ∷ t) ≡ needed_from (max needed (suc (suc k))) (suc (suc k)) t =
-    omega (arith, h) in
-    step ∙ ap (λ z. needed_from (max needed z) z t) (sym more)
-
-step_other : (needed opened c : ℕ) (t : List ℕ) → opened ≤ needed → eqb c 34 ≡ false → eqb c 35 ≡ false
-    → needed_from needed opened (c ∷ t) ≡ needed_from (max needed 0) 0 t
-step_other needed opened c t h q s =
-    let none : run (c ∷ t) ≡ 0 = ap (λ b. cond b (suc (run t)) 0) s in
-    let same : needed_in (c ∷ t) ≡ needed_in t =
-    ap (λ b. cond b (max (suc (run t)) (needed_in t)) (needed_in t)) q in
-    closed opened h none same
-  where
-    closed : (opened : ℕ) → opened ≤ needed → run (c ∷ t) ≡ 0 → needed_in (c ∷ t) ≡ needed_in t
-        → needed_from needed opened (c ∷ t) ≡ needed_from (max needed 0) 0 t
-    closed zero h none same = omega (arith, same)
-    closed (suc k) h none same = omega (arith, h, none, same)
-
-pub needed_step : (needed opened c : ℕ) (t : List ℕ) → opened ≤ needed
-    → needed_from needed opened (c ∷ t) ≡ needed_from (max needed (hashes_opened opened c)) (hashes_opened opened c) t
-needed_step needed opened c t h =
-    let Step : ℕ → Type 0 = λ z. needed_from needed opened (z ∷ t)
-    ≡ needed_from (max needed (hashes_opened opened z)) (hashes_opened opened z) t in
-    elim (cases_Bool (eqb c 34)) [
-      | inl q ↦ subst Step (sym (eqb-true c 34 q)) (step_quote needed opened t h)
-      | inr q ↦ elim (cases_Bool (eqb c 35)) [
-        | inl s ↦ subst Step (sym (eqb-true c 35 s)) (step_hash needed opened t h)
-        | inr s ↦
-            let closed : hashes_opened opened c ≡ 0 =
-            ap (λ b. if b then 1 else (if eqb c 35 && nat_lt 0 opened then opened + 1 else 0)) q
-            ∙ ap (λ b. if b && nat_lt 0 opened then opened + 1 else 0) s in
-            step_other needed opened c t h q s ∙ ap (λ z. needed_from (max needed z) z t) (sym closed)
-      ]
-    ]

@@ -1,6 +1,6 @@
 -- The names of integer types are suffixes of numbers. No name begins with a character that could continue a number's digits.
 use Rattle.rl_syntax.proofs.Common.{◌≡◌, ℕ, ◌||◌, ◌&&◌, Bool, true, false, not, eqb, List, [], ◌∷◌, Option, Some, None, refl, ap, ◌∙◌, inl, inr, is_ascii_alphabetic, is_ascii_alphanumeric, is_ascii_hexdigit, list_all, and_from, and_parts, or_right, both_ways, or_parts, ltb-true, not-true, is_xid_continue, is_xid_start, is_xid_continue-ascii, is_xid_start-ascii}
-use Rattle.rl_syntax.specs.Texts.{first_passes, is_underscore, is_white, IsWord}
+use Rattle.rl_syntax.specs.Texts.{first_passes, is_underscore, IsWord}
 use Rattle.rl_syntax.proofs.Basics.{apart}
 use Rattle.rl_syntax.specs.Numbers.{is_exponent_letter}
 use Rattle.rl_syntax.specs.Strict.{IsStrictSuffix}
@@ -27,12 +27,12 @@ pub record IsPlainSuffix (x : List ℕ) : Type 0 where
   pub ascii : list_all is_low x ≡ true
 
 abbrev is_name_part : ℕ → Bool
-is_name_part c = (is_low c && not (is_white c)) && (is_ascii_alphanumeric c || eqb c 95)
+is_name_part c = is_low c && (is_ascii_alphanumeric c || eqb c 95)
 
 part_continues : (c : ℕ) → is_name_part c ≡ true → is_xid_continue c ≡ true
 part_continues c h =
-    let p = and_parts (is_low c && not (is_white c)) (is_ascii_alphanumeric c || eqb c 95) h in
-    is_xid_continue-ascii c (ltb-true c 128 (and_parts (is_low c) (not (is_white c)) p.0).0) ∙ p.1
+    let p = and_parts (is_low c) (is_ascii_alphanumeric c || eqb c 95) h in
+    is_xid_continue-ascii c (ltb-true c 128 p.0) ∙ p.1
 
 parts_pass : (test : ℕ → Bool) → ((c : ℕ) → is_name_part c ≡ true → test c ≡ true) → (cs : List ℕ)
     → list_all is_name_part cs ≡ true → list_all test cs ≡ true
@@ -42,14 +42,7 @@ parts_pass test each (c ∷ cs) h =
     and_from (test c) (list_all test cs) (each c p.0) (parts_pass test each cs p.1)
 
 part_low : (c : ℕ) → is_name_part c ≡ true → is_low c ≡ true
-part_low c h =
-    let p = and_parts (is_low c && not (is_white c)) (is_ascii_alphanumeric c || eqb c 95) h in
-    (and_parts (is_low c) (not (is_white c)) p.0).0
-
-part_no_white : (c : ℕ) → is_name_part c ≡ true → not (is_white c) ≡ true
-part_no_white c h =
-    let p = and_parts (is_low c && not (is_white c)) (is_ascii_alphanumeric c || eqb c 95) h in
-    (and_parts (is_low c) (not (is_white c)) p.0).1
+part_low c h = (and_parts (is_low c) (is_ascii_alphanumeric c || eqb c 95) h).0
 
 abbrev is_name : ℕ → List ℕ → Bool
 is_name c cs = (is_ascii_alphabetic c && not (goes_wrong c)) && (is_name_part c && list_all is_name_part cs)
@@ -64,7 +57,6 @@ name_word c cs letter first more = record {
       (parts_pass is_xid_continue part_continues cs more);
   not_underscore = λ e. both_ways (eqb c 95) (apart is_ascii_alphabetic c 95 letter refl)
       (ap (first_passes (λ z. eqb z 95)) e);
-  no_white = and_from _ _ (part_no_white c first) (parts_pass (λ z. not (is_white z)) part_no_white cs more);
 }
 
 named : (c : ℕ) (cs : List ℕ) → is_name c cs ≡ true → IsPlainSuffix (c ∷ cs)

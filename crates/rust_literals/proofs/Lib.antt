@@ -11,4 +11,5 @@ pub mod FlatLemmas
 pub mod ReadLemmas
 pub mod BegunLemmas
 pub mod IteratingLemmas
+pub mod ListLaws
 pub mod Theorems

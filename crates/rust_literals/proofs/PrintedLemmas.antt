@@ -87,12 +87,11 @@ pub holds_exactly : {A B : Type 0} (holds : List (Lit A) → Type 0) (list : Lis
 holds_exactly holds list (Ok found) h same = subst holds (sym same) h
 holds_exactly holds list (Err e) h same = same
 
--- The result of `read_all` for a printed list of literals is the literals of its items, or an allocation failure.
-pub printed_read : {A B : Type 0} (text : List ℕ) (file : ℕ) (r : Result (Vec (Lit A) B) (Error A)) → IsUtf8 text
-    → ((list : List (Lit A)) → AreRead (chars text) file list → HoldsOrMemory (λ found. found ≡ list) r)
-    → (entries : List Entry) (last : List ℕ) → Printed (chars text) entries last
-    → HoldsOrMemory (AreItems file 0 entries) r
-printed_read {A} text file r utf8 exactly entries last printed =
+-- A printed list of literals is read as the literals of its items.
+pub printed_list : {A : Type 0} (text : List ℕ) (file : ℕ) (entries : List Entry) (last : List ℕ) → IsUtf8 text
+    → Printed (chars text) entries last
+    → (list : List (Lit A)) × AreRead (chars text) file list × AreItems file 0 entries list
+printed_list {A} text file entries last utf8 printed =
     let (lits, are, fronts) = item_lits A file 0 entries last printed.items
     (ap scalars (sym printed.text) ∙ scalars-chars text utf8) in
     let read : AreRead (chars text) file lits = record {
@@ -100,4 +99,13 @@ printed_read {A} text file r utf8 exactly entries last printed =
       lexes = printed_literals_lex_to_their_trees (chars text) entries last file printed;
       leads = items_lead file 0 entries lits fronts (items_read_at file 0 entries lits are);
     } in
+    (lits, read, are)
+
+-- The result of `read_all` for a printed list of literals is the literals of its items, or an allocation failure.
+pub printed_read : {A B : Type 0} (text : List ℕ) (file : ℕ) (r : Result (Vec (Lit A) B) (Error A)) → IsUtf8 text
+    → ((list : List (Lit A)) → AreRead (chars text) file list → HoldsOrMemory (λ found. found ≡ list) r)
+    → (entries : List Entry) (last : List ℕ) → Printed (chars text) entries last
+    → HoldsOrMemory (AreItems file 0 entries) r
+printed_read text file r utf8 exactly entries last printed =
+    let (lits, read, are) = printed_list text file entries last utf8 printed in
     holds_exactly (AreItems file 0 entries) lits r are (exactly lits read)

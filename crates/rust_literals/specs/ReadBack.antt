@@ -4,7 +4,8 @@ use Rattle.std.specs.Str.{chars, encode_utf8_all}
 use Rattle.rl_syntax.specs.declared.kind.Kind.{Kind}
 use Rattle.rl_tokens.specs.declared.error.Error.{Error}
 use Rattle.rl_tokens.specs.declared.error.ErrorKind.TheVariants.{Memory}
-use Rattle.rl_syntax.specs.Reading.{ReadsAs, Contents}
+use Rattle.rl_syntax.specs.declared.kind.Kind.TheVariants.{Str}
+use Rattle.rl_syntax.specs.Reading.{Characters, ReadsAs, Contents}
 use Rattle.rl_syntax.specs.Texts.{byte_len}
 use Rattle.rl_syntax.specs.Printed.{Item, item_text, Entry, token_at, IsItemOf}
 use Rattle.rust_literals.specs.declared.lit.Lit.{Lit}
@@ -34,3 +35,9 @@ AreItems file at (e ∷ es) [] = ⊥
 AreItems file at (e ∷ es) (l ∷ ls) =
     IsItemRead file (at + byte_len e.gap) e.item l
     × AreItems file (at + byte_len e.gap + byte_len (item_text e.item)) es ls
+
+-- The literals are strings without suffixes, with these values.
+abbrev pub AreStrings : {A : Type 0} → List (Lit A) → List (List ℕ) → Type 0
+AreStrings [] values = values ≡ []
+AreStrings (l ∷ ls) [] = ⊥
+AreStrings (l ∷ ls) (v ∷ vs) = IsLitOf Str (Characters v) [] l × AreStrings ls vs

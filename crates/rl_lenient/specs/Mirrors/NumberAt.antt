@@ -1,12 +1,12 @@
 -- Executable models of private code that parses numbers, one part after another. Only proofs use them.
-use Rattle.std.specs.Prelude.{◌≡◌, IsTrue, ℕ, ◌+◌, ◌*◌, ◌==◌, ◌||◌, ◌&&◌, not, Bool, true, false, List, [], ◌∷◌, Option, Some, None, nat_lt, nat_le, if◌then◌else◌}
+use Rattle.std.specs.Prelude.{◌≡◌, IsTrue, ℕ, ◌+◌, ◌*◌, ◌==◌, ◌||◌, ◌&&◌, not, Bool, true, false, List, [], ◌∷◌, Option, Some, None, nat_lt, if◌then◌else◌}
 use Rattle.std.specs.Char.{digit_value, is_ascii_digit}
 use Rattle.std.specs.List.{list_any}
 use Prim.Native.Char.{code}
 use Rattle.rl_syntax.specs.Classes.{after_run}
 use Rattle.rl_syntax.specs.Texts.{first_passes, is_underscore, xid_ok, is_run_part}
 use Rattle.rl_syntax.specs.Spelling.{place_value, without_underscores}
-use Rattle.rl_syntax.specs.Numbers.{Sign, NoSign, Minus, limit, is_exponent_letter}
+use Rattle.rl_syntax.specs.Numbers.{Sign, NoSign, Minus, capped, is_exponent_letter}
 
 -- The leading characters of a text that pass the test.
 unfoldable pub run : (ℕ → Bool) → List ℕ → List ℕ
@@ -15,10 +15,6 @@ run test (c ∷ cs) = if test c then (c ∷ run test cs) else []
 
 abbrev pub has_value : ℕ → ℕ → Bool
 has_value radix c = nat_lt (digit_value c) radix
-
--- Returns the number, or `None` if the number is above 128 bits.
-abbrev pub capped : ℕ → Option ℕ
-capped n = if nat_le n limit then Some n else None
 
 abbrev pub append_digit : ℕ → Option ℕ → ℕ → Option ℕ
 append_digit radix None d = None

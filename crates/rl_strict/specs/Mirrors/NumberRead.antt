@@ -5,8 +5,8 @@ use Rattle.std.specs.Char.{is_ascii_digit}
 use Rattle.std.specs.Str.{chars}
 use Prim.Native.Char.{code}
 use Rattle.rl_syntax.specs.Texts.{first_passes}
-use Rattle.rl_syntax.specs.Numbers.{is_exponent_letter}
-use Rattle.rl_lenient.specs.Mirrors.NumberAt.{after_digits, after_power_sign, capped, has_digit_at, magnitude_at, radix_at}
+use Rattle.rl_syntax.specs.Numbers.{is_exponent_letter, capped}
+use Rattle.rl_lenient.specs.Mirrors.NumberAt.{after_digits, after_power_sign, has_digit_at, magnitude_at, radix_at}
 use Rattle.rl_lenient.specs.Mirrors.PlainAt.{is_some_text}
 use Rattle.rl_strict.specs.declared.flaws.FlawKind.{FlawKind}
 use Rattle.rl_strict.specs.declared.flaws.FlawKind.TheVariants.{BadSuffix, BasedFloat, InvalidDigit, NoDigits, NoExponentDigit, NoFractionDigit}

@@ -1,17 +1,12 @@
 -- An executable model of the code, for proofs only: parses the text after the closing delimiter of a quoted literal. The
 -- result is `None` for a suffix, which may be empty, and a flaw for any other text.
-use Rattle.std.specs.Prelude.{ℕ, ◌==◌, ◌||◌, Bool, false, List, [], ◌∷◌, Option, Some, None, if◌then◌else◌}
-use Rattle.std.specs.Char.{is_ascii_alphanumeric}
+use Rattle.std.specs.Prelude.{ℕ, ◌==◌, Bool, false, List, [], ◌∷◌, Option, Some, None, if◌then◌else◌}
 use Prim.Native.Char.{code}
 use Rattle.rl_lenient.specs.declared.quoted_forms.QuotedForm.{QuotedForm}
 use Rattle.rl_lenient.specs.Mirrors.PlainAt.{is_some_text}
 use Rattle.rl_strict.specs.declared.flaws.FlawKind.TheVariants.{ExtraHash, UnderscoreSuffix}
 use Rattle.rl_strict.specs.Mirrors.StrictFlawAt.{begins_hash, suffix_end_flaw_at, suffix_rest}
 use Rattle.rl_strict.specs.Mirrors.UnitFlawAt.{FoundFlaw, found_flaw}
-
--- The byte is an ASCII letter, an ASCII digit or an underscore.
-abbrev pub is_suffix_byte : ℕ → Bool
-is_suffix_byte b = is_ascii_alphanumeric b || b == code "_"
 
 -- The text is `_` alone.
 abbrev pub is_lone_underscore : List ℕ → Bool

@@ -1,20 +1,19 @@
 -- An executable model of the builder of token trees, for proofs only: the token trees of a text while the text is
 -- lexed, and the groups that are open.
-use Rattle.std.specs.Prelude.{◌≡◌, ◌≢◌, ◌<◌, ℕ, ◌+◌, true, false, List, [], ◌∷◌, ◌++◌, IsTrue, Some, length, map, reverse, not, ◌&&◌, ⊤}
+use Rattle.std.specs.Prelude.{◌≡◌, ◌<◌, ℕ, ◌+◌, true, false, List, [], ◌∷◌, ◌++◌, IsTrue, Some, length, map, reverse, not, ◌&&◌, ⊤}
 use Rattle.std.specs.Str.{chars}
 use Prim.Native.Char.{code}
 use Rattle.rl_tokens.specs.declared.token.Delimiter.{Delimiter}
 use Rattle.rl_tokens.specs.declared.token.Delimiter.TheVariants.{Parenthesis, Brace, Bracket}
 use Rattle.rl_lexer.specs.declared.lex_error.LexKind.{LexKind}
-use Rattle.rl_lexer.specs.declared.lex_error.LexKind.TheVariants.{UnmatchedClose, UnclosedGroup, TooDeep, Memory}
-use Rattle.rl_lexer.specs.declared.lex_error.LexError.{LexError}
+use Rattle.rl_lexer.specs.declared.lex_error.LexKind.TheVariants.{UnmatchedClose, TooDeep, Memory}
 use Rattle.rl_tokens.specs.declared.nest.GroupBuilder.{GroupBuilder}
 use Rattle.rl_tokens.specs.declared.nest.TreeBuilder.{TreeBuilder}
 use Rattle.rl_tokens.specs.declared.token.TokenTree.{TokenTree}
 use Rattle.rl_syntax.specs.Texts.{is_among, xid_ok}
 use Rattle.rl_lexer.specs.Lexemes.{is_punct, LexemeForm, LiteralForm, IdentifierForm, DelimiterForm, MarkForm, delimiters}
 use Rattle.rl_tokens.specs.Trees.{FlatToken, Opening, Closing, tree_view, stream_view, flat, flat_trees}
-use Rattle.rl_lexer.specs.Cuts.{OpenGroup, is_opener, is_closer, closes, popped, innermost, after_form}
+use Rattle.rl_lexer.specs.Cuts.{OpenGroup, is_closer, closes, popped, after_form, OpensTooDeep}
 use Rattle.rl_tokens.specs.Lexing.{flat_form}
 
 abbrev pub opener_of : Delimiter → ℕ
@@ -84,13 +83,6 @@ RejectsCloser groups delimiter UnmatchedClose = closes groups (closer_of delimit
 RejectsCloser groups delimiter Memory = ⊤
 RejectsCloser groups delimiter _ = ⊥
 
--- The error `e` is the error for a text that ends inside a group: `UnclosedGroup` at the opening delimiter of the
--- innermost open group.
-pub record EndsInGroup (groups : List OpenGroup) (e : LexError) : Type 0 where
-  pub kind : e.kind ≡ UnclosedGroup
-  pub some_open : groups ≢ []
-  pub place : (at : ℕ) → e.at ≡ innermost groups at
-
 -- The text and the byte range of a token fit the token's form: the text of an identifier token is an identifier, a
 -- delimiter is one byte long, and the character of a punctuation token is a punctuation character.
 abbrev pub IsFitting : LexemeForm → List ℕ → ℕ → ℕ → Type 0
@@ -107,15 +99,10 @@ pub record TakesToken {A : Type 0} (old new : TreeBuilder A) (form : LexemeForm)
       ++ (flat_form form text (record { file = old.file; lo = lo; hi = hi }) ∷ [])
   pub file : new.file ≡ old.file
 
--- Two conditions on a delimiter. `ClosesWrong`: it is a closing delimiter that doesn't match the innermost open group.
--- `OpensTooDeep`: it is an opening delimiter, and 128 groups are open already.
+-- The form of a token is a closing delimiter that doesn't match the innermost open group.
 abbrev pub ClosesWrong : List OpenGroup → LexemeForm → Type 0
 ClosesWrong groups (DelimiterForm c) = IsTrue (is_closer c && not (closes groups c))
 ClosesWrong groups _ = ⊥
-
-abbrev pub OpensTooDeep : List OpenGroup → LexemeForm → Type 0
-OpensTooDeep groups (DelimiterForm c) = IsTrue (is_opener c) × (length groups ≡ 128)
-OpensTooDeep groups _ = ⊥
 
 -- The kinds of error for a token that can't be added to a builder of token trees, with their conditions.
 abbrev pub RejectsForm : List OpenGroup → LexemeForm → LexKind → Type 0

@@ -96,6 +96,10 @@ fn flaws(text: &str) -> String {
     out
 }
 
+fn pieces(text: &str, ends: LineEnds) -> String {
+    Pieces::of(text, ends).map_or(String::new(), |it| cursor!(it, next))
+}
+
 fn types(text: &str) -> String {
     let Some(found) = parse_literal(text) else {
         return lines!(guess_kind(text));
@@ -245,7 +249,7 @@ pub fn core_call(command: &str, text: &str) -> Option<String> {
         "segments" => segments(text),
         "reading" => reading(text),
         "flaws" => flaws(text),
-        "pieces" => Pieces::of(text).map_or(String::new(), |it| cursor!(it, next)),
+        "pieces" => pieces(text, LineEnds::Text) + &pieces(text, LineEnds::File),
         "types" => types(text),
         "before" => before(text),
         "written" => written(text),

@@ -123,10 +123,10 @@ fn a_text_is_read_in_pieces() {
     let here = directory("pieces");
     let path = here.join("a.rs");
     let path = path.to_str().expect("a text");
-    // Some piece ends after the first byte of a character.
-    let mut text = format!("a{}", "\u{e9}".repeat(100_000)).into_bytes();
+    // Some piece ends after the first byte of a character. A text is tested once it has 256 KB, and then at 16 MB.
+    let mut text = format!("a{}", "\u{e9}".repeat(600_000)).into_bytes();
     fs::write(path, &text).expect("the file can be written");
-    assert_eq!(read(path), "200001");
+    assert_eq!(read(path), "1200001");
     text[70_001] = b'b';
     fs::write(path, &text).expect("the file can be written");
     assert_eq!(read(path), "not UTF-8 at byte 70002");

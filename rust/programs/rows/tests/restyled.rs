@@ -20,11 +20,8 @@ const RULES: Rules = Rules {
     ..Rules::KEEP
 };
 
-/// An edit: the start and the end of its range, and the new text.
-type Told = (usize, usize, String);
-
-/// Returns the rewritten text, and the edits.
-fn made(macros: Macros, text: &str) -> Result<(String, Vec<Told>), RestyleError> {
+/// Returns the rewritten text.
+fn made(macros: Macros, text: &str) -> Result<String, RestyleError> {
     chosen(
         Choice {
             macros,
@@ -34,16 +31,14 @@ fn made(macros: Macros, text: &str) -> Result<(String, Vec<Told>), RestyleError>
     )
 }
 
-/// Returns the text with the chosen literals rewritten, and the edits.
-fn chosen(choice: Choice<'_>, text: &str) -> Result<(String, Vec<Told>), RestyleError> {
+/// Returns the text with the chosen literals rewritten.
+fn chosen(choice: Choice<'_>, text: &str) -> Result<String, RestyleError> {
     let made = rewrite_source(Global, RULES, choice, text)?;
-    let edits = made.edits.as_slice().iter();
-    let told = edits.map(|edit| (edit.lo, edit.hi, edit.text.as_str().to_owned()));
-    Ok((made.text.as_str().to_owned(), told.collect()))
+    Ok(made.text.as_str().to_owned())
 }
 
 fn styled(macros: Macros, text: &str) -> String {
-    made(macros, text).unwrap_or_else(|_| panic!("{text:?}")).0
+    made(macros, text).unwrap_or_else(|_| panic!("{text:?}"))
 }
 
 #[test]
@@ -91,16 +86,12 @@ fn texts_are_written_anew() {
         assert_eq!(styled(Macros::Skip, text), written, "{text:?}");
     }
     assert_eq!(styled(Macros::All, "m!(0xA) + 0xB"), "m!(0xa) + 0xb");
-}
-
-#[test]
-fn edits_stand_in_order() {
-    let Ok((text, edits)) = made(Macros::All, "é(0xA, 1_0, 7, m!(\"\\'\"))") else {
-        panic!("it is a source");
-    };
-    assert_eq!(text, "é(0xa, 10, 7, m!(\"'\"))");
-    let told = [(3, 6, "0xa"), (8, 11, "10"), (19, 23, "\"'\"")];
-    assert_eq!(edits, told.map(|(lo, hi, text)| (lo, hi, text.to_owned())));
+    // The new text of a literal of 64 bytes or more is written into memory that is allocated for it.
+    for n in [62, 63, 64, 65, 300] {
+        let text = format!("(r##\"{0}\"##, 0x{0}, \"\\'{0}\")", "A".repeat(n));
+        let new = format!("(r\"{0}\", 0x{1}, \"'{0}\")", "A".repeat(n), "a".repeat(n));
+        assert_eq!(styled(Macros::Skip, &text), new);
+    }
     let fields = styled(Macros::All, "m!(offset_of!(S, 1_0), 0xA); m!(0xA)");
     assert_eq!(fields, "m!(offset_of!(S, 1_0), 0xA); m!(0xa)");
 }
@@ -123,11 +114,8 @@ fn only_literals_of_the_kinds_are_rewritten() {
             macros,
             kinds: Some(kinds),
         };
-        let Ok((new, edits)) = chosen(choice, text) else {
-            panic!("it is a source");
-        };
-        assert_eq!(new, written, "{kinds:?}");
-        assert_eq!(edits.is_empty(), new == text, "{kinds:?}");
+        let new = chosen(choice, text).ok();
+        assert_eq!(new.as_deref(), Some(written), "{kinds:?}");
     }
     // `syn` accepts no integer above 128 bits.
     let large = format!("(0xA, 0x1{})", "_0".repeat(32));
@@ -135,7 +123,7 @@ fn only_literals_of_the_kinds_are_rewritten() {
         macros: Macros::Skip,
         kinds: Some(&[None]),
     };
-    let new = chosen(choice, &large).ok().map(|(new, _)| new);
+    let new = chosen(choice, &large).ok();
     assert_eq!(new, Some(format!("(0xA, 0x1{})", "0".repeat(32))));
 }
 
@@ -188,15 +176,9 @@ fn sources_are_written_as_the_package_does() {
     for text in texts {
         for (macros, skips) in [(Macros::Skip, true), (Macros::All, false)] {
             let asked = package_restyle(&text, style).skip_macros(skips);
-            let edits = asked.map(|edit| {
-                edit.map(|it| (it.range().start, it.range().end, it.text().to_owned()))
-            });
-            let expected: Vec<Told> = edits.collect::<Result<_, _>>().expect("rustc takes it");
-            let Ok((_, found)) = made(macros, &text) else {
-                panic!("rustc takes it");
-            };
-            assert_eq!(found, expected);
-            count += found.len();
+            count += asked.clone().count();
+            let expected = asked.apply().expect("rustc takes it");
+            assert_eq!(styled(macros, &text), expected);
         }
     }
     assert!(count > 100, "{count}");

@@ -123,9 +123,12 @@ impl<T: Copy, A: Allocator> Vec<T, A> {
     }
 
     /// Creates a list of `count` copies of a value, for `vec![in alloc; value; count]`.
+    ///
+    /// The block of the test for memory is freed, since `vec!` takes large blocks of zeros from the system without writing to them.
     pub fn filled(alloc: A, value: T, count: usize) -> Result<Vec<T, A>, AllocError> {
         let mut list = Vec::with_capacity(alloc, count)?;
-        list.items.resize(count, value);
+        drop(core::hint::black_box(take(&mut list.items)));
+        list.items = std::vec![value; count];
         Ok(list)
     }
 

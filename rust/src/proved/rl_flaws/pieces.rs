@@ -20,7 +20,9 @@ fn is_raw(form: QuotedForm) -> bool {
     matches!(form, QuotedForm::Raw)
 }
 
+#[derive(Clone)]
 pub struct Pieces<'t> {
+    ends: LineEnds,
     kind: Kind,
     plain: bool,
     end: usize,
@@ -32,11 +34,12 @@ pub struct Pieces<'t> {
 
 impl<'t> Pieces<'t> {
     #[inline]
-    pub fn of(text: &'t str) -> Option<Pieces<'t>> {
+    pub fn of(text: &'t str, ends: LineEnds) -> Option<Pieces<'t>> {
         match split_opening_delimiter(text) {
             Some((opened, inside)) => {
-                let judged = next_flaw_inside(LineEnds::Text, text.len(), opened, inside);
+                let judged = next_flaw_inside(ends, text.len(), opened, inside);
                 Some(Pieces {
+                    ends,
                     kind: opened.kind,
                     plain: is_raw(opened.form),
                     end: judged.end,
@@ -62,7 +65,7 @@ impl<'t> Pieces<'t> {
         let Some(bad) = self.bad else {
             return None;
         };
-        let judged = next_flaw(LineEnds::Text, self.len, self.left);
+        let judged = next_flaw(self.ends, self.len, self.left);
         self.end = judged.end;
         self.good = judged.good;
         self.bad = judged.bad;

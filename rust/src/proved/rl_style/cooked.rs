@@ -133,10 +133,18 @@ fn put_plain(out: &mut [u8], at: usize, kind: Kind, style: Style, unit: &str, by
 }
 
 #[inline]
+fn put_unescaped(out: &mut [u8], at: usize, kind: Kind, style: Style, unit: &str, byte: u8) -> usize {
+    if !style.hidden {
+        return put_text(out, at, unit);
+    }
+    put_plain(out, at, kind, style, unit, byte)
+}
+
+#[inline]
 fn put_unit(out: &mut [u8], at: usize, kind: Kind, style: Style, unit: &str, byte: u8) -> usize {
     match strip_byte(unit, b'\\') {
         Some(escape) => put_escape(out, at, kind, style, unit, escape, byte),
-        None => put_plain(out, at, kind, style, unit, byte),
+        None => put_unescaped(out, at, kind, style, unit, byte),
     }
 }
 

@@ -74,6 +74,14 @@ fn put_raw_inside(out: &mut [u8], at: usize, style: Style, inside: &str) -> usiz
 }
 
 #[inline]
+fn put_inside(out: &mut [u8], at: usize, style: Style, inside: &str) -> usize {
+    if !style.hidden {
+        return put_text(out, at, inside);
+    }
+    put_raw_inside(out, at, style, inside)
+}
+
+#[inline]
 fn write_unraw(
     text: &str,
     kind: Kind,
@@ -83,7 +91,7 @@ fn write_unraw(
     out: &mut [u8],
 ) -> usize {
     let at = put_text(out, 0, kind.opener());
-    let at = put_raw_inside(out, at, style, inside);
+    let at = put_inside(out, at, style, inside);
     let at = put_byte(out, at, b'"');
     put_text(out, at, suffix)
 }

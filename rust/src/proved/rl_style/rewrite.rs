@@ -52,8 +52,20 @@ fn rewrite_number(text: &str, style: Style, out: &mut [u8]) -> Result<usize, Fla
     }
 }
 
+#[cfg(feature = "__rendered")]
 #[inline]
-pub fn rewrite_into(front: &str, text: &str, style: Style, out: &mut [u8]) -> Result<usize, Flaw> {
+pub fn growth(style: Style, text: &str) -> usize {
+    if begins_digit(text) {
+        2
+    } else if style.hidden {
+        4
+    } else {
+        1
+    }
+}
+
+#[inline]
+pub fn rewrite_within(front: &str, text: &str, style: Style, out: &mut [u8]) -> Result<usize, Flaw> {
     if begins_digit(text) {
         return rewrite_number(text, style, out);
     }
@@ -62,4 +74,9 @@ pub fn rewrite_into(front: &str, text: &str, style: Style, out: &mut [u8]) -> Re
         Some((form, kind, _)) => Ok(write_quoted(front, text, form, kind, reading, style, out)),
         None => Ok(put_text(out, 0, text)),
     }
+}
+
+#[inline]
+pub fn rewrite_into(front: &str, text: &str, style: Style, out: &mut [u8]) -> Result<usize, Flaw> {
+    rewrite_within(front, text, style, out)
 }

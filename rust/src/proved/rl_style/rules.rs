@@ -1,7 +1,7 @@
 // Rendered from crates/rl_style/src/rules.rt by tools/render, which erases contracts: change that file, and render again.
 //! The rules of a style, each by its name.
 
-use crate::rl_style::rewrite::rewrite_into;
+use crate::rl_style::rewrite::rewrite_within;
 use crate::rl_style::style::Style;
 use crate::rl_strict::Flaw;
 
@@ -151,7 +151,7 @@ pub fn is_changed_by_style(
     style: Style,
     out: &mut [u8],
 ) -> Result<bool, Flaw> {
-    let len = rewrite_into(front, text, style, out)?;
+    let len = rewrite_within(front, text, style, out)?;
     let is_same = &out[..len] == text.as_bytes();
     Ok(!is_same)
 }

@@ -43,13 +43,14 @@ returns-in-Err c =
           (not (is_flaw_after_quote c.in-Err.found.kind)) _ c.requires room refl c.left_after.ensures;
       same = stays_open c.args.ends _ _ _ (is_string c.args.opened.kind && is_flaw_of_unit c.in-Err.found.kind)
           (is_single c.args.opened.kind && not (is_flaw_after_quote c.in-Err.found.kind)) _ c.left_after.ensures;
-      good = λ e. good_left c.args.opened c.args.rest _ _ _ _ c.requires.0 c.requires.1 c.before-good.utf8 closing
-          c.before-good.ensures.cut c.before-good.ensures.chars (c.parse_quoted_content-stretch.ensures.good e) refl;
+      good = good_left c.args.ends c.args.opened c.args.rest _ _ _ _ c.requires.0 c.requires.1 c.before-good.utf8 closing
+          c.before-good.ensures.cut c.before-good.ensures.chars c.parse_quoted_content-stretch.ensures.good
+          c.parse_quoted_content-stretch.ensures.rest refl;
     }
 
 pub returns-in-Ok-clause-good : goal.returns-in-Ok-clause-good
 returns-in-Ok-clause-good c =
     let closing : IsUtf8 c.parse_quoted_content-stretch.result.closing.now = search rules in
-    λ e. good_left c.args.opened c.args.rest _ _ _ _ c.requires.0 c.requires.1 c.before-good.utf8 closing
-    c.before-good.ensures.cut
-    c.before-good.ensures.chars (c.parse_quoted_content-stretch.ensures.good e) refl
+    good_left c.args.ends c.args.opened c.args.rest _ _ _ _ c.requires.0 c.requires.1 c.before-good.utf8 closing
+    c.before-good.ensures.cut c.before-good.ensures.chars c.parse_quoted_content-stretch.ensures.good
+    c.parse_quoted_content-stretch.ensures.rest refl

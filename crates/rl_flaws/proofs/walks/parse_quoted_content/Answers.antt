@@ -1,5 +1,7 @@
 use Rattle.rl_flaws.proofs.Names.{◌++◌, ◌∙◌, ap, refl, rules, subst, sym, IsUtf8, chars, IfErr-weaker, IfOk-weaker, tail_chars, CookedForm, RawForm, SingleForm, read_of, IsInsideUpTo, HasForm, front_of, close_token}
-use Rattle.rl_flaws.proofs.WalkLemmas.{cooked_up_to, flaw_after, piece_some, raw_cut, raw_in_text, unit_up_to}
+use Rattle.rl_flaws.proofs.RawLemmas.{raw_up_to}
+use Rattle.rl_flaws.proofs.WalkLemmas.{flaw_after, piece_some, raw_cut, unit_up_to}
+use Rattle.rl_strict.proofs.StrictCookedFlaws.{no_unit}
 use Rattle.rl_flaws.proofs.walks.parse_quoted_content.Goals as goal
 
 pub returns-in-Cooked : goal.returns-in-Cooked
@@ -10,9 +12,9 @@ returns-in-Cooked c =
     let walk = c.parse_cooked_content.ensures in
     let closing : IsUtf8 c.parse_cooked_content.result.closing.now = search rules in
     record {
-      good = λ e. subst (λ f. IsInsideUpTo f c.args.opened.kind (chars c.args.opened.hashes.now) (chars c.args.text.now)
-          (chars c.parse_cooked_content.result.closing.now)) (sym c.in-Cooked.is) (cooked_up_to c.args.ends _ (chars c.args.opened.hashes.now)
-          _ _ walk.run walk.stuck e);
+      good = subst (λ f. IsInsideUpTo f c.args.opened.kind (chars c.args.opened.hashes.now) (read_of c.args.ends (chars c.args.text.now))
+          (read_of c.args.ends (chars c.parse_cooked_content.result.closing.now))) (sym c.in-Cooked.is)
+          (walk.run, no_unit _ _ walk.stuck);
       rest = walk.rest;
       following = tail_chars _ _ _ c.utf8.text closing walk.rest.text_is;
       some = IfErr-weaker c.parse_cooked_content.result.end _ _ (piece_some CookedForm _) walk.at;
@@ -31,8 +33,9 @@ returns-in-Single c =
     let walk = c.walk_unit.ensures in
     let closing : IsUtf8 c.walk_unit.result.closing.now = search rules in
     record {
-      good = λ e. subst (λ f. IsInsideUpTo f c.args.opened.kind (chars c.args.opened.hashes.now) (chars c.args.text.now)
-          (chars c.walk_unit.result.closing.now)) (sym c.in-Single.is) (unit_up_to _ _ _ o walk.good);
+      good = subst (λ f. IsInsideUpTo f c.args.opened.kind (chars c.args.opened.hashes.now) (read_of c.args.ends (chars c.args.text.now))
+          (read_of c.args.ends (chars c.walk_unit.result.closing.now))) (sym c.in-Single.is)
+          (unit_up_to c.args.ends _ _ _ o walk.good);
       rest = walk.rest;
       following = tail_chars _ _ _ c.utf8.text closing walk.rest.text_is;
       some = IfErr-weaker c.walk_unit.result.end _ _ (piece_some SingleForm _) walk.at;
@@ -51,9 +54,9 @@ returns-in-Raw c =
     let walk = c.parse_raw_content.ensures in
     let closing : IsUtf8 c.parse_raw_content.result.closing.now = search rules in
     record {
-      good = λ e. subst (λ f. IsInsideUpTo f c.args.opened.kind (chars c.args.opened.hashes.now) (chars c.args.text.now)
-          (chars c.parse_raw_content.result.closing.now)) (sym c.in-Raw.is) (raw_in_text c.args.ends _ (chars c.args.opened.hashes.now)
-          _ _ o.0 walk.stop e);
+      good = subst (λ f. IsInsideUpTo f c.args.opened.kind (chars c.args.opened.hashes.now) (read_of c.args.ends (chars c.args.text.now))
+          (read_of c.args.ends (chars c.parse_raw_content.result.closing.now))) (sym c.in-Raw.is)
+          (raw_up_to _ (chars c.args.opened.hashes.now) _ _ o.0 walk.stop);
       rest = walk.rest;
       following = tail_chars _ _ _ c.utf8.text closing walk.rest.text_is;
       some = IfErr-weaker c.parse_raw_content.result.end _ _ (piece_some RawForm _) walk.at;

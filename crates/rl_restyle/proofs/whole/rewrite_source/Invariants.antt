@@ -1,5 +1,4 @@
-use Rattle.rl_syntax.proofs.Common.{chars, length, map, string_bytes}
-use Rattle.rl_restyle.specs.Edits.{edit_in}
+use Rattle.rl_syntax.proofs.Common.{chars, length, string_bytes}
 use Rattle.rl_restyle.specs.Mirrors.{IsDraft}
 use Rattle.rl_restyle.proofs.whole.rewrite_source.Given as goal
 
@@ -7,7 +6,7 @@ use Rattle.rl_restyle.proofs.whole.rewrite_source.Given as goal
 -- returned so far.
 abbrev pub invariant-loop-literal : goal.invariant-loop-literal
 invariant-loop-literal g l = IsDraft l.style l.choice (chars l.text) l.literals l.draft.at
-    (chars (string_bytes l.draft.text)) (map edit_in l.draft.edits.items) l.draft.is_clean
+    (chars (string_bytes l.draft.text)) l.draft.is_clean
 
 abbrev pub decreases-loop-literal : goal.decreases-loop-literal
 decreases-loop-literal g l = length l.literals.tokens.rest

@@ -1,17 +1,17 @@
 use Rattle.rl_syntax.proofs.Common.{◌∙◌, length, ap, arith, encode_utf8}
-use Rattle.rl_style.proofs.WrittenQuoted.{closer_length, cooked_length, cooked_written, joined}
+use Rattle.rl_style.proofs.WrittenQuoted.{closer_length, cooked_room, cooked_written, joined}
 use Rattle.rl_style.proofs.cooked.write_cooked.Goals as goal
 
 pub put_text-at-requires : goal.put_text-at-requires
 put_text-at-requires c =
-    let whole = cooked_length c.args.kind c.args.text.now c.args.inside.now c.args.suffix.now c.utf8.text c.utf8.inside
+    let whole = cooked_room c.args.style c.args.kind c.args.text.now c.args.inside.now c.args.suffix.now c.utf8.text c.utf8.inside
     c.utf8.suffix c.requires.parts in
     let opener = ap length c.opener.ensures in
     omega (arith, whole, opener, c.requires.room)
 
 pub put_units-at-requires : goal.put_units-at-requires
 put_units-at-requires c =
-    let whole = cooked_length c.args.kind c.args.text.now c.args.inside.now c.args.suffix.now c.utf8.text c.utf8.inside
+    let whole = cooked_room c.args.style c.args.kind c.args.text.now c.args.inside.now c.args.suffix.now c.utf8.text c.utf8.inside
     c.utf8.suffix c.requires.parts in
     let opener = ap length c.opener.ensures in
     let at = c.put_text-at.ensures in
@@ -19,7 +19,7 @@ put_units-at-requires c =
 
 pub put_char-at-requires : goal.put_char-at-requires
 put_char-at-requires c =
-    let whole = cooked_length c.args.kind c.args.text.now c.args.inside.now c.args.suffix.now c.utf8.text c.utf8.inside
+    let whole = cooked_room c.args.style c.args.kind c.args.text.now c.args.inside.now c.args.suffix.now c.utf8.text c.utf8.inside
     c.utf8.suffix c.requires.parts in
     let opener = ap length c.opener.ensures in
     let one = ap (λ z. length (encode_utf8 z)) c.quote.ensures.value ∙ closer_length c.args.kind in
@@ -29,7 +29,7 @@ put_char-at-requires c =
 
 pub put_text-requires : goal.put_text-requires
 put_text-requires c =
-    let whole = cooked_length c.args.kind c.args.text.now c.args.inside.now c.args.suffix.now c.utf8.text c.utf8.inside
+    let whole = cooked_room c.args.style c.args.kind c.args.text.now c.args.inside.now c.args.suffix.now c.utf8.text c.utf8.inside
     c.utf8.suffix c.requires.parts in
     let opener = ap length c.opener.ensures in
     let one = ap (λ z. length (encode_utf8 z)) c.quote.ensures.value ∙ closer_length c.args.kind in
@@ -65,7 +65,7 @@ returns-clause-utf8 c = (cooked_written c.args.style c.args.kind c.args.text.now
 
 pub returns-clause-within : goal.returns-clause-within
 returns-clause-within c =
-    let whole = cooked_length c.args.kind c.args.text.now c.args.inside.now c.args.suffix.now c.utf8.text c.utf8.inside
+    let whole = cooked_room c.args.style c.args.kind c.args.text.now c.args.inside.now c.args.suffix.now c.utf8.text c.utf8.inside
     c.utf8.suffix c.requires.parts in
     let opener = ap length c.opener.ensures in
     let one = ap (λ z. length (encode_utf8 z)) c.quote.ensures.value ∙ closer_length c.args.kind in

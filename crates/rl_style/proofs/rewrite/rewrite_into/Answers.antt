@@ -1,14 +1,10 @@
-use Rattle.rl_syntax.proofs.Common.{◌∙◌, ap, inr, sym}
-use Rattle.std.specs.Str.{chars}
 use Rattle.std.proofs.lemmas.Result.{IfOk-weaker}
-use Rattle.rl_style.proofs.QuotedParts.{word_kept}
+use Rattle.rl_style.proofs.Room.{room_most, within}
 use Rattle.rl_style.proofs.rewrite.rewrite_into.Goals as goal
 
-pub returns-in-None-clause-written : goal.returns-in-None-clause-written
-returns-in-None-clause-written c = inr (inr (inr (inr (word_kept (chars c.args.text.now) _ c.in_ok-reading.ensures.token
-    (sym c.begins_digit.ensures ∙ c.if-begins_digit.false) (sym c.in-None.ensures)
-    (ap chars c.put_text.ensures.bytes)))))
+pub rewrite_within-requires : goal.rewrite_within-requires
+rewrite_within-requires c = within _ _ _ (room_most c.args.style c.args.text.now) c.requires
 
-pub returns-then-begins_digit-clause-written : goal.returns-then-begins_digit-clause-written
-returns-then-begins_digit-clause-written c = IfOk-weaker c.rewrite_number.result _ _
-    (λ n written. written (chars c.args.front.now)) c.rewrite_number.ensures.written
+pub returns-clause-within : goal.returns-clause-within
+returns-clause-within c = IfOk-weaker c.rewrite_within.result _ _
+    (λ n less. within _ _ _ less (room_most c.args.style c.args.text.now)) c.rewrite_within.ensures.within

@@ -2,7 +2,8 @@
 -- is at the current position.
 use Rattle.rl_syntax.proofs.Common.{◌≡◌, [], ◌∙◌, IfErr-weaker}
 use Rattle.std.proofs.lemmas.Result.{err_from_is_err_and}
-use Rattle.rl_tokens.specs.Mirrors.TreeBuilders.{groups_of, EndsInGroup}
+use Rattle.rl_tokens.specs.Mirrors.TreeBuilders.{groups_of}
+use Rattle.rl_lexer.specs.Cuts.{EndsInGroup}
 use Rattle.rl_tokens.proofs.LexLoop.{token_fits, has_none, has_more}
 use Rattle.rl_tokens.proofs.LexEnds.{all_done, ends_open, rejected_token, error_told, told_end}
 use Rattle.rl_tokens.proofs.lexer.trees_of.Goals as goal

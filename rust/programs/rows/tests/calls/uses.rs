@@ -39,9 +39,9 @@ use navyspindle_rows::rl_uses::examples::tokens::{
     list_of_one_name, literal_and_error_offsets, second_token, text_at,
 };
 use navyspindle_rows::rl_uses::{
-    backslash_in_path, bad_literals, count_literals, evaluate, format as formatted, read_attribute,
-    read_config, read_mount, read_number, strings_with_control_characters, write_raw,
-    write_upper_hex, Attribute, Item, ItemList,
+    backslash_in_path, bad_literals, capital_integers, count_literals, format as formatted,
+    read_attribute, read_config, read_mount, read_number, strings_with_control_characters,
+    Attribute, Item, ItemList, LintError,
 };
 use std::fmt::Debug;
 
@@ -124,6 +124,21 @@ fn lint() {
     });
 }
 
+/// Shows the byte ranges of the integers of a source that have a capital letter.
+#[test]
+fn capitals() {
+    check(TABLE, "capitals", |text| {
+        match capital_integers(Global, text) {
+            Ok(places) => places
+                .iter()
+                .map(|it| format!("{}..{};", it.lo, it.hi))
+                .collect(),
+            Err(LintError::Source(error)) => format!("{} at {}", error.kind, error.at),
+            Err(LintError::Memory) => "out of memory".to_owned(),
+        }
+    });
+}
+
 /// Shows the number of bad literals, and each one's error after its span.
 #[test]
 fn reasons() {
@@ -198,35 +213,6 @@ fn values() {
         let found = parse_literal(text).map(|found| (found.signed(text), found.has_suffix(text)));
         let (signed, value) = (literal.signed(), literal.value_if_unsuffixed());
         format!("{signed:?} {} {value:?}\n{found:?}", literal.has_suffix())
-    });
-}
-
-#[test]
-fn sums() {
-    check(TABLE, "sums", |text| format!("{:?}", evaluate(text)));
-}
-
-/// Shows a string literal rewritten as a raw string literal.
-#[test]
-fn raw() {
-    check(TABLE, "raw", |text| {
-        let (mut room, mut out) = ([0; 64], [0; 64]);
-        match write_raw(text, &mut room, &mut out) {
-            Some(len) => String::from_utf8(out[..len].to_vec()).unwrap(),
-            None => "none".to_owned(),
-        }
-    });
-}
-
-/// Shows a literal rewritten with hexadecimal digits in upper case.
-#[test]
-fn upper() {
-    check(TABLE, "upper", |text| {
-        let mut out = [0; 64];
-        match write_upper_hex(text, &mut out) {
-            Some(len) => String::from_utf8(out[..len].to_vec()).unwrap(),
-            None => "none".to_owned(),
-        }
     });
 }
 

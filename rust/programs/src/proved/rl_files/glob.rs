@@ -134,7 +134,7 @@ fn is_path_match(first: Stop<Option<&[u8]>, Option<&[u8]>>) -> bool {
     matches!(stop, Stop::Decided(true))
 }
 
-fn ends_in_slash(path: &[u8]) -> bool {
+pub fn ends_in_slash(path: &[u8]) -> bool {
     path.ends_with(b"/".as_slice())
 }
 

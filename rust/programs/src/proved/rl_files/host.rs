@@ -14,11 +14,11 @@ use crate::rattle_std::{fs, io};
 
 pub const LONGEST: u64 = 1 << 30;
 
-const PIECE: usize = 8192;
+pub(crate) const PIECE: usize = 4096;
 
-const TURNS: u32 = u32::MAX;
+pub(crate) const TURNS: u32 = u32::MAX;
 
-const FIRST_TEST: usize = 64 * 1024;
+const FIRST_TEST: usize = 256 * 1024;
 
 #[derive(Clone, Copy)]
 pub struct Host<'r, R> {
@@ -61,15 +61,18 @@ fn next_test(due: usize, len: usize) -> usize {
     if len < due {
         return due;
     }
-    len.saturating_add(len)
+    len.saturating_mul(64)
 }
 
 pub(crate) fn read_all<A: Allocator, R: Read + Drop>(
     alloc: A,
     mut reader: R,
     is_text: bool,
+    room: usize,
 ) -> Result<Vec<u8, A>, PathError> {
-    let mut bytes = Vec::new(alloc);
+    let Ok(mut bytes) = Vec::with_capacity(alloc, room) else {
+        return Err(PathError::OutOfMemory);
+    };
     let mut piece = [0_u8; PIECE];
     let mut due = FIRST_TEST;
     for _ in 0..TURNS {
@@ -101,10 +104,12 @@ pub(crate) fn read_file<A: Allocator, R: Files>(
         Ok(file) => file,
         Err(e) => return Err(error_of(e.kind())),
     };
-    match file.metadata() {
-        Ok(about) if about.len() > LONGEST => Err(PathError::TooLong),
-        _ => read_all(alloc, file, is_text),
-    }
+    let room = match file.metadata() {
+        Ok(about) if about.len() > LONGEST => return Err(PathError::TooLong),
+        Ok(about) => (about.len() as usize).min(FIRST_TEST),
+        Err(_) => 0,
+    };
+    read_all(alloc, file, is_text, room)
 }
 
 fn read_path<A: Allocator, R: Files + Input>(
@@ -114,7 +119,7 @@ fn read_path<A: Allocator, R: Files + Input>(
     is_text: bool,
 ) -> Result<Vec<u8, A>, PathError> {
     if path == "-" {
-        return read_all(alloc, rt.reader(), is_text);
+        return read_all(alloc, rt.reader(), is_text, 0);
     }
     read_file(rt, alloc, path, is_text)
 }

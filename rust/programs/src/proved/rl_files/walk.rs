@@ -2,7 +2,7 @@
 //! Walks through directories: determines the files to read, and their order.
 
 use crate::rattle_std::prelude::{String, Vec};
-use crate::rl_files::glob::is_excluded;
+use crate::rl_files::glob::{ends_in_slash, is_excluded};
 use crate::rl_files::path_texts::{escaped, escaped_non_utf8_path};
 use crate::rl_files::tree::{PathError, Tree};
 use crate::rattle_std::alloc::{AllocError, Allocator, Global};
@@ -45,10 +45,6 @@ impl fmt::Display for WalkError {
 
 pub struct Walk<A: Allocator = Global> {
     pending: Vec<WalkEntry<A>, A>,
-}
-
-fn is_directory(name: &[u8]) -> bool {
-    name.ends_with(b"/".as_slice())
 }
 
 fn has_extension(extension: &str, name: &[u8]) -> bool {
@@ -107,7 +103,7 @@ fn may_be_directory(name: &[u8]) -> bool {
 
 fn is_wanted(selection: Selection<'_>, in_package: bool, name: &[u8]) -> bool {
     (selection.all || !is_left_out(in_package, name))
-        && (is_directory(name) || has_one_of(selection.extensions, name) || may_be_directory(name))
+        && (ends_in_slash(name) || has_one_of(selection.extensions, name) || may_be_directory(name))
 }
 
 pub(crate) fn path_in<A: Allocator>(
@@ -117,7 +113,7 @@ pub(crate) fn path_in<A: Allocator>(
 ) -> Result<Vec<u8, A>, AllocError> {
     let mut path = Vec::new(alloc);
     path.extend_from_slice(directory.as_bytes())?;
-    if !is_directory(directory.as_bytes()) {
+    if !ends_in_slash(directory.as_bytes()) {
         path.extend_from_slice(b"/".as_slice())?;
     }
     path.extend_from_slice(name)?;
@@ -131,7 +127,7 @@ fn is_given(from: Option<usize>) -> bool {
 fn argument_len(from: Option<usize>, path: &str) -> usize {
     match from {
         Some(from) => from,
-        None if is_directory(path.as_bytes()) => path.len(),
+        None if ends_in_slash(path.as_bytes()) => path.len(),
         None => path.len() + 1,
     }
 }
@@ -154,7 +150,7 @@ fn pending_of<A: Allocator>(alloc: A, from: usize, path: &[u8]) -> Result<WalkEn
             return Ok(WalkEntry::BadPath(escaped(alloc, path)?, PathError::PathNotUtf8));
         }
     };
-    if is_directory(path) {
+    if ends_in_slash(path) {
         return Ok(WalkEntry::Directory(Some(from), text));
     }
     Ok(WalkEntry::File(text))

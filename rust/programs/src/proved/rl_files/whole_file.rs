@@ -3,11 +3,11 @@
 //! old or its new bytes.
 
 use crate::rattle_std::prelude::{Alloc, String, format};
-use crate::rl_files::host::{error_of, read_file};
+use crate::rl_files::host::{PIECE, TURNS, error_of, read_file};
 use crate::rl_files::tree::PathError;
 use crate::rattle_std::alloc::{AllocError, Allocator};
-use crate::rattle_std::fs::{Metadata, OpenFile, OpenOptions, Permissions};
-use crate::rattle_std::io::{ErrorKind, Write};
+use crate::rattle_std::fs::{File, Metadata, OpenFile, OpenOptions, Permissions};
+use crate::rattle_std::io::{ErrorKind, Read, Write};
 use crate::rattle_std::os::unix::fs::{MetadataExt, OpenOptionsExt, PermissionsExt, chown};
 use crate::rattle_std::rt::Files;
 use crate::rattle_std::{fs, io};
@@ -144,22 +144,30 @@ fn check_writable<R: Files>(rt: &R, path: &str) -> Result<(), PathError> {
     }
 }
 
-fn check_unchanged<A: Allocator, R: Files>(
-    rt: &R,
-    alloc: A,
-    path: &str,
-    old: &[u8],
-) -> Result<(), PathError> {
-    if read_file(rt, alloc, path, false)?.as_slice() == old {
-        Ok(())
-    } else {
-        Err(PathError::Changed)
+fn check_unchanged<R: Files>(rt: &R, path: &str, old: &[u8]) -> Result<(), PathError> {
+    let mut file = match File::open(rt, path) {
+        Ok(file) => file,
+        Err(e) => return Err(error_of(e.kind())),
+    };
+    let mut piece = [0_u8; PIECE];
+    let mut rest = old;
+    for _ in 0..TURNS {
+        match file.read(&mut piece) {
+            Ok(0) if rest.is_empty() => return Ok(()),
+            Ok(0) => return Err(PathError::Changed),
+            Ok(count) => match rest.strip_prefix(&piece[..count]) {
+                Some(after) => rest = after,
+                None => return Err(PathError::Changed),
+            },
+            Err(e) if e.kind() == ErrorKind::Interrupted => {}
+            Err(e) => return Err(error_of(e.kind())),
+        }
     }
+    Err(PathError::ReadFailed)
 }
 
-fn fill_and_rename<A: Allocator, R: Files>(
+fn fill_and_rename<R: Files>(
     rt: &R,
-    alloc: A,
     file: &mut R::File,
     beside: &str,
     path: &str,
@@ -171,7 +179,7 @@ fn fill_and_rename<A: Allocator, R: Files>(
         return Err(write_error_of(e.kind()));
     }
     let before = stamp_of(rt, path)?;
-    check_unchanged(rt, alloc, path, old)?;
+    check_unchanged(rt, path, old)?;
     check_stamp(before, stamp_of(rt, path)?)?;
     match fs::rename(rt, beside, path) {
         Ok(()) => Ok(()),
@@ -271,7 +279,6 @@ pub(crate) fn replace_file<A: Allocator + Copy, R: Files + Alloc>(
     let done = match keep_owner(rt, beside.as_str(), owner_of(&about)) {
         Ok(()) => fill_and_rename(
             rt,
-            alloc,
             &mut file,
             beside.as_str(),
             real.as_str(),

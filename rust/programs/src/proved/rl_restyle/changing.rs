@@ -1,10 +1,10 @@
 // Rendered from crates/rl_restyle/src/changing.rt by tools/render, which erases contracts: change that file, and render again.
 //! Finds the rules of a style that change a literal.
 
-use crate::rattle_std::prelude::{Vec};
+use crate::rattle_std::prelude::{Vec, vec};
 use crate::rl_restyle::rule::{Rule, settable_rules};
-use crate::rl_restyle::texts::new_text;
-use crate::rl_style::{DigitGroups, Rule as StyleRule, Style};
+use crate::rl_restyle::texts::{SHORT, buffer_len};
+use crate::rl_style::{DigitGroups, Rule as StyleRule, Style, is_changed_by_style};
 use crate::rattle_std::alloc::{AllocError, Allocator};
 
 fn style_rule(rule: Rule) -> StyleRule {
@@ -101,23 +101,45 @@ fn is_set(style: Style, rule: Rule) -> bool {
     }
 }
 
-fn push_if_changing<A: Allocator + Copy>(
-    alloc: A,
+fn is_changed_alone(style: Style, rule: Rule, front: &str, text: &str, out: &mut [u8]) -> bool {
+    match is_changed_by_style(front, text, rule_alone(style, rule), out) {
+        Ok(is_changed) => is_changed,
+        Err(_) => false,
+    }
+}
+
+fn push_if_changing<A: Allocator>(
     rules: &mut Vec<Rule, A>,
     style: Style,
     rule: Rule,
     front: &str,
     text: &str,
+    out: &mut [u8],
 ) -> Result<(), AllocError> {
     if !is_set(style, rule) {
         return Ok(());
     }
-    let made = new_text(alloc, rule_alone(style, rule), front, text)?;
-    if made.is_none() {
+    if !is_changed_alone(style, rule, front, text, out) {
         return Ok(());
     }
     rules.push(rule)?;
     Ok(())
+}
+
+fn changing_rules_in<A: Allocator>(
+    alloc: A,
+    style: Style,
+    front: &str,
+    text: &str,
+    out: &mut [u8],
+) -> Result<Vec<Rule, A>, AllocError> {
+    let mut rules = Vec::new(alloc);
+    let mut rest = settable_rules();
+    while let Some((rule, after)) = rest.split_first() {
+        push_if_changing(&mut rules, style, *rule, front, text, out)?;
+        rest = after;
+    }
+    Ok(rules)
 }
 
 pub fn changing_rules<A: Allocator + Copy>(
@@ -126,11 +148,10 @@ pub fn changing_rules<A: Allocator + Copy>(
     front: &str,
     text: &str,
 ) -> Result<Vec<Rule, A>, AllocError> {
-    let mut rules = Vec::new(alloc);
-    let mut rest = settable_rules();
-    while let Some((rule, after)) = rest.split_first() {
-        push_if_changing(alloc, &mut rules, style, *rule, front, text)?;
-        rest = after;
+    let room = buffer_len(style, text)?;
+    if room <= SHORT {
+        return changing_rules_in(alloc, style, front, text, &mut [0; SHORT]);
     }
-    Ok(rules)
+    let mut bytes = vec![in alloc; 0; room]?;
+    changing_rules_in(alloc, style, front, text, bytes.as_mut_slice())
 }

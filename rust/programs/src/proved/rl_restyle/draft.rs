@@ -1,9 +1,9 @@
 // Rendered from crates/rl_restyle/src/draft.rt by tools/render, which erases contracts: change that file, and render again.
 //! The new text of a source while it is being written.
 
-use crate::rattle_std::prelude::{String, Vec};
+use crate::rattle_std::prelude::{String};
 use crate::rl_restyle::clean::clean_after;
-use crate::rl_restyle::edit::{Choice, Edit};
+use crate::rl_restyle::edit::Choice;
 use crate::rl_restyle::slices::between;
 use crate::rl_restyle::texts::text_of;
 use crate::rl_style::{Restylable, Style};
@@ -11,7 +11,6 @@ use crate::rattle_std::alloc::{AllocError, Allocator};
 
 pub(crate) struct Draft<A: Allocator> {
     pub(crate) text: String<A>,
-    pub(crate) edits: Vec<Edit<A>, A>,
     pub(crate) at: usize,
     pub(crate) is_clean: bool,
 }
@@ -20,18 +19,13 @@ fn put<A: Allocator>(
     draft: &mut Draft<A>,
     source: &str,
     literal: Restylable<'_>,
-    new: String<A>,
+    new: &str,
 ) -> Result<(), AllocError> {
     draft
         .text
         .push_str(between(source, draft.at, literal.token.lo))?;
-    draft.text.push_str(new.as_str())?;
+    draft.text.push_str(new)?;
     draft.at = literal.token.hi;
-    draft.edits.push(Edit {
-        lo: literal.token.lo,
-        hi: literal.token.hi,
-        text: new,
-    })?;
     Ok(())
 }
 
@@ -46,7 +40,7 @@ pub(crate) fn put_literal<A: Allocator + Copy>(
     draft.is_clean = clean_after(draft.is_clean, source, literal);
     let new = text_of(alloc, style, choice, source, literal)?;
     match new {
-        Some(new) => put(draft, source, literal, new),
+        Some(new) => put(draft, source, literal, new.as_str()),
         None => Ok(()),
     }
 }

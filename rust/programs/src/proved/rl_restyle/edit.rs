@@ -1,7 +1,7 @@
 // Rendered from crates/rl_restyle/src/edit.rt by tools/render, which erases contracts: change that file, and render again.
-//! The edits that rewrite a source, and the reasons why a source isn't rewritten.
+//! A rewritten source, the choice of its literals, and the reasons why a source isn't rewritten.
 
-use crate::rattle_std::prelude::{String, Vec};
+use crate::rattle_std::prelude::{String};
 use crate::rl_lexer::LexError;
 use crate::rl_syntax::Kind;
 use crate::rattle_std::alloc::{Allocator, Global};
@@ -18,15 +18,8 @@ pub struct Choice<'a> {
     pub kinds: Option<&'a [Option<Kind>]>,
 }
 
-pub struct Edit<A: Allocator = Global> {
-    pub lo: usize,
-    pub hi: usize,
-    pub text: String<A>,
-}
-
 pub struct Restyled<A: Allocator = Global> {
     pub text: String<A>,
-    pub edits: Vec<Edit<A>, A>,
     pub is_clean: bool,
 }
 

@@ -1,5 +1,5 @@
 // Rendered from crates/rl_restyle/src/lib.rt by tools/render, which erases contracts: change that file, and render again.
-//! Rewrites all literals of a source by a style, and returns the edits and the new text. Parses styles from configurations too.
+//! Rewrites all literals of a source by a style. Parses styles from configurations too.
 
 mod changing;
 mod clean;
@@ -15,7 +15,7 @@ mod values;
 mod whole;
 
 pub use crate::rl_restyle::changing::changing_rules;
-pub use crate::rl_restyle::edit::{Choice, Edit, Macros, RestyleError, Restyled};
+pub use crate::rl_restyle::edit::{Choice, Macros, RestyleError, Restyled};
 pub use crate::rl_restyle::rule::{RULES, Rule, number_of, settable_rules};
 pub use crate::rl_restyle::slices::between;
 pub use crate::rl_restyle::style_error::{Expected, StyleError, StyleErrorKind};

@@ -1,7 +1,7 @@
 // Rendered from crates/rl_restyle/src/whole.rt by tools/render, which erases contracts: change that file, and render again.
 //! Rewrites all literals of a source by a style.
 
-use crate::rattle_std::prelude::{String, Vec};
+use crate::rattle_std::prelude::{String};
 use crate::rl_restyle::draft::{Draft, put_literal};
 use crate::rl_restyle::edit::{Choice, RestyleError, Restyled};
 use crate::rl_restyle::slices::between;
@@ -17,7 +17,6 @@ fn finished<A: Allocator>(
     match text.push_str(between(source, draft.at, source.len())) {
         Ok(()) => Ok(Restyled {
             text,
-            edits: draft.edits,
             is_clean: draft.is_clean && !has_stray,
         }),
         Err(_) => Err(RestyleError::Memory),
@@ -33,10 +32,12 @@ pub fn rewrite_source<A: Allocator + Copy>(
     if !is_safe_to_restyle(text) {
         return Err(RestyleError::Script);
     }
+    let Ok(new) = String::with_capacity(alloc, text.len()) else {
+        return Err(RestyleError::Memory);
+    };
     let mut literals = Restylables::new(text);
     let mut draft = Draft {
-        text: String::new(alloc),
-        edits: Vec::new(alloc),
+        text: new,
         at: 0,
         is_clean: true,
     };

@@ -4,7 +4,7 @@
 
 use crate::rattle_std::prelude::{String};
 use crate::rl_scan::escapes::{Before, Escapes, push_char, push_text};
-use crate::rl_scan::failure::Failure;
+use crate::rl_scan::failure::{Appended, Done};
 use crate::rl_scan::finding::Place;
 use crate::rl_scan::output::Output;
 use crate::rl_scan::widths::width_of;
@@ -12,6 +12,8 @@ use crate::rattle_std::alloc::{AllocError, Allocator};
 use crate::rattle_std::io::Write;
 
 const LONGEST: usize = 1024;
+
+const TOO_LONG: &str = "    (a line of more than 1024 bytes)\n";
 
 #[derive(Clone, Copy)]
 pub(crate) struct Around {
@@ -34,37 +36,36 @@ fn without_line_end(line: &str) -> &str {
     }
 }
 
-fn push_line<A: Allocator>(out: &mut String<A>, line: &str) -> Result<(), AllocError> {
-    let shown = without_line_end(line);
-    if shown.len() > LONGEST {
-        return out.push_str("    (a line of more than 1024 bytes)\n");
+impl<'p, A: Allocator + Copy, W: Write> Output<'p, A, W> {
+    fn print_line(&mut self, line: &str) -> Done<A> {
+        let shown = without_line_end(line);
+        if shown.len() > LONGEST {
+            self.text.push_str(TOO_LONG)?;
+        } else {
+            self.text.push_str("    ")?;
+            push_text(&mut self.text, Escapes::Line, Before::Space, shown)?;
+            self.text.push('\n')?;
+        }
+        self.send_if_full()
     }
-    out.push_str("    ")?;
-    push_text(out, Escapes::Line, Before::Space, shown)?;
-    out.push('\n')
-}
 
-fn print_last_lines<A: Allocator + Copy, W: Write>(
-    output: &mut Output<'_, A, W>,
-    text: &str,
-    count: usize,
-) -> Result<(), Failure<A>> {
-    let mut front = text;
-    for _ in 0..count {
-        let Some(inside) = front.strip_suffix('\n') else {
-            break;
-        };
-        let lines = match inside.rsplit_once('\n') {
-            Some((lines, _)) => lines.len().saturating_add(1),
-            None => 0,
-        };
-        front = front.get(..lines).unwrap_or("");
+    fn print_last_lines(&mut self, text: &str, count: usize) -> Done<A> {
+        let mut front = text;
+        for _ in 0..count {
+            let Some(inside) = front.strip_suffix('\n') else {
+                break;
+            };
+            let lines = match inside.rsplit_once('\n') {
+                Some((lines, _)) => lines.len().saturating_add(1),
+                None => 0,
+            };
+            front = front.get(..lines).unwrap_or("");
+        }
+        for line in text.get(front.len()..).unwrap_or("").split_inclusive('\n') {
+            self.print_line(line)?;
+        }
+        Ok(())
     }
-    for line in text.get(front.len()..).unwrap_or("").split_inclusive('\n') {
-        push_line(&mut output.text, line)?;
-        output.send_if_full()?;
-    }
-    Ok(())
 }
 
 fn push_marked<A: Allocator>(
@@ -98,9 +99,9 @@ fn push_marked_line<A: Allocator>(
     line: &str,
     lo: usize,
     hi: usize,
-) -> Result<(), AllocError> {
+) -> Appended {
     if line.len() > LONGEST {
-        return out.push_str("    (a line of more than 1024 bytes)\n");
+        return out.push_str(TOO_LONG);
     }
     let (front, found) = line.split_at_checked(lo).unwrap_or((line, ""));
     let len = hi.saturating_sub(lo);
@@ -135,7 +136,7 @@ impl<'p> Context<'p> {
         &mut self,
         output: &mut Output<'_, A, W>,
         end: usize,
-    ) -> Result<(), Failure<A>> {
+    ) -> Done<A> {
         if self.owed == 0 {
             return Ok(());
         }
@@ -144,19 +145,11 @@ impl<'p> Context<'p> {
             if self.owed == 0 {
                 break;
             }
-            push_line(&mut output.text, line)?;
-            output.send_if_full()?;
+            output.print_line(line)?;
             self.end = self.end.saturating_add(line.len());
             self.owed = self.owed.saturating_sub(1);
         }
         Ok(())
-    }
-
-    pub(crate) fn print_end<A: Allocator + Copy, W: Write>(
-        &mut self,
-        output: &mut Output<'_, A, W>,
-    ) -> Result<(), Failure<A>> {
-        self.print_owed(output, self.source.len())
     }
 
     pub(crate) fn print_finding<A: Allocator + Copy, W: Write>(
@@ -165,10 +158,10 @@ impl<'p> Context<'p> {
         marks: &mut String<A>,
         line_at: usize,
         place: Place,
-    ) -> Result<(), Failure<A>> {
+    ) -> Done<A> {
         if line_at != self.line_at {
             let lines = self.source.get(self.end..line_at).unwrap_or("");
-            print_last_lines(output, lines, self.around.before)?;
+            output.print_last_lines(lines, self.around.before)?;
             let found = self.source.get(place.lo..).unwrap_or("");
             let (_, after) = found.split_once('\n').unwrap_or(("", ""));
             self.end = self.source.len().saturating_sub(after.len());
@@ -178,7 +171,6 @@ impl<'p> Context<'p> {
         let line = without_line_end(self.source.get(line_at..self.end).unwrap_or(""));
         let lo = place.lo.saturating_sub(line_at);
         let hi = place.hi.saturating_sub(line_at);
-        push_marked_line(&mut output.text, marks, line, lo, hi)?;
-        Ok(())
+        Ok(push_marked_line(&mut output.text, marks, line, lo, hi)?)
     }
 }

@@ -43,7 +43,7 @@ fn print_lines<A: Allocator + Copy, W: Write>(
 ) -> Result<(), Failure<A>> {
     for line in text.split_inclusive('\n') {
         output.text.push(sign)?;
-        output.text.push_str(line)?;
+        output.print_bare(line)?;
         if !line.ends_with('\n') {
             output.text.push_str("\n\\ No newline at end of file\n")?;
         }

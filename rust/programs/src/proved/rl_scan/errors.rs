@@ -3,6 +3,8 @@
 
 use crate::rl_scan::failure::Failure;
 use crate::rl_scan::finding::{Fault, Finding, Place};
+use crate::rl_scan::follower::Follower;
+use crate::rl_scan::job::Job;
 use crate::rl_scan::print::Page;
 use crate::rl_flaws::{
     Edition, Flaws, InvalidPiece, TypeError, first_reserving_edition, is_flaw_of_unit,
@@ -10,16 +12,13 @@ use crate::rl_flaws::{
 };
 use crate::rl_lexer::{LexError, LexKind, SourceForm, SourceToken, Sources};
 use crate::rl_strict::{FlawKind, LineEnds, Reading, is_float_by_suffix, read};
-use crate::rl_style::{Calls, advance_calls, is_in_call};
 use crate::rl_syntax::Kind;
-use crate::rl_syntax::text::split_char;
+use crate::rl_syntax::text::{begins, split_char};
 use crate::rattle_std::alloc::Allocator;
 use crate::rattle_std::io::Write;
 
-#[derive(Clone, Copy)]
-pub(crate) struct Checks {
-    pub types: bool,
-    pub strays: bool,
+pub(crate) fn both(a: bool, b: bool) -> bool {
+    a && b
 }
 
 #[inline(always)]
@@ -31,57 +30,52 @@ pub(crate) fn next_token<'t>(tokens: &mut Sources<'t>, all: bool) -> Option<Sour
     }
 }
 
-fn report_lex_error<A: Allocator + Copy, W: Write>(
+fn report_fault<A: Allocator + Copy, W: Write>(
     page: &mut Page<'_, '_, A, W>,
-    kind: LexKind,
+    job: Job<'_>,
     place: Place,
-    piece: &str,
-) -> Result<(), Failure<A>> {
-    let id = match kind {
+    fault: Fault<'_>,
+) -> Result<bool, Failure<A>> {
+    let allowed = job.allows_error(fault.id);
+    page.report_finding(place, Finding::Error(fault))?;
+    Ok(allowed)
+}
+
+fn end_id(kind: LexKind) -> &'static str {
+    match kind {
         LexKind::UnclosedQuote => "unclosed-quote",
         LexKind::UnclosedComment => "unclosed-comment",
         _ => "stray-character",
+    }
+}
+
+fn report_lex_error<A: Allocator + Copy, W: Write>(
+    page: &mut Page<'_, '_, A, W>,
+    job: Job<'_>,
+    kind: LexKind,
+    place: Place,
+    piece: &str,
+) -> Result<bool, Failure<A>> {
+    let fault = Fault {
+        id: end_id(kind),
+        message: kind.message(),
+        piece,
+        literal: None,
     };
-    report_error(page, place, (id, kind.message()), piece, None)
+    report_fault(page, job, place, fault)
 }
 
 pub(crate) fn report_end<A: Allocator + Copy, W: Write>(
     page: &mut Page<'_, '_, A, W>,
+    job: Job<'_>,
     error: LexError,
-) -> Result<(), Failure<A>> {
+) -> Result<bool, Failure<A>> {
     let (lo, hi) = (error.at, error.at);
-    report_lex_error(page, error.kind, Place { lo, hi }, "")
-}
-
-fn report_error<A: Allocator + Copy, W: Write>(
-    page: &mut Page<'_, '_, A, W>,
-    place: Place,
-    words: (&'static str, &'static str),
-    piece: &str,
-    literal: Option<&str>,
-) -> Result<(), Failure<A>> {
-    let (id, message) = words;
-    page.report_finding(
-        place,
-        Finding::Error(Fault {
-            id,
-            message,
-            piece,
-            literal,
-        }),
-    )
+    report_lex_error(page, job, error.kind, Place { lo, hi }, "")
 }
 
 fn is_of_word(c: char) -> bool {
     c.is_ascii_alphanumeric() || c == '_'
-}
-
-#[inline(always)]
-fn may_end_prefix(source: &str, at: usize) -> bool {
-    match source.as_bytes().get(at.wrapping_sub(1)) {
-        Some(byte) => *byte == b'#' || is_of_word(char::from(*byte)),
-        None => false,
-    }
 }
 
 fn prefix_start(before: &str, text: &str) -> usize {
@@ -92,25 +86,55 @@ fn prefix_start(before: &str, text: &str) -> usize {
     }
 }
 
-#[inline(always)]
-fn type_error_in(before: &str, text: &str, reading: &Reading) -> Option<TypeError> {
-    let (kind, magnitude, suffix_at) = match reading {
-        Reading::Text(kind, body) | Reading::Unit(kind, body, _) => (*kind, 0, body.suffix_at),
-        Reading::Integer(Some(magnitude), at) => (Kind::Int, *magnitude, *at),
-        Reading::Float(at) => (Kind::Float, 0, *at),
-        Reading::Integer(None, _) | Reading::Truth(_) => return None,
-    };
-    let has_default = suffix_at == text.len() && !matches!(kind, Kind::Float);
-    if has_default || !text.is_char_boundary(suffix_at) {
+fn type_error_at(
+    before: &str,
+    text: &str,
+    kind: Kind,
+    magnitude: u128,
+    suffix_at: usize,
+) -> Option<TypeError> {
+    if has_no_suffix(text, kind, suffix_at) {
         return None;
+    }
+    if !text.is_char_boundary(suffix_at) {
+        return Some(TypeError::UnknownSuffix);
     }
     let suffix = &text[suffix_at..];
     type_error_of(kind, text, magnitude, suffix, may_be_negated(before))
 }
 
+#[inline(always)]
+fn has_no_suffix(text: &str, kind: Kind, at: usize) -> bool {
+    at == text.len() && !matches!(kind, Kind::Float)
+}
+
+#[inline(always)]
+fn is_bare(text: &str, reading: &Reading) -> bool {
+    match reading {
+        Reading::Text(kind, body) => has_no_suffix(text, *kind, body.suffix_at),
+        Reading::Unit(kind, body, _) => has_no_suffix(text, *kind, body.suffix_at),
+        Reading::Integer(Some(_), at) => has_no_suffix(text, Kind::Int, *at),
+        _ => false,
+    }
+}
+
+#[inline(always)]
+fn type_error_in(before: &str, text: &str, reading: &Reading) -> Option<TypeError> {
+    match reading {
+        Reading::Text(kind, body) => type_error_at(before, text, *kind, 0, body.suffix_at),
+        Reading::Unit(kind, body, _) => type_error_at(before, text, *kind, 0, body.suffix_at),
+        Reading::Integer(Some(m), at) => type_error_at(before, text, Kind::Int, *m, *at),
+        Reading::Float(at) => type_error_at(before, text, Kind::Float, 0, *at),
+        Reading::Integer(None, _) | Reading::Truth(_) => None,
+    }
+}
+
 fn large_place(text: &str, reading: &Reading) -> Option<Place> {
     match reading {
-        Reading::Integer(None, at) if !is_float_by_suffix(text) => {
+        Reading::Integer(None, at) => {
+            if is_float_by_suffix(text) {
+                return None;
+            }
             let len = match split_char(text.get(*at..).unwrap_or("")) {
                 Some((c, _)) => c.len_utf8(),
                 None => 0,
@@ -122,24 +146,18 @@ fn large_place(text: &str, reading: &Reading) -> Option<Place> {
     }
 }
 
-struct Follower<'t> {
-    tokens: Sources<'t>,
-    calls: Calls<'t>,
-}
-
-impl<'t> Follower<'t> {
-    fn is_in_call_at(&mut self, lo: usize) -> bool {
-        for _ in 0..u64::MAX {
-            let Some(token) = self.tokens.next() else {
-                return false;
-            };
-            let is_inside = is_in_call(self.calls);
-            self.calls = advance_calls(self.calls, token);
-            if token.lo >= lo {
-                return is_inside;
-            }
-        }
-        false
+fn type_words(
+    before: &str,
+    text: &str,
+    reading: &Reading,
+) -> Option<(Place, &'static str, &'static str)> {
+    let (lo, hi, large) = (0, text.len(), FlawKind::TooLarge);
+    if let Some(place) = large_place(text, reading) {
+        return Some((place, large.id(), large.message()));
+    }
+    match type_error_in(before, text, reading) {
+        Some(error) => Some((Place { lo, hi }, error.id(), error.message())),
+        None => None,
     }
 }
 
@@ -147,46 +165,61 @@ impl<'t> Follower<'t> {
 fn report_type<'t, A: Allocator + Copy, W: Write>(
     page: &mut Page<'_, '_, A, W>,
     follower: &mut Follower<'t>,
+    job: Job<'_>,
     token: SourceToken<'t>,
     reading: &Reading,
-) -> Result<(), Failure<A>> {
-    let (lo, hi, large) = (token.lo, token.hi, FlawKind::TooLarge);
-    let before = page.source.get(..lo).unwrap_or("");
-    let (place, words) = match large_place(token.text, reading) {
-        Some(place) => (place.after(lo), (large.id(), large.message())),
-        None => match type_error_in(before, token.text, reading) {
-            Some(error) => (Place { lo, hi }, (error.id(), error.message())),
-            None => return Ok(()),
-        },
+) -> Result<bool, Failure<A>> {
+    let Some(before) = follower.text_before(token.lo) else {
+        return Ok(false);
     };
-    if page.job.follows && follower.is_in_call_at(token.lo) {
-        return Ok(());
+    let Some((place, id, message)) = type_words(before, token.text, reading) else {
+        return Ok(true);
+    };
+    if job.follows && follower.is_in_call_at(token.lo) {
+        return Ok(true);
     }
-    report_error(page, place, words, token.text, Some(token.text))
+    let fault = Fault {
+        id,
+        message,
+        piece: token.text,
+        literal: Some(token.text),
+    };
+    report_fault(page, job, place.after(token.lo), fault)
 }
 
 #[inline(always)]
 fn report_prefix<A: Allocator + Copy, W: Write>(
     page: &mut Page<'_, '_, A, W>,
+    job: Job<'_>,
     token: SourceToken<'_>,
-) -> Result<bool, Failure<A>> {
+) -> Result<Option<bool>, Failure<A>> {
     let source = page.source;
+    let last = source.as_bytes().get(token.lo.wrapping_sub(1));
+    if !last.is_some_and(|b| matches!(*b, b'#' | b'_') || b.is_ascii_alphanumeric()) {
+        return Ok(None);
+    }
     let before = source.get(..token.lo).unwrap_or("");
-    if !may_end_prefix(source, token.lo) || !page.job.edition.reserves(before, token.text) {
-        return Ok(false);
+    if !job.edition.reserves(before, token.text) {
+        return Ok(None);
     }
     let (lo, hi) = (prefix_start(before, token.text), token.hi);
-    let whole = source.get(lo..hi).unwrap_or(token.text);
-    let words = ("reserved-prefix", "reserved prefix");
-    report_error(page, Place { lo, hi }, words, whole, Some(whole))?;
-    Ok(true)
+    let piece = source.get(lo..hi).unwrap_or(token.text);
+    let fault = Fault {
+        id: "reserved-prefix",
+        message: "reserved prefix",
+        piece,
+        literal: Some(piece),
+    };
+    let is_allowed = report_fault(page, job, Place { lo, hi }, fault)?;
+    Ok(Some(is_allowed))
 }
 
 fn report_flaw<A: Allocator + Copy, W: Write>(
     page: &mut Page<'_, '_, A, W>,
+    job: Job<'_>,
     token: SourceToken<'_>,
     bad: InvalidPiece,
-) -> Result<(), Failure<A>> {
+) -> Result<bool, Failure<A>> {
     let (text, flaw) = (token.text, bad.flaw);
     let piece = if is_flaw_of_unit(flaw.kind) {
         text.get(flaw.from..bad.end).unwrap_or(text)
@@ -194,79 +227,95 @@ fn report_flaw<A: Allocator + Copy, W: Write>(
         text
     };
     let (lo, hi) = (flaw.lo, flaw.hi);
-    let place = Place { lo, hi }.after(token.lo);
-    let words = (flaw.kind.id(), flaw.kind.message());
-    report_error(page, place, words, piece, Some(text))
+    let fault = Fault {
+        id: flaw.kind.id(),
+        message: flaw.kind.message(),
+        piece,
+        literal: Some(text),
+    };
+    report_fault(page, job, Place { lo, hi }.after(token.lo), fault)
 }
 
-fn report_flaws<A: Allocator + Copy, W: Write>(
+fn report_later_flaws<A: Allocator + Copy, W: Write>(
     page: &mut Page<'_, '_, A, W>,
+    job: Job<'_>,
     token: SourceToken<'_>,
-    first: InvalidPiece,
-    later: Flaws<'_>,
-) -> Result<(), Failure<A>> {
-    let mut flaws = later;
-    let mut next = Some(first);
+    mut flaws: Flaws<'_>,
+) -> Result<bool, Failure<A>> {
+    let mut are_allowed = true;
     for _ in 0..u64::MAX {
-        let Some(bad) = next else {
+        let Some(bad) = flaws.next() else {
             break;
         };
-        report_flaw(page, token, bad)?;
-        next = flaws.next();
+        are_allowed = both(report_flaw(page, job, token, bad)?, are_allowed);
     }
-    Ok(())
+    Ok(are_allowed)
 }
 
 fn is_literal_since_2021(text: &str) -> bool {
-    text.starts_with("c\"") || text.starts_with("cr") || text.starts_with("'r#")
+    begins(text, "c\"") || begins(text, "cr") || begins(text, "'r#")
 }
 
 #[inline(always)]
 fn report_literal<'t, A: Allocator + Copy, W: Write>(
     page: &mut Page<'_, '_, A, W>,
     follower: &mut Follower<'t>,
-    checks: Checks,
+    job: Job<'_>,
     token: SourceToken<'t>,
-) -> Result<(), Failure<A>> {
-    if page.job.edition.year() < 2021 && is_literal_since_2021(token.text) {
-        return Ok(());
+) -> Result<bool, Failure<A>> {
+    if job.edition.year() < 2021 && is_literal_since_2021(token.text) {
+        return Ok(true);
     }
     match read(token.text, LineEnds::File, false) {
         Ok(reading) => {
-            if report_prefix(page, token)? || !checks.types {
-                return Ok(());
+            if let Some(is_allowed) = report_prefix(page, job, token)? {
+                return Ok(is_allowed);
             }
-            report_type(page, follower, token, &reading)
+            if job.any_suffix {
+                return Ok(true);
+            }
+            if is_bare(token.text, &reading) {
+                return Ok(true);
+            }
+            report_type(page, follower, job, token, &reading)
         }
         Err(flaw) => {
             let (first, later) = Flaws::after(token.text, LineEnds::File, flaw);
-            report_flaws(page, token, first, later)
+            let is_allowed = report_flaw(page, job, token, first)?;
+            Ok(both(is_allowed, report_later_flaws(page, job, token, later)?))
         }
     }
 }
 
+fn report_token<'t, A: Allocator + Copy, W: Write>(
+    page: &mut Page<'_, '_, A, W>,
+    follower: &mut Follower<'t>,
+    job: Job<'_>,
+    token: SourceToken<'t>,
+) -> Result<bool, Failure<A>> {
+    if job.strays && !token.is_literal() {
+        if !matches!(token.form, SourceForm::Stray) {
+            return Ok(true);
+        }
+        let (kind, lo, hi) = (LexKind::StrayCharacter, token.lo, token.hi);
+        return report_lex_error(page, job, kind, Place { lo, hi }, token.text);
+    }
+    report_literal(page, follower, job, token)
+}
+
 pub(crate) fn report_errors<A: Allocator + Copy, W: Write>(
     page: &mut Page<'_, '_, A, W>,
-    checks: Checks,
-) -> Result<(), Failure<A>> {
+    job: Job<'_>,
+) -> Result<bool, Failure<A>> {
     let mut tokens = Sources::new(page.source);
-    let mut follower = Follower {
-        tokens: Sources::new(page.source),
-        calls: Calls::Outside,
-    };
-    for _ in 0..u64::MAX {
-        let Some(token) = next_token(&mut tokens, checks.strays) else {
-            break;
-        };
-        if token.is_literal() {
-            report_literal(page, &mut follower, checks, token)?;
-        } else if checks.strays && matches!(token.form, SourceForm::Stray) {
-            let (lo, hi) = (token.lo, token.hi);
-            report_lex_error(page, LexKind::StrayCharacter, Place { lo, hi }, token.text)?;
-        }
+    let mut follower = Follower::new(page.source);
+    let mut are_accepted = true;
+    while let Some(token) = next_token(&mut tokens, job.strays) {
+        let is_accepted = report_token(page, &mut follower, job, token)?;
+        are_accepted = both(is_accepted, are_accepted);
     }
     match tokens.error() {
-        Some(error) => report_end(page, error),
-        None => Ok(()),
+        Some(error) => Ok(both(report_end(page, job, error)?, are_accepted)),
+        None => Ok(are_accepted),
     }
 }

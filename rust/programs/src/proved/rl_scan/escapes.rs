@@ -2,6 +2,7 @@
 //! Writes characters, texts and numbers into the output: with escapes for invisible characters, for JSON, and for annotations.
 
 use crate::rattle_std::prelude::{String};
+use crate::rl_scan::failure::Appended;
 use crate::rl_files::is_control_invisible_or_bidi;
 use crate::rl_program::need_no_escapes;
 use crate::rattle_std::alloc::{AllocError, Allocator};
@@ -41,7 +42,7 @@ pub(crate) enum Escapes {
     Json,
 }
 
-fn push_json_number<A: Allocator>(out: &mut String<A>, c: char) -> Result<(), AllocError> {
+fn push_json_number<A: Allocator>(out: &mut String<A>, c: char) -> Appended {
     let code = c as u32;
     if code < 0x1_0000 {
         return write!(out, "\\u{code:04x}");
@@ -51,11 +52,7 @@ fn push_json_number<A: Allocator>(out: &mut String<A>, c: char) -> Result<(), Al
     write!(out, "\\u{high:04x}\\u{low:04x}")
 }
 
-fn push_hidden<A: Allocator>(
-    out: &mut String<A>,
-    escapes: Escapes,
-    c: char,
-) -> Result<(), AllocError> {
+fn push_hidden<A: Allocator>(out: &mut String<A>, escapes: Escapes, c: char) -> Appended {
     let code = c as u32;
     match (escapes, c) {
         (Escapes::Line, '\t') => out.push(c),
@@ -107,14 +104,12 @@ pub(crate) fn push_text<A: Allocator>(
     escapes: Escapes,
     before: Before,
     text: &str,
-) -> Result<(), AllocError> {
-    let needs_none = match escapes {
-        Escapes::Json => need_no_escapes(text.as_bytes()),
-        _ => match before {
-            Before::Annotation => false,
-            Before::Space => is_plain(text) && !text.contains("::"),
-            _ => is_plain(text),
-        },
+) -> Appended {
+    let needs_none = match (escapes, before) {
+        (Escapes::Json, _) => need_no_escapes(text.as_bytes()),
+        (_, Before::Annotation) => false,
+        (_, Before::Space) => is_plain(text) && !text.contains("::"),
+        _ => is_plain(text),
     };
     if needs_none {
         return out.push_str(text);
@@ -126,33 +121,23 @@ pub(crate) fn push_text<A: Allocator>(
     Ok(())
 }
 
-pub(crate) fn push_number<A: Allocator>(
-    out: &mut String<A>,
-    number: usize,
-) -> Result<(), AllocError> {
-    let mut digits = [b'0'; 20];
-    let mut left = number;
-    let mut start = digits.len();
-    for _ in 0..digits.len() {
-        start = start.saturating_sub(1);
-        if let Some(digit) = digits.get_mut(start) {
-            *digit = b'0'.wrapping_add((left % 10) as u8);
-        }
-        left = left / 10;
-        if left == 0 {
-            break;
-        }
-    }
-    for digit in digits.get(start..).unwrap_or(b"".as_slice()) {
-        out.push(char::from(*digit))?;
-    }
-    Ok(())
+fn last_digit(number: usize) -> char {
+    char::from(b'0'.wrapping_add((number % 10) as u8))
 }
 
-pub(crate) fn push_property<A: Allocator>(
-    out: &mut String<A>,
-    path: &str,
-) -> Result<(), AllocError> {
+pub(crate) fn push_number<A: Allocator>(out: &mut String<A>, number: usize) -> Appended {
+    if number > 99_999 {
+        return write!(out, "{number}");
+    }
+    for start in [number / 10_000, number / 1_000, number / 100, number / 10] {
+        if start > 0 {
+            out.push(last_digit(start))?;
+        }
+    }
+    out.push(last_digit(number))
+}
+
+pub(crate) fn push_property<A: Allocator>(out: &mut String<A>, path: &str) -> Appended {
     for c in path.chars() {
         match c {
             ':' => out.push_str("%3A")?,

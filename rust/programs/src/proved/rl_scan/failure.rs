@@ -15,6 +15,10 @@ pub enum Failure<A: Allocator = Global> {
     Said(String<A>),
 }
 
+pub(crate) type Appended = Result<(), AllocError>;
+
+pub(crate) type Done<A> = Result<(), Failure<A>>;
+
 impl<A: Allocator> Failure<A> {
     pub(crate) fn said(alloc: A, words: &str) -> Failure<A> {
         match String::from_str(alloc, words) {

@@ -1,6 +1,7 @@
 // Rendered from crates/rl_scan/src/finding.rt by tools/render, which erases contracts: change that file, and render again.
 //! The findings of a source.
 
+use crate::rl_scan::hidden::character_id;
 use crate::rl_scan::literal::Literal;
 use crate::rl_restyle::Rule;
 
@@ -30,11 +31,7 @@ pub(crate) struct Fault<'t> {
 pub(crate) enum Finding<'t> {
     Literal(Literal<'t>),
     Error(Fault<'t>),
-    Hidden {
-        id: &'static str,
-        c: char,
-        name: &'static str,
-    },
+    Hidden(char),
     Change {
         old: &'t str,
         new: &'t str,
@@ -47,7 +44,7 @@ impl<'t> Finding<'t> {
         match self {
             Finding::Literal(_) => "literal",
             Finding::Error(fault) => fault.id,
-            Finding::Hidden { id, .. } => id,
+            Finding::Hidden(c) => character_id(*c),
             Finding::Change { .. } => "style",
         }
     }

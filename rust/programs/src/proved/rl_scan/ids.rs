@@ -2,7 +2,7 @@
 //! The identifiers of findings, which `--allow` accepts.
 
 use crate::rattle_std::prelude::{format};
-use crate::rl_scan::failure::Failure;
+use crate::rl_scan::failure::{Done, Failure};
 use crate::rl_scan::hidden::hides;
 use crate::rl_scan::modes::Mode;
 use crate::rl_scan::style::is_near;
@@ -24,10 +24,7 @@ fn number_of(id: &str) -> Option<u32> {
     if count < 4 || count > 6 || !digits.as_bytes().iter().all(|b| b.is_ascii_hexdigit()) {
         return None;
     }
-    match u32::from_str_radix(digits, 16) {
-        Ok(number) => Some(number),
-        Err(_) => None,
-    }
+    u32::from_str_radix(digits, 16).ok()
 }
 
 pub(crate) fn character_of(id: &str) -> Option<char> {
@@ -41,17 +38,15 @@ fn unknown_id<A: Allocator + Copy>(
     expected: &str,
 ) -> Result<Failure<A>, AllocError> {
     let shown = visible_text(alloc, id)?;
+    let mut line = format!(in alloc; "unknown id '{shown}' of --allow: ")?;
     match ids.iter().find(|known| is_near(id, known)) {
-        Some(name) => Ok(Failure::Said(format!(in alloc;
-            "unknown id '{shown}' of --allow: did you mean '{name}'?"
-        )?)),
-        None => Ok(Failure::Said(format!(in alloc;
-            "unknown id '{shown}' of --allow: {expected}"
-        )?)),
+        Some(name) => write!(line, "did you mean '{name}'?")?,
+        None => line.push_str(expected)?,
     }
+    Ok(Failure::Said(line))
 }
 
-fn check_bad_id<A: Allocator + Copy>(alloc: A, id: &str) -> Result<(), Failure<A>> {
+fn check_bad_id<A: Allocator + Copy>(alloc: A, id: &str) -> Done<A> {
     if BAD_IDS.contains(&id) {
         return Ok(());
     }
@@ -64,7 +59,7 @@ fn check_bad_id<A: Allocator + Copy>(alloc: A, id: &str) -> Result<(), Failure<A
     Err(unknown_id(alloc, &BAD_IDS, id, expected)?)
 }
 
-fn check_character_id<A: Allocator + Copy>(alloc: A, id: &str) -> Result<(), Failure<A>> {
+fn check_character_id<A: Allocator + Copy>(alloc: A, id: &str) -> Done<A> {
     if CHARACTER_IDS.contains(&id) {
         return Ok(());
     }
@@ -79,11 +74,7 @@ fn check_character_id<A: Allocator + Copy>(alloc: A, id: &str) -> Result<(), Fai
     Err(unknown_id(alloc, &CHARACTER_IDS, id, expected)?)
 }
 
-pub(crate) fn check_id<A: Allocator + Copy>(
-    alloc: A,
-    mode: Mode,
-    id: &str,
-) -> Result<(), Failure<A>> {
+pub(crate) fn check_id<A: Allocator + Copy>(alloc: A, mode: Mode, id: &str) -> Done<A> {
     match mode {
         Mode::Bad => check_bad_id(alloc, id),
         Mode::Invisible => check_character_id(alloc, id),

@@ -1,21 +1,20 @@
 // Rendered from crates/rl_scan/src/job.rt by tools/render, which erases contracts: change that file, and render again.
 //! The work of a call of `rl_scan` on each file.
 
-use crate::rattle_std::prelude::{String, Vec};
+use crate::rattle_std::prelude::{String};
 use crate::rl_scan::args::{Args, is_among};
 use crate::rl_scan::checks::number_in;
 use crate::rl_scan::context::Around;
+use crate::rl_scan::failure::Appended;
 use crate::rl_scan::finding::Finding;
 use crate::rl_scan::ids::character_of;
-use crate::rl_scan::literal::integers_of;
 use crate::rl_scan::modes::{Mode, REWRITING};
 use crate::rl_scan::position::Position;
-use crate::rl_scan::style::kinds_of;
 use crate::rl_flaws::Edition;
 use crate::rl_restyle::{Choice, Macros};
 use crate::rl_style::Style;
 use crate::rl_syntax::Kind;
-use crate::rattle_std::alloc::{AllocError, Allocator};
+use crate::rattle_std::alloc::Allocator;
 
 #[derive(Clone, Copy)]
 pub(crate) enum Form {
@@ -32,39 +31,10 @@ pub(crate) struct Lists<'a> {
     pub kinds: &'a [Option<Kind>],
 }
 
-pub(crate) struct Values<'a, A: Allocator> {
-    finds: Vec<&'a str, A>,
-    numbers: Vec<u128, A>,
-    allowed: Vec<&'a str, A>,
-    kinds: Vec<Option<Kind>, A>,
-}
-
-impl<'a, A: Allocator + Copy> Values<'a, A> {
-    pub(crate) fn of(alloc: A, args: &Args<'a, A>) -> Result<Values<'a, A>, AllocError> {
-        let numbers = args.all(alloc, "--number")?;
-        Ok(Values {
-            finds: args.all(alloc, "--find")?,
-            numbers: integers_of(alloc, numbers.as_slice())?,
-            allowed: args.all(alloc, "--allow")?,
-            kinds: kinds_of(alloc, args.last("--only").unwrap_or(""))?,
-        })
-    }
-
-    pub(crate) fn lists(&self) -> Lists<'_> {
-        Lists {
-            finds: self.finds.as_slice(),
-            numbers: self.numbers.as_slice(),
-            allowed: self.allowed.as_slice(),
-            kinds: self.kinds.as_slice(),
-        }
-    }
-}
-
 #[derive(Clone, Copy)]
 pub(crate) struct Job<'a> {
     pub mode: Mode,
     pub lists: Lists<'a>,
-    pub has_kinds: bool,
     pub any_suffix: bool,
     pub strays: bool,
     pub follows: bool,
@@ -100,17 +70,14 @@ fn edition_of(year: Option<&str>) -> Edition {
     }
 }
 
-fn lines_of(value: Option<&str>, other: Option<usize>) -> Option<usize> {
-    match value {
-        Some(value) => number_in(value),
-        None => other,
-    }
+fn lines_of<A: Allocator + Copy>(args: &Args<'_, A>, name: &str) -> Option<usize> {
+    number_in(args.last(name)?)
 }
 
 fn around_of<A: Allocator + Copy>(args: &Args<'_, A>) -> Option<Around> {
-    let both = lines_of(args.last("--context"), None);
-    let before = lines_of(args.last("--before-context"), both);
-    let after = lines_of(args.last("--after-context"), both);
+    let both = lines_of(args, "--context");
+    let before = lines_of(args, "--before-context").or(both);
+    let after = lines_of(args, "--after-context").or(both);
     if before.is_none() && after.is_none() {
         return None;
     }
@@ -128,14 +95,12 @@ impl<'a> Job<'a> {
         let mode = args.mode();
         let all = args.last("--macros") == Some("all");
         let macros = if all { Macros::All } else { Macros::Skip };
-        let any_suffix = args.has("--any-suffix");
         let (quiet, counts) = (args.has("--quiet"), args.has("--count"));
         let names = args.has("--files-with-matches");
         Job {
             mode,
             lists,
-            has_kinds: args.has("--only"),
-            any_suffix,
+            any_suffix: args.has("--any-suffix"),
             strays: args.has("--no-stray"),
             follows: mode == Mode::Bad && !all,
             edition: edition_of(args.last("--edition")),
@@ -175,11 +140,9 @@ impl<'a> Job<'a> {
     }
 
     pub(crate) fn choice(&self) -> Choice<'a> {
-        let kinds = self.lists.kinds;
-        Choice {
-            macros: self.macros,
-            kinds: if self.has_kinds { Some(kinds) } else { None },
-        }
+        let (macros, kinds) = (self.macros, self.lists.kinds);
+        let kinds = if kinds.is_empty() { None } else { Some(kinds) };
+        Choice { macros, kinds }
     }
 
     pub(crate) fn shows_lines(&self, is_file: bool) -> bool {
@@ -194,16 +157,16 @@ impl<'a> Job<'a> {
         }
     }
 
-    pub(crate) fn push_color<A: Allocator>(
-        &self,
-        out: &mut String<A>,
-        code: &str,
-    ) -> Result<(), AllocError> {
+    pub(crate) fn push_color<A: Allocator>(&self, out: &mut String<A>, code: &str) -> Appended {
         if self.color {
             out.push_str(code)
         } else {
             Ok(())
         }
+    }
+
+    pub(crate) fn allows_error(&self, id: &str) -> bool {
+        is_among(self.lists.allowed, id)
     }
 
     pub(crate) fn allows(&self, finding: &Finding<'_>) -> bool {
@@ -215,13 +178,14 @@ impl<'a> Job<'a> {
             return true;
         }
         match finding {
-            Finding::Hidden { c, .. } => allowed.iter().any(|id| character_of(id) == Some(*c)),
+            Finding::Hidden(c) => allowed.iter().any(|id| character_of(id) == Some(*c)),
             _ => false,
         }
     }
 
     pub(crate) fn wants(&self, kind: Option<Kind>) -> bool {
-        !self.has_kinds || self.lists.kinds.iter().any(|wanted| *wanted == kind)
+        let kinds = self.lists.kinds;
+        kinds.is_empty() || kinds.iter().any(|wanted| *wanted == kind)
     }
 
     pub(crate) fn for_errors(&self) -> Job<'a> {
@@ -230,15 +194,20 @@ impl<'a> Job<'a> {
         job.color = false;
         job.around = None;
         job.shows = self.messages;
+        job.any_suffix = true;
+        job.strays = true;
         job
     }
 
-    pub(crate) fn status(&self, findings: u64) -> u8 {
-        let fails = match self.mode {
-            Mode::Bad | Mode::Invisible | Mode::Check | Mode::Diff => findings > 0,
-            Mode::Find => findings == 0,
-            _ => false,
-        };
-        if fails && !self.lists_files { 1 } else { 0 }
+    pub(crate) fn status(&self, findings: u64, are_accepted: bool) -> u8 {
+        if self.lists_files {
+            return 0;
+        }
+        match self.mode {
+            Mode::Bad => if findings == 0 && are_accepted { 0 } else { 1 },
+            Mode::Invisible | Mode::Check | Mode::Diff => if findings == 0 { 0 } else { 1 },
+            Mode::Find => if findings == 0 { 1 } else { 0 },
+            _ => 0,
+        }
     }
 }

@@ -2,6 +2,7 @@
 //! A literal of a source with its parse result: its printed line, and its value.
 
 use crate::rattle_std::prelude::{String, Vec};
+use crate::rl_scan::failure::Appended;
 use crate::rl_fronts::{bytes_of_body, str_of_body};
 use crate::rl_lenient::{Found, parse_literal};
 use crate::rl_program::push_found_line;
@@ -56,10 +57,7 @@ impl<'t> Literal<'t> {
     }
 
     pub(crate) fn kind(&self) -> Option<Kind> {
-        match self.found {
-            Some(found) => Some(found.kind),
-            None => None,
-        }
+        self.found.map(|found| found.kind)
     }
 
     pub(crate) fn integer(&self) -> Option<u128> {
@@ -94,11 +92,7 @@ impl<'t> Literal<'t> {
         }
     }
 
-    pub(crate) fn push_line<A: Allocator + Copy>(
-        &self,
-        alloc: A,
-        out: &mut String<A>,
-    ) -> Result<(), AllocError> {
+    pub(crate) fn push_line<A: Allocator + Copy>(&self, alloc: A, out: &mut String<A>) -> Appended {
         push_found_line(alloc, out, self.text, self.found)
     }
 

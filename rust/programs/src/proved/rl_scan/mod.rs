@@ -12,6 +12,7 @@ mod escapes;
 mod failure;
 mod finding;
 mod findings;
+mod follower;
 mod generated;
 mod hidden;
 mod host;
@@ -81,13 +82,7 @@ pub fn main(rt: HostRuntime) -> ExitCode {
         out: &mut rt.stdout(),
         err: &mut rt.stderr(),
     };
-    let host = Host { rt: &rt };
-    let ending = run_with_arguments(
-        rt.alloc(),
-        args.as_slice(),
-        console,
-        &host,
-        &mut Host { rt: &rt },
-    );
+    let (tree, mut files) = (Host { rt: &rt }, Host { rt: &rt });
+    let ending = run_with_arguments(rt.alloc(), args.as_slice(), console, &tree, &mut files);
     finish(&rt, ending)
 }

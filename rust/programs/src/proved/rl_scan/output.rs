@@ -3,7 +3,7 @@
 
 use crate::rattle_std::prelude::{String};
 use crate::rl_scan::escapes::{Before, Escapes, push_char, push_number, push_text};
-use crate::rl_scan::failure::Failure;
+use crate::rl_scan::failure::Done;
 use crate::rl_program::write_bytes;
 use crate::rattle_std::alloc::Allocator;
 use crate::rattle_std::io::Write;
@@ -23,25 +23,20 @@ impl<'p, A: Allocator + Copy, W: Write> Output<'p, A, W> {
         }
     }
 
-    pub(crate) fn send(&mut self) -> Result<(), Failure<A>> {
+    pub(crate) fn send(&mut self) -> Done<A> {
         write_bytes(self.stream, self.text.as_bytes())?;
         self.text.clear();
         Ok(())
     }
 
-    pub(crate) fn send_if_full(&mut self) -> Result<(), Failure<A>> {
+    pub(crate) fn send_if_full(&mut self) -> Done<A> {
         if self.text.len() < FULL {
             return Ok(());
         }
         self.send()
     }
 
-    pub(crate) fn print(
-        &mut self,
-        escapes: Escapes,
-        before: Before,
-        text: &str,
-    ) -> Result<(), Failure<A>> {
+    pub(crate) fn print(&mut self, escapes: Escapes, before: Before, text: &str) -> Done<A> {
         if text.len() < FULL {
             push_text(&mut self.text, escapes, before, text)?;
             return Ok(());
@@ -54,7 +49,17 @@ impl<'p, A: Allocator + Copy, W: Write> Output<'p, A, W> {
         Ok(())
     }
 
-    pub(crate) fn print_json(&mut self, name: &str, text: &str) -> Result<(), Failure<A>> {
+    pub(crate) fn print_bare(&mut self, text: &str) -> Done<A> {
+        if text.len() < FULL {
+            self.text.push_str(text)?;
+            return Ok(());
+        }
+        self.send()?;
+        write_bytes(self.stream, text.as_bytes())?;
+        Ok(())
+    }
+
+    pub(crate) fn print_json(&mut self, name: &str, text: &str) -> Done<A> {
         self.text.push_str(name)?;
         self.text.push('"')?;
         self.print(Escapes::Json, Before::Other, text)?;
@@ -62,7 +67,7 @@ impl<'p, A: Allocator + Copy, W: Write> Output<'p, A, W> {
         Ok(())
     }
 
-    pub(crate) fn print_array(&mut self, bytes: &[u8]) -> Result<(), Failure<A>> {
+    pub(crate) fn print_array(&mut self, bytes: &[u8]) -> Done<A> {
         let mut is_first = true;
         self.text.push('[')?;
         for byte in bytes {

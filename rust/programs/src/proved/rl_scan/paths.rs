@@ -1,18 +1,15 @@
 // Rendered from crates/rl_scan/src/paths.rt by tools/render, which erases contracts: change that file, and render again.
 //! The paths that a call reads, and the extensions of the files to read.
 
-use crate::rattle_std::prelude::{String, Vec, format};
+use crate::rattle_std::prelude::{String, Vec};
 use crate::rl_scan::args::Args;
 use crate::rl_scan::checks::{extension_in, is_input};
-use crate::rl_scan::failure::Failure;
-use crate::rl_files::{Tree, push_listed_paths, visible_text};
+use crate::rl_scan::failure::{Done, Failure};
+use crate::rl_scan::style::unread_file;
+use crate::rl_files::{Tree, push_listed_paths};
 use crate::rattle_std::alloc::{AllocError, Allocator};
 
-fn check_input<A: Allocator + Copy>(
-    alloc: A,
-    args: &Args<'_, A>,
-    paths: &[String<A>],
-) -> Result<(), Failure<A>> {
+fn check_input<A: Allocator + Copy>(alloc: A, args: &Args<'_, A>, paths: &[String<A>]) -> Done<A> {
     let mut count = 0_usize;
     for path in paths {
         if is_input(path.as_str()) {
@@ -45,8 +42,7 @@ pub(crate) fn paths_of<A: Allocator + Copy, T: Tree>(
         paths.push(String::from_str(alloc, if reads_here { "." } else { "-" })?)?;
     }
     if let Err(unread) = push_listed_paths(alloc, tree, lists.as_slice(), &mut paths) {
-        let (shown, why) = (visible_text(alloc, unread.file)?, unread.why);
-        return Err(Failure::Said(format!(in alloc; "{shown}: {why}")?));
+        return Err(unread_file(alloc, unread.file, unread.why)?);
     }
     check_input(alloc, args, paths.as_slice())?;
     Ok(paths)

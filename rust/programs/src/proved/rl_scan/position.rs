@@ -37,12 +37,9 @@ impl Position {
         let from = if self.at <= at { self } else { first };
         let passed = source.get(from.at..at).unwrap_or("");
         match passed.rsplit_once('\n') {
-            Some((lines, inside)) => Position {
+            Some((_, inside)) => Position {
                 at,
-                line: from
-                    .line
-                    .saturating_add(1)
-                    .saturating_add(count_line_feeds(lines)),
+                line: from.line.saturating_add(count_line_feeds(passed)),
                 line_at: at.saturating_sub(inside.len()),
                 column: inside.chars().count().saturating_add(1),
             },

@@ -4,12 +4,12 @@
 use crate::rattle_std::prelude::{String};
 use crate::rl_scan::context::Context;
 use crate::rl_scan::escapes::{Before, Escapes, push_number, push_property, push_text};
-use crate::rl_scan::failure::Failure;
+use crate::rl_scan::failure::{Appended, Done};
 use crate::rl_scan::finding::{Finding, Place};
 use crate::rl_scan::job::{Form, Job};
 use crate::rl_scan::output::Output;
 use crate::rl_scan::position::Position;
-use crate::rattle_std::alloc::{AllocError, Allocator};
+use crate::rattle_std::alloc::Allocator;
 use crate::rattle_std::io::Write;
 
 pub(crate) struct Page<'p, 'a, A: Allocator, W> {
@@ -51,18 +51,11 @@ impl<'p, 'a, A: Allocator + Copy, W: Write> Page<'p, 'a, A, W> {
             path: if path == "-" { None } else { Some(path) },
             head: String::new(alloc),
             position,
-            context: match job.around {
-                Some(around) => Some(Context::new(source, position.at, around)),
-                None => None,
-            },
+            context: job.around.map(|it| Context::new(source, position.at, it)),
         }
     }
 
-    pub(crate) fn report_finding(
-        &mut self,
-        place: Place,
-        finding: Finding<'_>,
-    ) -> Result<(), Failure<A>> {
+    pub(crate) fn report_finding(&mut self, place: Place, finding: Finding<'_>) -> Done<A> {
         if self.job.allows(&finding) {
             return Ok(());
         }
@@ -81,9 +74,9 @@ impl<'p, 'a, A: Allocator + Copy, W: Write> Page<'p, 'a, A, W> {
         self.output.send_if_full()
     }
 
-    pub(crate) fn close(&mut self) -> Result<(), Failure<A>> {
+    pub(crate) fn close(&mut self) -> Done<A> {
         if let Some(context) = &mut self.context {
-            context.print_end(&mut self.output)?;
+            context.print_owed(&mut self.output, self.source.len())?;
         }
         self.output.send()
     }
@@ -95,7 +88,7 @@ impl<'p, 'a, A: Allocator + Copy, W: Write> Page<'p, 'a, A, W> {
         }
     }
 
-    fn push_head(&mut self) -> Result<(), AllocError> {
+    fn push_head(&mut self) -> Appended {
         let Some(path) = self.path else {
             return Ok(());
         };
@@ -119,7 +112,7 @@ impl<'p, 'a, A: Allocator + Copy, W: Write> Page<'p, 'a, A, W> {
         }
     }
 
-    fn push_text_start(&mut self, place: Place) -> Result<(), AllocError> {
+    fn push_text_start(&mut self, place: Place) -> Appended {
         let out = &mut self.output.text;
         out.push_str(self.head.as_str())?;
         self.job.push_color(out, "\x1b[32m")?;
@@ -136,7 +129,7 @@ impl<'p, 'a, A: Allocator + Copy, W: Write> Page<'p, 'a, A, W> {
         out.push_str(if self.path.is_some() { ": " } else { " " })
     }
 
-    fn print_text(&mut self, place: Place, finding: &Finding<'_>) -> Result<(), Failure<A>> {
+    fn print_text(&mut self, place: Place, finding: &Finding<'_>) -> Done<A> {
         if self.context.is_some() || self.job.shows_lines(self.path.is_some()) {
             self.position = self.position.moved(self.source, place.lo);
         }
@@ -159,7 +152,7 @@ impl<'p, 'a, A: Allocator + Copy, W: Write> Page<'p, 'a, A, W> {
         Ok(())
     }
 
-    fn print_object(&mut self, place: Place, finding: &Finding<'_>) -> Result<(), Failure<A>> {
+    fn print_object(&mut self, place: Place, finding: &Finding<'_>) -> Done<A> {
         let start = self.position.moved(self.source, place.lo);
         let end = start.moved(self.source, place.hi);
         self.position = start;
@@ -183,7 +176,7 @@ impl<'p, 'a, A: Allocator + Copy, W: Write> Page<'p, 'a, A, W> {
         Ok(())
     }
 
-    fn print_annotation(&mut self, place: Place, finding: &Finding<'_>) -> Result<(), Failure<A>> {
+    fn print_annotation(&mut self, place: Place, finding: &Finding<'_>) -> Done<A> {
         let start = self.position.moved(self.source, place.lo);
         let end = start.moved(self.source, place.hi);
         self.position = start;

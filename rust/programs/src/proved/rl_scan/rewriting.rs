@@ -1,8 +1,9 @@
 // Rendered from crates/rl_scan/src/rewriting.rt by tools/render, which erases contracts: change that file, and render again.
 //! Rewrites files, or prints the changes that would be made.
 
+use crate::rattle_std::prelude::{Vec};
 use crate::rl_scan::diff::print_diff;
-use crate::rl_scan::errors::{Checks, report_errors};
+use crate::rl_scan::errors::report_errors;
 use crate::rl_scan::failure::Failure;
 use crate::rl_scan::finding::{Finding, Place};
 use crate::rl_scan::modes::Mode;
@@ -16,6 +17,8 @@ use crate::rl_restyle::{RULES, RestyleError, changing_rules, number_of, rewrite_
 use crate::rattle_std::alloc::Allocator;
 use crate::rattle_std::io::Write;
 
+const LONGEST_NAMED: usize = 1 << 20;
+
 fn report_change<A: Allocator + Copy, W: Write>(
     page: &mut Page<'_, '_, A, W>,
     rules: &mut [u64; RULES],
@@ -27,14 +30,17 @@ fn report_change<A: Allocator + Copy, W: Write>(
         return Ok(());
     }
     let before = page.source.get(..old.lo).unwrap_or("");
-    let changing = changing_rules(page.alloc, page.job.style, before, old.text)?;
+    let changing = if old.text.len() > LONGEST_NAMED {
+        Vec::new(page.alloc)
+    } else {
+        changing_rules(page.alloc, page.job.style, before, old.text)?
+    };
     for rule in changing.as_slice() {
         if let Some(count) = rules.get_mut(number_of(*rule)) {
             *count = count.saturating_add(1);
         }
     }
-    let (lo, hi) = (old.lo, old.hi);
-    let (old, rules) = (old.text, changing.as_slice());
+    let (lo, hi, old, rules) = (old.lo, old.hi, old.text, changing.as_slice());
     page.report_finding(Place { lo, hi }, Finding::Change { old, new, rules })
 }
 
@@ -61,8 +67,7 @@ impl<'o, 'e, 'a, A: Allocator + Copy, W: Write, E: Write> Call<'o, 'e, 'a, A, W,
         let job = self.job;
         let job = job.for_errors();
         let mut page = Page::new(self.alloc, &job, path, source, self.err);
-        let (types, strays) = (false, true);
-        report_errors(&mut page, Checks { types, strays })?;
+        report_errors(&mut page, job)?;
         page.close()?;
         Ok(page.count > 0)
     }

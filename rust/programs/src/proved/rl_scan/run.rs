@@ -3,21 +3,22 @@
 
 use crate::rattle_std::prelude::{String, Vec, format};
 use crate::rl_scan::args::{Args, without_mark};
-use crate::rl_scan::errors::report_end;
+use crate::rl_scan::errors::{both, report_end};
 use crate::rl_scan::escapes::{Before, Escapes, push_text};
-use crate::rl_scan::failure::Failure;
+use crate::rl_scan::failure::{Appended, Done, Failure};
 use crate::rl_scan::findings::report_findings;
-use crate::rl_scan::job::{Job, Values};
+use crate::rl_scan::job::{Job, Lists};
+use crate::rl_scan::literal::integers_of;
 use crate::rl_scan::modes::Mode;
 use crate::rl_scan::options::row_named;
 use crate::rl_scan::pages::page_of;
 use crate::rl_scan::paths::{extensions_of, paths_of};
 use crate::rl_scan::print::Page;
 use crate::rl_scan::stats::Tally;
-use crate::rl_scan::style::style_of;
+use crate::rl_scan::style::{kinds_of, style_of};
 use crate::rl_files::{PathError, Replace, Selection, Tree, Visit, Walk, WalkError};
 use crate::rl_program::{Ending, write_bytes};
-use crate::rattle_std::alloc::{AllocError, Allocator};
+use crate::rattle_std::alloc::Allocator;
 use crate::rattle_std::io::Write;
 
 pub struct Console<'o, 'e, W, E> {
@@ -36,7 +37,7 @@ pub(crate) struct Call<'o, 'e, 'a, A: Allocator, W, E> {
 }
 
 impl<'o, 'e, 'a, A: Allocator + Copy, W: Write, E: Write> Call<'o, 'e, 'a, A, W, E> {
-    pub(crate) fn complain(&mut self, path: &str, words: &str) -> Result<(), Failure<A>> {
+    pub(crate) fn complain(&mut self, path: &str, words: &str) -> Done<A> {
         if !self.job.messages {
             return Ok(());
         }
@@ -49,7 +50,7 @@ impl<'o, 'e, 'a, A: Allocator + Copy, W: Write, E: Write> Call<'o, 'e, 'a, A, W,
         Ok(())
     }
 
-    pub(crate) fn complain_why(&mut self, path: &str, why: PathError) -> Result<(), Failure<A>> {
+    pub(crate) fn complain_why(&mut self, path: &str, why: PathError) -> Done<A> {
         let mut words = format!(in self.alloc; "{why}")?;
         if matches!(why, PathError::NotFound) && !path.is_empty() {
             let option = format!(in self.alloc; "--{path}")?;
@@ -62,16 +63,17 @@ impl<'o, 'e, 'a, A: Allocator + Copy, W: Write, E: Write> Call<'o, 'e, 'a, A, W,
         self.complain(without_mark(path), words.as_str())
     }
 
-    fn report_unread(&mut self, path: &str, why: PathError) -> Result<(), Failure<A>> {
+    fn report_unread(&mut self, path: &str, why: PathError) -> Result<bool, Failure<A>> {
         self.complain_why(path, why)?;
-        if !matches!(why, PathError::PathNotUtf8) {
-            self.tally.visited = self.tally.visited.saturating_add(1);
-            self.tally.errors = self.tally.errors.saturating_add(1);
+        if matches!(why, PathError::PathNotUtf8) {
+            return Ok(true);
         }
-        Ok(())
+        self.tally.visited = self.tally.visited.saturating_add(1);
+        self.tally.errors = self.tally.errors.saturating_add(1);
+        Ok(false)
     }
 
-    fn push_file(&self, out: &mut String<A>, path: &str, mark: char) -> Result<(), AllocError> {
+    fn push_file(&self, out: &mut String<A>, path: &str, mark: char) -> Appended {
         self.job.push_color(out, "\x1b[35m")?;
         if self.job.nul {
             out.push_str(path)?;
@@ -82,7 +84,7 @@ impl<'o, 'e, 'a, A: Allocator + Copy, W: Write, E: Write> Call<'o, 'e, 'a, A, W,
         out.push(if self.job.nul { '\0' } else { mark })
     }
 
-    fn print_count(&mut self, path: &str, count: u64) -> Result<(), Failure<A>> {
+    fn print_count(&mut self, path: &str, count: u64) -> Done<A> {
         let mut line = String::new(self.alloc);
         let is_input = path == "-";
         let is_fix = self.job.mode == Mode::Fix && !is_input && !self.job.quiet;
@@ -98,38 +100,29 @@ impl<'o, 'e, 'a, A: Allocator + Copy, W: Write, E: Write> Call<'o, 'e, 'a, A, W,
         Ok(())
     }
 
-    fn print_findings<'t>(&mut self, path: &'t str, source: &'t str) -> Result<u64, Failure<A>> {
-        let job = self.job;
+    fn print_findings<'t>(
+        &mut self,
+        job: Job<'a>,
+        path: &'t str,
+        source: &'t str,
+    ) -> Result<(u64, bool), Failure<A>> {
         let mut page = Page::new(self.alloc, &job, path, source, self.out);
-        let end = report_findings(&mut page)?;
+        let (are_accepted, end) = report_findings(&mut page, job)?;
         page.close()?;
         let count = page.count;
         drop(page);
         if let Some(error) = end {
             let job = job.for_errors();
             let mut errors = Page::new(self.alloc, &job, path, source, self.err);
-            report_end(&mut errors, error)?;
+            report_end(&mut errors, job, error)?;
             errors.close()?;
             drop(errors);
             self.tally.errors = self.tally.errors.saturating_add(1);
         }
-        Ok(count)
+        Ok((count, are_accepted))
     }
 
-    fn report_source<'t, F: Replace>(
-        &mut self,
-        files: &mut F,
-        path: &'t str,
-        source: &'t str,
-    ) -> Result<(), Failure<A>> {
-        self.tally.visited = self.tally.visited.saturating_add(1);
-        self.tally.read = self.tally.read.saturating_add(1);
-        let job = self.job;
-        let count = if job.rewrites() {
-            self.rewrite(files, path, source)?
-        } else {
-            self.print_findings(path, source)?
-        };
+    fn add_findings(&mut self, path: &str, count: u64) -> Done<A> {
         if count == 0 {
             return Ok(());
         }
@@ -138,29 +131,62 @@ impl<'o, 'e, 'a, A: Allocator + Copy, W: Write, E: Write> Call<'o, 'e, 'a, A, W,
         self.print_count(path, count)
     }
 
+    fn report_source<'t, F: Replace>(
+        &mut self,
+        job: Job<'a>,
+        files: &mut F,
+        path: &'t str,
+        source: &'t str,
+    ) -> Result<bool, Failure<A>> {
+        self.tally.visited = self.tally.visited.saturating_add(1);
+        self.tally.read = self.tally.read.saturating_add(1);
+        if job.rewrites() {
+            let count = self.rewrite(files, path, source)?;
+            self.add_findings(path, count)?;
+            return Ok(false);
+        }
+        let (count, are_accepted) = self.print_findings(job, path, source)?;
+        self.add_findings(path, count)?;
+        Ok(are_accepted)
+    }
+
     fn report_file<T: Tree, F: Replace>(
         &mut self,
+        job: Job<'a>,
         tree: &T,
         files: &mut F,
         path: &str,
-    ) -> Result<(), Failure<A>> {
-        if self.job.lists_files {
+    ) -> Result<bool, Failure<A>> {
+        if job.lists_files {
             self.tally.visited = self.tally.visited.saturating_add(1);
             if self.job.quiet {
-                return Ok(());
+                return Ok(false);
             }
             let mut line = String::new(self.alloc);
             self.push_file(&mut line, path, '\n')?;
             write_bytes(self.out, line.as_bytes())?;
-            return Ok(());
+            return Ok(false);
         }
         let bytes = match tree.bytes(self.alloc, path) {
             Ok(bytes) => bytes,
             Err(why) => return self.report_unread(path, why),
         };
         match crate::rattle_std::str::from_utf8(bytes.as_slice()) {
-            Ok(source) => self.report_source(files, path, source),
+            Ok(source) => self.report_source(job, files, path, source),
             Err(error) => self.report_unread(path, PathError::NotUtf8(error.valid_up_to())),
+        }
+    }
+
+    fn report_visit<T: Tree, F: Replace>(
+        &mut self,
+        job: Job<'a>,
+        tree: &T,
+        files: &mut F,
+        visit: Visit<A>,
+    ) -> Result<bool, Failure<A>> {
+        match visit {
+            Visit::File(path) => self.report_file(job, tree, files, path.as_str()),
+            Visit::Failed(path, why) => self.report_unread(path.as_str(), why),
         }
     }
 
@@ -170,12 +196,16 @@ impl<'o, 'e, 'a, A: Allocator + Copy, W: Write, E: Write> Call<'o, 'e, 'a, A, W,
         files: &mut F,
         walk: &mut Walk<A>,
         selection: Selection<'_>,
-    ) -> Result<(), Failure<A>> {
+    ) -> Result<bool, Failure<A>> {
+        let job = self.job;
+        let mut are_accepted = true;
         for _ in 0..u64::MAX {
             match walk.next(self.alloc, selection, tree) {
-                Ok(None) => return Ok(()),
-                Ok(Some(Visit::File(path))) => self.report_file(tree, files, path.as_str())?,
-                Ok(Some(Visit::Failed(path, why))) => self.report_unread(path.as_str(), why)?,
+                Ok(None) => return Ok(are_accepted),
+                Ok(Some(visit)) => {
+                    let is_accepted = self.report_visit(job, tree, files, visit)?;
+                    are_accepted = both(is_accepted, are_accepted);
+                }
                 Err(WalkError::OutOfMemory) => return Err(Failure::Memory),
                 Err(WalkError::TooManyDirectories) => break,
             }
@@ -184,16 +214,30 @@ impl<'o, 'e, 'a, A: Allocator + Copy, W: Write, E: Write> Call<'o, 'e, 'a, A, W,
     }
 }
 
-fn selection_of<'x>(
-    all: bool,
-    extensions: &'x [&'x str],
-    excludes: &'x [&'x str],
-) -> Selection<'x> {
-    Selection {
-        all,
-        extensions,
-        excludes,
+fn run_walk<A: Allocator + Copy, T: Tree, W: Write, E: Write, F: Replace>(
+    call: &mut Call<'_, '_, '_, A, W, E>,
+    selection: Selection<'_>,
+    tree: &T,
+    files: &mut F,
+    paths: &mut Vec<String<A>, A>,
+) -> Result<u8, Failure<A>> {
+    let (alloc, job, has_paths) = (call.alloc, call.job, !paths.is_empty());
+    let mut walk = Walk::of_paths(alloc, paths)?;
+    let are_accepted = match call.report_files(tree, files, &mut walk, selection) {
+        Ok(are_accepted) => are_accepted,
+        Err(Failure::Closed) if job.mode == Mode::Fix => return Err(Failure::Write),
+        Err(failure) => return Err(failure),
+    };
+    if job.stats {
+        call.print_totals()?;
     }
+    if has_paths && call.tally.visited == 0 {
+        return Err(Failure::said(alloc, "there was no file to read"));
+    }
+    if call.tally.errors > 0 {
+        return Ok(2);
+    }
+    Ok(job.status(call.tally.findings, are_accepted))
 }
 
 fn run_call<A: Allocator + Copy, T: Tree, W: Write, E: Write, F: Replace>(
@@ -203,28 +247,14 @@ fn run_call<A: Allocator + Copy, T: Tree, W: Write, E: Write, F: Replace>(
     files: &mut F,
     paths: &mut Vec<String<A>, A>,
 ) -> Result<u8, Failure<A>> {
-    let (alloc, has_paths) = (call.alloc, !paths.is_empty());
-    let extensions = extensions_of(alloc, args)?;
-    let excludes = args.all(alloc, "--exclude")?;
-    let all = args.has("--all");
-    let selection = selection_of(all, extensions.as_slice(), excludes.as_slice());
-    let mut walk = Walk::of_paths(alloc, paths)?;
-    match call.report_files(tree, files, &mut walk, selection) {
-        Ok(()) => {}
-        Err(Failure::Closed) if call.job.mode == Mode::Fix => return Err(Failure::Write),
-        Err(failure) => return Err(failure),
-    }
-    if call.job.stats {
-        call.print_totals()?;
-    }
-    if has_paths && call.tally.visited == 0 {
-        return Err(Failure::said(alloc, "there was no file to read"));
-    }
-    if call.tally.errors > 0 {
-        return Ok(2);
-    }
-    let job = call.job;
-    Ok(job.status(call.tally.findings))
+    let extensions = extensions_of(call.alloc, args)?;
+    let excludes = args.all(call.alloc, "--exclude")?;
+    let selection = Selection {
+        all: args.has("--all"),
+        extensions: extensions.as_slice(),
+        excludes: excludes.as_slice(),
+    };
+    run_walk(call, selection, tree, files, paths)
 }
 
 fn run_options<A: Allocator + Copy, T: Tree, W: Write, E: Write, F: Replace>(
@@ -235,14 +265,22 @@ fn run_options<A: Allocator + Copy, T: Tree, W: Write, E: Write, F: Replace>(
     files: &mut F,
 ) -> Result<u8, Failure<A>> {
     let style = style_of(alloc, args, tree)?;
-    let values = Values::of(alloc, args)?;
+    let (finds, allowed) = (args.all(alloc, "--find")?, args.all(alloc, "--allow")?);
+    let numbers = integers_of(alloc, args.all(alloc, "--number")?.as_slice())?;
+    let kinds = kinds_of(alloc, args.last("--only").unwrap_or(""))?;
+    let lists = Lists {
+        finds: finds.as_slice(),
+        numbers: numbers.as_slice(),
+        allowed: allowed.as_slice(),
+        kinds: kinds.as_slice(),
+    };
     let Console {
         lacks_input,
         has_colors,
         out,
         err,
     } = console;
-    let job = Job::of(args, values.lists(), style, has_colors);
+    let job = Job::of(args, lists, style, has_colors);
     let mut paths = paths_of(alloc, args, tree, lacks_input || job.lists_files)?;
     let mut call = Call {
         alloc,

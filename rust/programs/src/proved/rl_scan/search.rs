@@ -5,14 +5,10 @@ use crate::rl_scan::finding::Place;
 use crate::rl_scan::job::Job;
 use crate::rl_scan::literal::Literal;
 use crate::rl_cursors::Segments;
-use crate::rl_syntax::Kind;
 use crate::rattle_std::alloc::{AllocError, Allocator};
 
 fn is_word_byte(byte: Option<&u8>) -> bool {
-    match byte {
-        Some(byte) => byte.is_ascii_alphanumeric() || *byte == b'_' || *byte >= 128,
-        None => false,
-    }
+    byte.is_some_and(|byte| byte.is_ascii_alphanumeric() || *byte == b'_' || *byte >= 128)
 }
 
 fn begins_with(rest: &[u8], sought: &[u8], ignores_case: bool) -> bool {
@@ -47,11 +43,7 @@ fn match_in(value: &[u8], job: &Job<'_>) -> Option<Place> {
     let mut best: Option<Place> = None;
     for sought in job.lists.finds {
         if let Some(lo) = first_in(value, sought.as_bytes(), job) {
-            let is_first = match best {
-                Some(place) => lo < place.lo,
-                None => true,
-            };
-            if is_first {
+            if best.is_none_or(|place| lo < place.lo) {
                 let hi = lo.saturating_add(sought.len());
                 best = Some(Place { lo, hi });
             }
@@ -65,17 +57,8 @@ fn text_match<A: Allocator + Copy>(
     job: &Job<'_>,
     literal: &Literal<'_>,
 ) -> Result<Option<Place>, AllocError> {
-    if matches!(
-        literal.kind(),
-        None | Some(Kind::Int | Kind::Float | Kind::Bool)
-    ) {
-        return Ok(None);
-    }
     if let Some((start, value)) = literal.plain_value() {
-        return Ok(match match_in(value.as_bytes(), job) {
-            Some(place) => Some(place.after(start)),
-            None => None,
-        });
+        return Ok(match_in(value.as_bytes(), job).map(|place| place.after(start)));
     }
     let value = literal.value(alloc)?;
     match match_in(value.as_slice(), job) {

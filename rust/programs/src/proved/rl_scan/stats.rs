@@ -2,12 +2,12 @@
 //! The totals of a run.
 
 use crate::rattle_std::prelude::{String};
-use crate::rl_scan::failure::Failure;
+use crate::rl_scan::failure::{Appended, Done};
 use crate::rl_scan::job::Form;
 use crate::rl_scan::run::Call;
 use crate::rl_program::write_bytes;
 use crate::rl_restyle::{RULES, number_of, settable_rules};
-use crate::rattle_std::alloc::{AllocError, Allocator};
+use crate::rattle_std::alloc::Allocator;
 use crate::rattle_std::io::Write;
 
 #[derive(Clone, Copy)]
@@ -39,7 +39,7 @@ fn push_rule_counts<A: Allocator>(
     text: &mut String<A>,
     is_json: bool,
     counts: &[u64; RULES],
-) -> Result<(), AllocError> {
+) -> Appended {
     let mut is_first = true;
     if is_json {
         text.push_str(",\"rules\":{")?;
@@ -59,11 +59,12 @@ fn push_rule_counts<A: Allocator>(
 }
 
 impl<'o, 'e, 'a, A: Allocator + Copy, W: Write, E: Write> Call<'o, 'e, 'a, A, W, E> {
-    pub(crate) fn print_totals(&mut self) -> Result<(), Failure<A>> {
+    pub(crate) fn print_totals(&mut self) -> Done<A> {
         let mut text = String::new(self.alloc);
         let (read, with_findings) = (self.tally.read, self.tally.with_findings);
         let (findings, errors) = (self.tally.findings, self.tally.errors);
-        let is_json = matches!(self.job.form, Form::Json);
+        let job = self.job;
+        let is_json = matches!(job.form, Form::Json);
         if is_json {
             write!(
                 text,
@@ -75,7 +76,6 @@ impl<'o, 'e, 'a, A: Allocator + Copy, W: Write, E: Write> Call<'o, 'e, 'a, A, W,
                 "files: {read}\nfiles with findings: {with_findings}\nfindings: {findings}\nfiles with an error: {errors}"
             )?;
         }
-        let job = self.job;
         if job.rewrites() {
             push_rule_counts(&mut text, is_json, &self.tally.rules)?;
         }

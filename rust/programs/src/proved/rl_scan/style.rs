@@ -5,6 +5,7 @@ use crate::rattle_std::prelude::{String, Vec, format};
 use crate::rl_scan::args::Args;
 use crate::rl_scan::checks::list_contains;
 use crate::rl_scan::failure::Failure;
+use crate::rl_scan::position::Position;
 use crate::rl_files::{PathError, Tree, push_visible, visible_text};
 use crate::rl_lenient::parse_literal;
 use crate::rl_lexer::{Sources, without_byte_order_mark};
@@ -57,11 +58,6 @@ pub(crate) fn is_near(word: &str, meant: &str) -> bool {
     true
 }
 
-pub(crate) fn option_part(word: &str) -> &str {
-    let (option, _) = word.split_once('=').unwrap_or((word, ""));
-    option
-}
-
 fn is_bare_string(value: &str) -> bool {
     let bytes = value.as_bytes();
     bytes.iter().all(|b| b.is_ascii_alphabetic() || *b == b'_')
@@ -81,7 +77,7 @@ fn settings_text<A: Allocator>(alloc: A, settings: &[&str]) -> Result<String<A>,
     Ok(text)
 }
 
-pub(crate) fn unread<A: Allocator + Copy>(
+pub(crate) fn unread_file<A: Allocator + Copy>(
     alloc: A,
     file: &str,
     why: PathError,
@@ -108,12 +104,7 @@ fn style_failure<A: Allocator + Copy>(
     text: &str,
     error: &StyleError<'_>,
 ) -> Result<Failure<A>, AllocError> {
-    let mut line = 1_usize;
-    for byte in text.as_bytes().get(..error.lo).unwrap_or(b"".as_slice()) {
-        if *byte == b'\n' {
-            line = line.saturating_add(1);
-        }
-    }
+    let line = Position::first(text).moved(text, error.lo).line;
     let mut words = visible_text(alloc, name)?;
     write!(words, ":{line}: ")?;
     if let Some(entry) = error.name {
@@ -191,11 +182,11 @@ pub(crate) fn style_of<A: Allocator + Copy, T: Tree>(
     if let Some(file) = args.last("--style") {
         let bytes = match tree.bytes(alloc, file) {
             Ok(bytes) => bytes,
-            Err(why) => return Err(unread(alloc, file, why)?),
+            Err(why) => return Err(unread_file(alloc, file, why)?),
         };
         return match crate::rattle_std::str::from_utf8(bytes.as_slice()) {
             Ok(text) => parsed_style(alloc, file, without_byte_order_mark(text)),
-            Err(error) => Err(unread(alloc, file, PathError::NotUtf8(error.valid_up_to()))?),
+            Err(error) => Err(unread_file(alloc, file, PathError::NotUtf8(error.valid_up_to()))?),
         };
     }
     let rules = args.all(alloc, "--rule")?;

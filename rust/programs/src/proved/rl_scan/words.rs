@@ -3,23 +3,20 @@
 
 use crate::rattle_std::prelude::{String};
 use crate::rl_scan::escapes::Escapes;
-use crate::rl_scan::failure::Failure;
+use crate::rl_scan::failure::{Appended, Done};
 use crate::rl_scan::finding::{Fault, Finding};
+use crate::rl_scan::hidden::bidi_name;
 use crate::rl_scan::literal::Literal;
 use crate::rl_scan::print::Page;
 use crate::rl_program::label_of;
 use crate::rl_restyle::Rule;
 use crate::rl_syntax::Kind;
-use crate::rattle_std::alloc::{AllocError, Allocator};
+use crate::rattle_std::alloc::Allocator;
 use crate::rattle_std::io::Write;
 
 const LONGEST: usize = 1024;
 
-fn push_names<A: Allocator>(
-    out: &mut String<A>,
-    separator: &str,
-    rules: &[Rule],
-) -> Result<(), AllocError> {
+fn push_names<A: Allocator>(out: &mut String<A>, separator: &str, rules: &[Rule]) -> Appended {
     let mut is_first = true;
     for rule in rules {
         if !is_first {
@@ -38,7 +35,7 @@ fn digits_in(line: &str) -> &str {
 }
 
 impl<'p, 'a, A: Allocator + Copy, W: Write> Page<'p, 'a, A, W> {
-    pub(crate) fn print_words(&mut self, finding: &Finding<'_>) -> Result<(), Failure<A>> {
+    pub(crate) fn print_words(&mut self, finding: &Finding<'_>) -> Done<A> {
         let (within, escapes) = (self.within(), Escapes::Literal);
         match finding {
             Finding::Literal(literal) if self.job.as_written => {
@@ -59,8 +56,8 @@ impl<'p, 'a, A: Allocator + Copy, W: Write> Page<'p, 'a, A, W> {
                 self.output.text.push_str(": ")?;
                 self.output.print(escapes, within, fault.piece)
             }
-            Finding::Hidden { c, name, .. } => {
-                let code = *c as u32;
+            Finding::Hidden(c) => {
+                let (code, name) = (*c as u32, bidi_name(*c));
                 write!(self.output.text, "U+{code:04X}{name}")?;
                 Ok(())
             }
@@ -76,7 +73,7 @@ impl<'p, 'a, A: Allocator + Copy, W: Write> Page<'p, 'a, A, W> {
         }
     }
 
-    fn print_value(&mut self, literal: &Literal<'_>) -> Result<(), Failure<A>> {
+    fn print_value(&mut self, literal: &Literal<'_>) -> Done<A> {
         if let (Some(Kind::Str), Some((_, value))) = (literal.kind(), literal.plain_value()) {
             return self.output.print_json("", value);
         }
@@ -101,7 +98,7 @@ impl<'p, 'a, A: Allocator + Copy, W: Write> Page<'p, 'a, A, W> {
         Ok(())
     }
 
-    fn print_fault(&mut self, fault: &Fault<'_>) -> Result<(), Failure<A>> {
+    fn print_fault(&mut self, fault: &Fault<'_>) -> Done<A> {
         match fault.literal {
             Some(text) if text.len() > LONGEST => self.output.text.push_str(",\"text\":null")?,
             Some(text) => self.output.print_json(",\"text\":", text)?,
@@ -115,7 +112,7 @@ impl<'p, 'a, A: Allocator + Copy, W: Write> Page<'p, 'a, A, W> {
         self.output.print_json(",\"piece\":", fault.piece)
     }
 
-    pub(crate) fn print_members(&mut self, finding: &Finding<'_>) -> Result<(), Failure<A>> {
+    pub(crate) fn print_members(&mut self, finding: &Finding<'_>) -> Done<A> {
         match finding {
             Finding::Literal(literal) => {
                 self.output
@@ -126,8 +123,8 @@ impl<'p, 'a, A: Allocator + Copy, W: Write> Page<'p, 'a, A, W> {
                 self.output.print_json(",\"suffix\":", literal.suffix())
             }
             Finding::Error(fault) => self.print_fault(fault),
-            Finding::Hidden { id, c, name } => {
-                let code = *c as u32;
+            Finding::Hidden(c) => {
+                let (id, code, name) = (finding.id(), *c as u32, bidi_name(*c));
                 write!(
                     self.output.text,
                     ",\"id\":\"{id}\",\"hidden\":\"U+{code:04X}{name}\""

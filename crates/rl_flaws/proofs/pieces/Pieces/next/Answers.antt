@@ -12,5 +12,5 @@ returns-then-not-is_empty c = rw (← c.self.view_is) (
 )
 
 pub invariant_of-self-2 : goal.invariant_of-self-2
-invariant_of-self-2 c = pieces_left _ _ _ _ _ c.self.inside.left _ c.self.invariant.same c.next_flaw-judged.ensures.same
-    (c.next_flaw-judged.ensures.good refl) c.next_flaw-judged.ensures.left
+invariant_of-self-2 c = pieces_left _ _ _ _ _ _ c.self.inside.left _ c.self.invariant.same c.next_flaw-judged.ensures.same
+    c.next_flaw-judged.ensures.good c.next_flaw-judged.ensures.left

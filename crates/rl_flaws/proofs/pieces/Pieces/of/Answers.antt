@@ -1,4 +1,4 @@
-use Rattle.rl_flaws.proofs.Names.{Bool, length, refl, rules, subst, sym, IsUtf8, Text, state_of, segments_at, Inside}
+use Rattle.rl_flaws.proofs.Names.{Bool, length, rules, subst, sym, IsUtf8, state_of, segments_at, Inside}
 use Rattle.rl_flaws.specs.Pieces.{IsGoodInside}
 use Rattle.rl_flaws.proofs.WalkLemmas.{opened_bytes}
 use Rattle.rl_flaws.proofs.WholeLemmas.{opened_flaws}
@@ -12,12 +12,12 @@ next_flaw_inside-judged-requires c =
 pub returns-in-Some-clause-some : goal.returns-in-Some-clause-some
 returns-in-Some-clause-some c =
     let o = c.in-Some.opened in
-    let flaws = state_of Text (length c.args.text.now) (Inside o c.in-Some.inside) in (
+    let flaws = state_of c.args.ends (length c.args.text.now) (Inside o c.in-Some.inside) in (
       flaws,
-      opened_flaws o c.args.text.now c.in-Some.inside c.in-Some.ensures.some c.in-Some.ensures.cut Text,
+      opened_flaws o c.args.text.now c.in-Some.inside c.in-Some.ensures.some c.in-Some.ensures.cut c.args.ends,
       record {
         good = subst (λ (b : Bool). IsGoodInside o.kind flaws (segments_at o.kind b c.next_flaw_inside-judged.result.end
-            c.next_flaw_inside-judged.result.good.now)) (sym c.is_raw.ensures) (c.next_flaw_inside-judged.ensures.good refl).0;
+            c.next_flaw_inside-judged.result.good.now)) (sym c.is_raw.ensures) c.next_flaw_inside-judged.ensures.good.0;
         gives = c.next_flaw_inside-judged.ensures.gives;
       },
     )

@@ -1,0 +1,44 @@
+-- The error for a value of another kind than its setting expects is at the value.
+use Rattle.std.proofs.Common.{◌≡◌, ℕ, List, Option, Result, refl}
+use Rattle.rust_literals.specs.declared.lit.Lit.{Lit}
+use Rattle.rust_literals.specs.declared.lit.Lit.TheVariants as lits
+use Rattle.rust_literals.specs.LitParts.{lit_span}
+use Rattle.rl_attributes.specs.declared.settings.Setting.{Setting}
+use Rattle.rl_attributes.specs.declared.settings.SettingError.{SettingError}
+use Rattle.rl_attributes.specs.Settings.{RejectsNumber, RejectsString, RejectsTruth, span_of}
+
+pub a_rejected_number_is_at_the_value : {A N E : Type 0} (gives : List ℕ → Result N E → Type 0) (output : E → Option (List ℕ)) (s : Setting)
+    (l : Lit A) (e : SettingError A) → RejectsNumber gives output s l e → span_of e ≡ lit_span l
+a_rejected_number_is_at_the_value gives output s (lits.Int l) e (why, is, r) = rw is r.told.span_is
+a_rejected_number_is_at_the_value gives output s (lits.Float l) e (why, is, r) = rw is r.told.span_is
+a_rejected_number_is_at_the_value gives output s (lits.Str l) e is = rw is refl
+a_rejected_number_is_at_the_value gives output s (lits.ByteStr l) e is = rw is refl
+a_rejected_number_is_at_the_value gives output s (lits.CStr l) e is = rw is refl
+a_rejected_number_is_at_the_value gives output s (lits.Byte l) e is = rw is refl
+a_rejected_number_is_at_the_value gives output s (lits.Char l) e is = rw is refl
+a_rejected_number_is_at_the_value gives output s (lits.Bool l) e is = rw is refl
+a_rejected_number_is_at_the_value gives output s (lits.Verbatim l) e is = rw is refl
+
+pub string_at : {A : Type 0} (s : Setting) (l : Lit A) (e : SettingError A) → RejectsString s l e
+    → span_of e ≡ lit_span l
+string_at s (lits.Str l) e is = rw is refl
+string_at s (lits.ByteStr l) e is = rw is refl
+string_at s (lits.CStr l) e is = rw is refl
+string_at s (lits.Byte l) e is = rw is refl
+string_at s (lits.Char l) e is = rw is refl
+string_at s (lits.Int l) e is = rw is refl
+string_at s (lits.Float l) e is = rw is refl
+string_at s (lits.Bool l) e is = rw is refl
+string_at s (lits.Verbatim l) e is = rw is refl
+
+pub truth_at : {A : Type 0} (s : Setting) (l : Lit A) (e : SettingError A) → RejectsTruth s l e
+    → span_of e ≡ lit_span l
+truth_at s (lits.Str l) e is = rw is refl
+truth_at s (lits.ByteStr l) e is = rw is refl
+truth_at s (lits.CStr l) e is = rw is refl
+truth_at s (lits.Byte l) e is = rw is refl
+truth_at s (lits.Char l) e is = rw is refl
+truth_at s (lits.Int l) e is = rw is refl
+truth_at s (lits.Float l) e is = rw is refl
+truth_at s (lits.Bool l) e is = absurd is
+truth_at s (lits.Verbatim l) e is = rw is refl
