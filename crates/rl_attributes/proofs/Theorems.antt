@@ -8,9 +8,9 @@ use Rattle.std.proofs.Common.{◌↔◌, List, Any}
 use Rattle.rl_attributes.specs.declared.attributes.Entry.{Entry}
 use Rattle.rl_attributes.specs.Attributes.{Attribute}
 use Rattle.rl_attributes.specs.Entries.{attribute_of, attributes_of}
-use Rattle.rl_attributes.specs.Laws.{AStringIsParsedFromItsText, ABoolIsParsedFromItsText, TheTextTellsTheKind, TheTextTellsTheSuffix, AMalformedLiteralHasNoReading, OnlyAnAllocationFailureRejectsAString, ABoolIsAccepted, KnownNamesAreTheSettings, ARejectedStringIsAtTheValue, ARejectedBoolIsAtTheValue}
+use Rattle.rl_attributes.specs.Laws.{AStringIsParsedFromItsText, ABoolIsParsedFromItsText, TheTextTellsTheKind, TheTextTellsTheSuffix, AMalformedLiteralHasNoReading, OnlyAnAllocationFailureRejectsAString, ABoolIsAccepted, KnownNamesAreTheSettings, ARejectedStringIsAtTheValue, ARejectedBoolIsAtTheValue, ARejectedUnsignedIsAtTheValue}
 pub use Rattle.rl_attributes.proofs.ValuePlaces.{a_rejected_number_is_at_the_value}
-use Rattle.rl_attributes.proofs.ValuePlaces.{string_at, truth_at}
+use Rattle.rl_attributes.proofs.ValuePlaces.{string_at, truth_at, unsigned_at}
 use Rattle.rl_attributes.proofs.TextLemmas.{string_in_text, truth_reads, is_kind, suffix_is, malformed, string_memory, truth_fits, knows_one, one_known, any_map, any_unmap}
 
 pub a_string_is_parsed_from_its_text : {A B : Type 0} → AStringIsParsedFromItsText A B
@@ -46,3 +46,6 @@ a_rejected_string_is_at_the_value = string_at
 
 pub a_rejected_bool_is_at_the_value : {A : Type 0} → ARejectedBoolIsAtTheValue A
 a_rejected_bool_is_at_the_value = truth_at
+
+pub a_rejected_unsigned_is_at_the_value : {A : Type 0} → ARejectedUnsignedIsAtTheValue A
+a_rejected_unsigned_is_at_the_value = unsigned_at
