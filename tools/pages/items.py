@@ -70,6 +70,12 @@ def docs_before(text, at):
     return '\n'.join(re.findall(r'(?m)^ */// ?(.*)', above))
 
 
+def first_sentence(docs):
+    first = re.split(r'\n\n|\n#', docs.strip())[0].replace('\n', ' ')
+    first = re.sub(r'\[(`[^`]*`)\](\([^)]*\)|\[[^\]]*\])?', r'\1', first)
+    return re.split(r'(?<=[.;:])\s', first, maxsplit=1)[0].rstrip(';:')
+
+
 class Holder(NamedTuple):
     """The block of an impl or a trait: its range, its type or trait, whether it is a trait, and whether it implements one."""
     start: int
