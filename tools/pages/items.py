@@ -91,7 +91,7 @@ def holders(code):
     found = []
     for it in head.finditer(code):
         is_trait, of_trait = it[1] == 'pub trait', ' for ' in it[2]
-        name = re.match(r'\w+', it[2] if is_trait else re.sub(r'.* for ', '', it[2]))[0]
+        name = re.match(r'\W*(\w*)', it[2] if is_trait else re.sub(r'.* for ', '', it[2]))[1]
         found.append(Holder(it.start(), closing(code, code.find('{', it.start())), name, is_trait, of_trait))
     return found
 
