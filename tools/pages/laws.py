@@ -87,7 +87,7 @@ def all_laws():
                 # A lemma has the name of the statement that it proves.
                 lemma = re.sub(r'(?<!^)(?=[A-Z])', '_', name.split(' ')[0]).lower()
                 if statement(name):
-                    found[lemma] = modules[lemma], [*comment, f'{lemma} : {name}', f'    = {statement(name)}']
+                    found[lemma] = modules[lemma], [*comment, f'{lemma} : {name} = {statement(name)}']
     return found
 
 
