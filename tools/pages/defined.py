@@ -77,9 +77,10 @@ def found_in(module, name):
 def lines_of(it, length):
     """Returns a definition as few lines: its comment, and its fields or equations one after another."""
     comment = ' '.join(re.findall(r'(?m)^-- (.*)', it.text))
-    code = re.sub(r'(?m)^(?:--|infixr? |(?:abbrev )?mutual$).*\n', '', it.text)
+    code = re.sub(r'(?m)^ *(?:--|infixr? |(?:abbrev )?mutual$).*\n', '', it.text)
+    code = re.sub(r'(?m)^  ', '', code) if re.search(r'(?m)^(?:abbrev )?mutual$', it.text) else code
     code = re.sub(r'(?m)^( *)(?:(?:abbrev|unfoldable|pub) )+', r'\1', code).replace(' : Type 0 where', ' where')
     # A line begins a definition, an equation, a field or a constructor, or continues the line above.
-    parts = [' '.join(it.split()) for it in re.split(r'\n(?=(?:  )?(?:data |record )|\S|  +[\w-]+ : )', code)]
+    parts = [' '.join(it.split()) for it in re.split(r'\n(?=\S|  [\w-]+ : )', code)]
     whole = '; '.join(parts).replace(' where; ', ' where ')
     return [*(['-- ' + comment] if comment else []), *textwrap.wrap(whole, length, subsequent_indent='    ', break_long_words=False)]
