@@ -13,7 +13,7 @@ def commands():
     """Runs the calls of programs that the pages show. Each call is a line after `$`, with its output below it. Yields each
     call, a bool, and the call's output. The bool is true if the output is as shown."""
     found_first = dict(os.environ, PATH=f'{programs.cargo_folder()}:{os.environ["PATH"]}')
-    shown = ''.join(map(read, ('README.md', 'docs/PROGRAMS.md', 'docs/DIFFERENCES.md')))
+    shown = ''.join(map(read, ('README.md', 'docs/PROGRAMS.md', 'docs/DIFFERENCES.md', 'docs/ERRORS.md')))
     for block in re.findall(r'```sh\n(\$.*?)```', shown, re.S):
         for call in re.split(r'^\$ ', block, flags=re.M)[1:]:
             command, wanted = call.split('\n', 1)
