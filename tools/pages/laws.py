@@ -21,14 +21,16 @@ GROUPS = {
         a_taken_literal_is_a_next_literal""",
     'Token trees begin with one literal, character or group': """
         a_front_is_one a_lit_front_is_one a_peek_tells_a_literal a_peek_tells_a_bool a_peek_tells_the_kind
-        a_peeked_mark_is_at_the_front a_mark_has_one_rest a_group_has_one_inside a_group_is_no_mark a_group_is_no_front""",
+        a_peeked_mark_is_at_the_front a_mark_has_one_rest joint_marks_have_one_rest a_group_has_one_inside a_group_is_no_mark
+        a_group_is_no_front""",
     'A parser returns what is there, its steps are one step, and it ends': """
         a_parser_of_a_kind_is_exact a_parser_of_lit_is_exact a_rest_of_a_rest_is_a_rest a_literal_leaves_fewer_trees
         a_step_is_lighter a_mark_is_lighter an_inside_is_lighter""",
     'A setting has its value, and its error is at the value': """
         a_string_is_parsed_from_its_text a_bool_is_parsed_from_its_text the_text_tells_the_kind the_text_tells_the_suffix
         a_malformed_literal_has_no_reading only_an_allocation_failure_rejects_a_string a_bool_is_accepted
-        a_rejected_string_is_at_the_value a_rejected_bool_is_at_the_value known_names_are_the_settings""",
+        a_rejected_string_is_at_the_value a_rejected_bool_is_at_the_value a_rejected_unsigned_is_at_the_value
+        known_names_are_the_settings""",
     'What was written is read': """
         a_written_value_reads a_written_value_is_strict a_printed_list_is_read a_str_list_is_read a_str_list_is_printed
         printed_literals_lex_to_their_trees reprinted_literals_lex_to_themselves""",

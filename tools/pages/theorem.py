@@ -21,7 +21,6 @@ that they need, in groups, and the names of Rattle's standard library. `rt check
 
 - The contracts without the loop over a list (`literal_at`, `both_ways`) and `read_again` need {headline_n} definitions in
   {headline_n_lines} lines, of which {headline_n_code} aren't comments.
-- With `read_again`, these are {again} definitions in {again_lines} lines, of which {again_code} aren't comments.
 - All contracts need {all} definitions in {all_lines} lines, of which {all_code} aren't comments, and {types} types of the code in
   {types_lines} lines.
 
@@ -34,17 +33,26 @@ How to read it:
   that a writer returns for a string, bytes, a C string, a byte or a character.
 - A token (`Literal`) and each of `LitStr`, `LitByteStr`, `LitCStr`, `LitByte`, `LitChar`, `LitInt` and `LitFloat` is a text in UTF-8,
   held as bytes, and a span: `SpannedText`. A `LitBool` is a `bool` and a span. `Kept` is an error, and the value that is handed back.
-- `⊎` is *or*, `×` is *and* or *there is*, `→` is *for all* or *implies*, `≡` is *equals*, `⊥` is *false*, and `⊤` is *true*.
+- `⊎` is *or*, `×` is *and* or *there is*, `→` is *for all* or *implies*, `≡` is *equals*, `≢` is *differs from*, `⊥` is *false*,
+  and `⊤` is *true*. An operator in this list binds tighter than those after it: a field such as `l.text`; a function and its
+  arguments; `^`; `*`, `/` and `%`; `∷`; `+`, `-` and `++`; `==` and `is`; `&&`; `⋅` and `||`; `∣`; `≡` and `≢`; `×`; `⊎`; `→`.
 - `pub record` begins a structure, or a statement that consists of its fields. `pub data` lists constructors. Other definitions
-  consist of equations, of which the first that fits counts. `StrKind` and the like are the variants of `Kind`.
+  consist of equations, of which the first that fits counts. `record {{ a = x }}` is the record with these fields, and
+  `record r {{ a = x }}` is `r` with another `a`. `p.0` and `p.1` are the parts of a pair. `suc n` is `n + 1`. `StrKind` and the like
+  are the variants of `Kind`.
 - `∷` puts an element before a list, and `++` joins two lists. `codes "ab"` is the list of the codes of `a` and `b`.
   `digits_onto m 10 false n []` is the digits of `n` in base ten, if `m` is above the number of the digits.
-- `IsTrue b` states that a test succeeds. `IfOk result (λ x. P)` states `P` of the value `x` if the result is `Ok`.
+- `IsTrue b` states that a test succeeds. `IfOk result (λ x. P)` states `P` of the value `x` if the result is `Ok`, and
+  `IfErr result (λ e. P)` states `P` of the error `e` if it is `Err`.
 - `Memory` is the error for a failed allocation. No contract states that an allocation fails if `Memory` is returned, or that one
   succeeds: Rattle's allocators promise neither. So a function that always returned `Memory` would fulfill each contract except that
   of `literal_at`, which allocates nothing, and that of `suffix_of`.
 - Each grammar consists of rules. Rust's are those of the Rust Reference, `syn`'s are those of its parser. Not all that `syn` parses is
   Rust's. That the rules are those of rustc and `syn` isn't proved, but [compared](COMPARISON.md).
+- No contract states that an integer above 128 bits has no parse result. It follows from the rules of `syn_literal`: `Int` tests the
+  number, and `Float` excludes integers of any size. The lemma `read_within` in `crates/rl_strict/proofs/LimitLemmas.antt` proves it of
+  `Reads`, the definition that agrees with these rules by the law `syn_literals_are_by_the_rules`. By the law
+  `a_strict_literal_is_a_syn_literal_or_above_128_bits` in `crates/rl_strict/src/laws.rt`, every other strict text has a parse result.
 - The page leaves out the bodies of the functions, which only call the libraries. Except for `read_again`, nothing is stated about
   reading a text that isn't a printed list.
 """
@@ -123,7 +131,7 @@ def page():
     parts['Names of the standard library'] = [f'{module}: {", ".join(sorted(those))}' for module, those in sorted(standard.items())]
     body = ''.join('\n'.join([f'\n## {title}\n', '```text', *those, '```', '']) for title, those in parts.items())
     counts = figures('types', [it for it in found if it.path.endswith('.rt')])
-    for name, without in {'headline_n': BESIDE, 'again': BESIDE - {'read_again'}, 'all': ()}.items():
+    for name, without in {'headline_n': BESIDE, 'all': ()}.items():
         counts |= figures(name, [it for it in definitions(without)[0] if it.path.endswith('.antt')])
     headline = re.search(r'(?m)^> .*', read('docs/PROVED.md'))[0]
     return INTRODUCTION.format(headline=headline, **counts) + body
