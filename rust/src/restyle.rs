@@ -1,13 +1,14 @@
 //! Rewriting of the literals of whole sources in a style.
 
 use crate::list_error::ListError;
-use crate::rewrite::{rewrite_in_context, room_for};
+use crate::rewrite::rewrite_in_context;
 use crate::rl_style::{
-    all_rules, is_changed_by_style, is_safe_to_restyle, Restylable, Restylables,
+    all_rules, growth, is_changed_by_style, is_safe_to_restyle, Restylable, Restylables,
 };
 use crate::style::Style;
 use alloc::borrow::Cow;
 use alloc::string::String;
+use alloc::vec;
 use alloc::vec::Vec;
 use core::fmt;
 use core::iter::FusedIterator;
@@ -192,7 +193,7 @@ impl<'t> Edits<'t> {
 #[inline]
 fn rules_after(before: &str, text: &str, style: Style) -> Vec<&'static str> {
     let style = style.proved();
-    let mut room = room_for(text, style);
+    let mut room = vec![0; text.len() * growth(style, text) + 1];
     let mut is_of = |rule| {
         matches!(
             is_changed_by_style(before, text, style.only(rule), &mut room),

@@ -2,12 +2,11 @@
 //! same value and the same suffix. Only `1.` may become `1.0`, which `concat!` turns into a different text.
 
 use crate::parse_error::ParseError;
-use crate::rl_style::{self, growth, rewrite_within};
+use crate::rl_style::{growth, rewrite_within};
 use crate::style::Style;
 use alloc::borrow::Cow;
 use alloc::string::String;
 use alloc::vec;
-use alloc::vec::Vec;
 
 /// Rewrites a literal in the style. The literal is assumed to be alone, or to follow a space.
 ///
@@ -62,20 +61,13 @@ pub fn rewrite_in_context<'t>(
     text: &'t str,
     style: Style,
 ) -> Result<Cow<'t, str>, ParseError> {
-    let style = style.proved();
-    let mut room = room_for(text, style);
-    let len = rewrite_within(before, text, style, &mut room).map_err(ParseError::of_flaw)?;
-    room.truncate(len);
+    let mut room = vec![0; text.len() * growth(style.proved(), text) + 1];
+    let len = rewrite_within(before, text, style.proved(), &mut room);
+    room.truncate(len.map_err(ParseError::of_flaw)?);
     if room == text.as_bytes() {
         return Ok(Cow::Borrowed(text));
     }
     room.shrink_to_fit();
     let written = String::from_utf8(room);
     Ok(Cow::Owned(written.expect("literals are UTF-8")))
-}
-
-/// Returns a buffer that is long enough for the literal `text` in the style.
-#[inline]
-pub(crate) fn room_for(text: &str, style: rl_style::Style) -> Vec<u8> {
-    vec![0; text.len() * growth(style, text) + 1]
 }
