@@ -244,21 +244,30 @@ impl<'a, A: Allocator> ParseBuffer<'a, A> {
 
     /// Consumes the next token trees if they are the punctuation characters of `marks`, for example `..=`, and nothing is
     /// between the characters. Returns the span of the characters. Otherwise, and if `marks` is empty, the result is
-    /// `None` and the buffer is unchanged. Like `syn`'s `Token![..=]`, the call doesn't look at the token tree after the
-    /// characters: `..` is also consumed from `..=`.
+    /// `None` and the buffer is unchanged. [`ParseBuffer::error`] creates the error.
+    ///
+    /// The token tree after the characters doesn't matter: `..` is also consumed from `..=`, as by `syn`'s `Token![..]`.
     ///
     /// # Example
     ///
     /// ```
     /// use rl_tokens::{ParseBuffer, Span, lex};
+    /// use rust_literals::LitInt;
     /// use std::alloc::Global;
     ///
-    /// pub fn arrow_span(alloc: Global, text: &str) -> Option<Span> {
+    /// pub fn closed_range(alloc: Global, text: &str) -> Option<(u64, u64)> {
     ///     let stream = lex(alloc, text, 0).ok()?;
-    ///     ParseBuffer::new(stream.trees(), Span::call_site()).joint_puncts("=>")
+    ///     let mut input = ParseBuffer::new(stream.trees(), Span::call_site());
+    ///     let first = input.parse::<LitInt>(alloc).ok()?;
+    ///     input.joint_puncts("..=")?;
+    ///     let last = input.parse::<LitInt>(alloc).ok()?;
+    ///     Some((
+    ///         first.base10_parse(alloc).ok()?,
+    ///         last.base10_parse(alloc).ok()?,
+    ///     ))
     /// }
-    /// // arrow_span(alloc, "=> 80") == Some(Span::new(0, 0, 2))
-    /// // arrow_span(alloc, "= > 80") == None
+    /// // closed_range(alloc, "1..=5") == Some((1, 5))
+    /// // closed_range(alloc, "1 .. = 5") == None
     /// ```
     pub fn joint_puncts(&mut self, marks: &str) -> Option<Span>
         ensures taken { IfSome result

@@ -7,6 +7,7 @@ use crate::rl_tokens::literal::Literal;
 use crate::rl_tokens::punct::{Punct, word_of};
 use crate::rl_tokens::token::{Group, TokenTree};
 use crate::rl_syntax::Span;
+use crate::rl_syntax::text::split_char;
 use crate::rattle_std::alloc::{Allocator, Global};
 
 pub struct ParseBuffer<'a, A: Allocator = Global> {
@@ -93,6 +94,31 @@ impl<'a, A: Allocator> ParseBuffer<'a, A> {
             return None;
         }
         self.punct()
+    }
+
+    pub fn joint_puncts(&mut self, marks: &str) -> Option<Span> {
+        let (ch, more) = split_char(marks)?;
+        let mut ahead = self.fork();
+        let first = ahead.mark(ch)?;
+        let span = ahead.more_puncts(more, first.span())?;
+        self.trees = ahead.trees;
+        Some(span)
+    }
+
+    fn more_puncts(&mut self, marks: &str, before: Span) -> Option<Span> {
+        let Some((ch, more)) = split_char(marks) else {
+            return Some(before);
+        };
+        let at = self.mark(ch)?.span();
+        if at.file != before.file || at.lo != before.hi {
+            return None;
+        }
+        let joined = Span {
+            file: before.file,
+            lo: before.lo,
+            hi: at.hi,
+        };
+        self.more_puncts(more, joined)
     }
 
     pub fn group(&mut self) -> Option<&'a Group<A>> {
