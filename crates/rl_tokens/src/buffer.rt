@@ -66,7 +66,7 @@ impl<'a, A: Allocator> ParseBuffer<'a, A> {
       begins_mark,
       IsAfterMark,
       IsAfterMarks,
-      IsAfterMoreMarks,
+      start_of,
       IsRejection,
       IsRest,
       StaysRest,
@@ -243,8 +243,8 @@ impl<'a, A: Allocator> ParseBuffer<'a, A> {
     }
 
     /// Consumes the next token trees if they are the punctuation characters of `marks`, for example `..=`, and nothing is
-    /// between the characters. Returns the span of the characters. Otherwise, and if `marks` is empty, the result is
-    /// `None` and the buffer is unchanged. [`ParseBuffer::error`] creates the error.
+    /// between the characters. Returns the span of the characters. Otherwise the result is `None`, and the buffer is
+    /// unchanged. [`ParseBuffer::error`] creates the error.
     ///
     /// The token tree after the characters doesn't matter: `..` is also consumed from `..=`, as by `syn`'s `Token![..]`.
     ///
@@ -270,19 +270,20 @@ impl<'a, A: Allocator> ParseBuffer<'a, A> {
     /// // closed_range(alloc, "1 .. = 5") == None
     /// ```
     pub fn joint_puncts(&mut self, marks: &str) -> Option<Span>
-        ensures taken { IfSome result
-            (λ span. IsAfterMarks (chars marks.now) (trees_in self.old) span (trees_in self.new)) }
+        ensures taken { IfSome result (λ span. IsAfterMarks (chars marks.now)
+            (start_of (first_span (trees_in self.old) (scope_of self.old))) (trees_in self.old) span (trees_in self.new)) }
         ensures left { IfNone result (trees_in self.new ≡ trees_in self.old) }
-        ensures other { IfNone result ((span : SpanValue) (rest : List Tree)
-            → IsAfterMarks (chars marks.now) (trees_in self.old) span rest → ⊥) }
+        ensures other { IfNone result ((span : SpanValue) (rest : List Tree) → IsAfterMarks (chars marks.now)
+            (start_of (first_span (trees_in self.old) (scope_of self.old))) (trees_in self.old) span rest → ⊥) }
         ensures rest { IsRest (trees_in self.old) (trees_in self.new) }
         ensures onward { StaysRest (trees_in self.old) (trees_in self.new) }
         ensures scope { scope_of self.new ≡ scope_of self.old }
     {
-        let (ch, more) = split_char(marks)?;
+        let Span { file, lo, .. } = self.span();
         let mut ahead = self.fork();
-        let first = ahead.mark(ch)?;
-        let span = ahead.more_puncts(more, first.span())?;
+        let Some(span) = ahead.next_puncts(marks, Span { file, lo, hi: lo }) else {
+            return None;
+        };
         self.trees = ahead.trees;
         Some(span)
     }
@@ -290,11 +291,11 @@ impl<'a, A: Allocator> ParseBuffer<'a, A> {
     /// Consumes the next token trees if they are the punctuation characters of `marks`, the first begins where the span
     /// `before` ends, and nothing is between the characters. Returns the span `before`, continued to the end of the last
     /// character. If the result is `None`, some of the characters may have been consumed.
-    fn more_puncts(&mut self, marks: &str, before: Span) -> Option<Span>
-        ensures taken { IfSome result (λ span.
-            IsAfterMoreMarks (chars marks.now) before (trees_in self.old) span (trees_in self.new)) }
+    fn next_puncts(&mut self, marks: &str, before: Span) -> Option<Span>
+        ensures taken { IfSome result
+            (λ span. IsAfterMarks (chars marks.now) before (trees_in self.old) span (trees_in self.new)) }
         ensures other { IfNone result ((span : SpanValue) (rest : List Tree)
-            → IsAfterMoreMarks (chars marks.now) before (trees_in self.old) span rest → ⊥) }
+            → IsAfterMarks (chars marks.now) before (trees_in self.old) span rest → ⊥) }
     {
         let Some((ch, more)) = split_char(marks) else {
             return Some(before);
@@ -303,12 +304,14 @@ impl<'a, A: Allocator> ParseBuffer<'a, A> {
         if at.file != before.file || at.lo != before.hi {
             return None;
         }
-        let joined = Span {
-            file: before.file,
-            lo: before.lo,
-            hi: at.hi,
-        };
-        self.more_puncts(more, joined)
+        self.next_puncts(
+            more,
+            Span {
+                file: before.file,
+                lo: before.lo,
+                hi: at.hi,
+            },
+        )
     }
 
     /// Consumes the next token tree if it is a group, and returns the group, borrowed. Otherwise the result is `None`

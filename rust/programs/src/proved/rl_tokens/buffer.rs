@@ -97,15 +97,16 @@ impl<'a, A: Allocator> ParseBuffer<'a, A> {
     }
 
     pub fn joint_puncts(&mut self, marks: &str) -> Option<Span> {
-        let (ch, more) = split_char(marks)?;
+        let Span { file, lo, .. } = self.span();
         let mut ahead = self.fork();
-        let first = ahead.mark(ch)?;
-        let span = ahead.more_puncts(more, first.span())?;
+        let Some(span) = ahead.next_puncts(marks, Span { file, lo, hi: lo }) else {
+            return None;
+        };
         self.trees = ahead.trees;
         Some(span)
     }
 
-    fn more_puncts(&mut self, marks: &str, before: Span) -> Option<Span> {
+    fn next_puncts(&mut self, marks: &str, before: Span) -> Option<Span> {
         let Some((ch, more)) = split_char(marks) else {
             return Some(before);
         };
@@ -113,12 +114,14 @@ impl<'a, A: Allocator> ParseBuffer<'a, A> {
         if at.file != before.file || at.lo != before.hi {
             return None;
         }
-        let joined = Span {
-            file: before.file,
-            lo: before.lo,
-            hi: at.hi,
-        };
-        self.more_puncts(more, joined)
+        self.next_puncts(
+            more,
+            Span {
+                file: before.file,
+                lo: before.lo,
+                hi: at.hi,
+            },
+        )
     }
 
     pub fn group(&mut self) -> Option<&'a Group<A>> {
