@@ -287,17 +287,6 @@ fn two_files() {
     });
 }
 
-/// Shows the span of `..=` at the start of a text, or that it isn't there, and the buffer's position after that.
-#[test]
-fn joint() {
-    check(TABLE, "joint", |text| {
-        let stream = trees_of(text, 0).unwrap();
-        let mut input = ParseBuffer::new(stream.trees(), Span::new(0, text.len(), text.len()));
-        let span = input.joint_puncts("..=").map(at);
-        format!("{} next {}\n", span.as_deref().unwrap_or("none"), at(input.span()))
-    });
-}
-
 /// Shows whether `=` is the next token, or the first token in the group that is next, the result of `take_punct`, and the buffer's
 /// position after that.
 #[test]
