@@ -382,20 +382,9 @@ pub none_if : {X : Type 0} (o : Option X) (P : Type 0) → P → IfNone o P
 none_if None P p = p
 none_if (Some x) P p = tt
 
-unsigned_text : {A : Type 0} (most n : ℕ) (l : Lit A) → IsUnsignedSet most l n → IsUnsigned most n (token_of l).text
-unsigned_text most n (Int l) h = h
-unsigned_text most n (Str l) h = absurd h
-unsigned_text most n (ByteStr l) h = absurd h
-unsigned_text most n (CStr l) h = absurd h
-unsigned_text most n (Byte l) h = absurd h
-unsigned_text most n (Char l) h = absurd h
-unsigned_text most n (Float l) h = absurd h
-unsigned_text most n (BoolLit l) h = absurd h
-unsigned_text most n (Verbatim l) h = absurd h
-
 pub unsigned_in_words : {A : Type 0} (most : ℕ) (e : Entry A) (n : ℕ) → IsReadLit e.value → IsUnsignedSet most e.value n
     → IsUnsignedOf most n (attribute_of e)
-unsigned_in_words most e n rd h = unsigned_text most n e.value h
+unsigned_in_words most e n rd h = h.1
 
 abbrev magnitude_in : Option (Sign × ℕ × List ℕ) → ℕ
 magnitude_in (Some p) = p.1
@@ -406,18 +395,6 @@ pub one_unsigned : (most m n : ℕ) (t : List ℕ) → IsUnsigned most m t → I
 one_unsigned most m n t h k =
     let e = sym (int_past (chars t) NoSign m h.suffix h.reads) ∙ int_past (chars t) NoSign n k.suffix k.reads in
     ap (λ (o : Option (Sign × ℕ × List ℕ)). magnitude_in o) e
-
-unsigned_fits : {A : Type 0} (most n : ℕ) (s : Setting) (l : Lit A) (e : SettingError A) → kind_of l ≡ Some IntKind
-    → IsUnsigned most n (token_of l).text → RejectsUnsigned most s l e → ⊥
-unsigned_fits most n s (Int l) e k h r = r.1 n h
-unsigned_fits most n s (Str l) e k h r = absurd (let x = k in cc)
-unsigned_fits most n s (ByteStr l) e k h r = absurd (let x = k in cc)
-unsigned_fits most n s (CStr l) e k h r = absurd (let x = k in cc)
-unsigned_fits most n s (Byte l) e k h r = absurd (let x = k in cc)
-unsigned_fits most n s (Char l) e k h r = absurd (let x = k in cc)
-unsigned_fits most n s (Float l) e k h r = absurd (let x = k in cc)
-unsigned_fits most n s (BoolLit l) e k h r = absurd (let x = k in cc)
-unsigned_fits most n s (Verbatim l) e k h r = absurd (let x = k in cc)
 
 unsigned_kind : {A : Type 0} (most n : ℕ) (l : Lit A) → most ≤ limit → IsReadLit l → IsUnsigned most n (token_of l).text
     → kind_of l ≡ Some IntKind
@@ -431,13 +408,13 @@ pub unsigned_exactly : {A : Type 0} (most : ℕ) (p : Setting) (es : List (Entry
     → IsUnsignedAt p.name.now most w (attributes_of es) → r ≡ Ok (Some w)
 unsigned_exactly most p es (Ok (Some n)) bound rd set rejected w text =
     let at = some_at p es (IsUnsignedSet most) n (IsUnsignedOf most w) rd set text in
-    let same = one_unsigned most n w _ (unsigned_text most n at.entry.value at.of) at.is in
+    let same = one_unsigned most n w _ at.of.1 at.is in
     cc
 unsigned_exactly most p es (Ok None) bound rd set rejected w text =
     absurd (none_at {V = ℕ} p es (IsUnsignedSet most) (IsUnsignedOf most w) set text)
 unsigned_exactly most p es (Err e) bound rd set rejected w text =
     let at = rejected_at p es (RejectsUnsigned most p) e (IsUnsignedOf most w) rd rejected text in
-    absurd (unsigned_fits most w p at.entry.value e (unsigned_kind most w at.entry.value bound at.read at.is) at.is at.of)
+    absurd (at.of.1 w (unsigned_kind most w at.entry.value bound at.read at.is, at.is))
 
 -- ---- lemmas about settings that are numbers
 

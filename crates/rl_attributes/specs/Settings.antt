@@ -1,5 +1,5 @@
 -- The check of attributes against the settings that a program accepts, the values of settings, and their errors.
-use Rattle.std.specs.Prelude.{◌≡◌, ◌≢◌, ◌⊎◌, ◌≤◌, ℕ, Bool as Truth, List, [], ◌∷◌, ◌++◌, All, Any, Option, Result, String, IfSome, IsTrue, IsFalse, codes, string_bytes}
+use Rattle.std.specs.Prelude.{◌≡◌, ◌≢◌, ◌⊎◌, ◌≤◌, ℕ, Bool as Truth, List, [], ◌∷◌, ◌++◌, All, Any, Option, Some, Result, String, IfSome, IsTrue, IsFalse, codes, string_bytes}
 use Rattle.std.specs.List.{list_any}
 use Rattle.std.specs.Option.{IsSomeAnd}
 use Rattle.std.specs.Str.{bytes_eq, chars}
@@ -12,6 +12,7 @@ use Rattle.rl_syntax.specs.Reading.{Characters, HasContents}
 use Rattle.rust_literals.specs.declared.lit.Lit.{Lit}
 use Rattle.rust_literals.specs.declared.lit.Lit.TheVariants.{Str, Int, Float, Bool, Verbatim}
 use Rattle.rust_literals.specs.Base10.{AreBase10Digits, IsMadeOf, IsRejectedBy}
+use Rattle.rust_literals.specs.Literals.{kind_of, token_of}
 use Rattle.rust_literals.specs.LitParts.{HasLitSuffix, lit_span}
 use Rattle.rl_attributes.specs.declared.attributes.Entry.{Entry}
 use Rattle.rl_attributes.specs.Entries.{HasName}
@@ -97,8 +98,7 @@ pub record IsUnsigned (most value : ℕ) (text : List ℕ) : Type 0 where
 
 -- The literal is an integer literal with the value `value`, from 0 to `most`.
 abbrev pub IsUnsignedSet : {A : Type 0} → ℕ → Lit A → ℕ → Type 0
-IsUnsignedSet most (Int l) value = IsUnsigned most value l.text
-IsUnsignedSet most _ value = ⊥
+IsUnsignedSet most l value = (kind_of l ≡ Some IntKind) × IsUnsigned most value (token_of l).text
 
 -- The literal is an integer or a float, and `value` is the number that the number type parses from its digits in base
 -- ten.
@@ -127,8 +127,7 @@ RejectsTruth setting other e = IsOtherKind setting other e
 -- The error `e` is the error for a setting that must be an integer from 0 to `most`: the value isn't an integer literal,
 -- or is one with a minus or with a value above `most`.
 abbrev pub RejectsUnsigned : {A : Type 0} → ℕ → Setting → Lit A → SettingError A → Type 0
-RejectsUnsigned most setting (Int l) e = (e ≡ Kind setting l.span) × ((value : ℕ) → IsUnsigned most value l.text → ⊥)
-RejectsUnsigned most setting other e = IsOtherKind setting other e
+RejectsUnsigned most setting l e = IsOtherKind setting l e × ((value : ℕ) → IsUnsignedSet most l value → ⊥)
 
 -- The error `e` is the error of a number type that rejects a literal's digits in base ten. The error's span is `span`.
 abbrev pub RejectsNumberDigits : {A N E : Type 0} → (List ℕ → Result N E → Type 0)

@@ -14,7 +14,7 @@ use Rattle.rl_attributes.specs.declared.settings.SettingError.TheVariants.{Text,
 use Rattle.rl_attributes.specs.AttributeParsing.{entries_of, attrs_end}
 use Rattle.rl_attributes.specs.Attributes.{Attribute}
 use Rattle.rl_attributes.specs.Entries.{attributes_of}
-use Rattle.rl_attributes.specs.Settings.{IsUnsigned, RejectsSetValue}
+use Rattle.rl_attributes.specs.Settings.{IsUnsigned, RejectsSetValue, span_of}
 
 -- The attributes of a list, each converted to an `Attribute`.
 abbrev pub list_of : {A : Type 0} → Attrs A → List Attribute
@@ -152,3 +152,15 @@ abbrev pub RejectsRequired : {A : Type 0} → Setting → Attrs A
 RejectsRequired setting attrs Rejects e =
     (IsUnset setting.name.now (list_of attrs) × (e ≡ Missing setting (attrs_end attrs)))
     ⊎ RejectsSetValue setting (entries_of attrs) Rejects e
+
+-- ---- the positions of errors, by the name of a setting
+
+-- The error `e` is at the value of an attribute with the name `name`.
+abbrev pub IsErrorAtValue : {A : Type 0} → List ℕ → List Attribute → SettingError A → Type 0
+IsErrorAtValue name list e = Any (λ a. IsNamed name a × (span_of e ≡ a.literal.span)) list
+
+-- The error `e` is at the value of an attribute with the name `name`. Or no attribute has the name, and the error is at the
+-- end of the settings.
+abbrev pub IsErrorAtName : {A : Type 0} → List ℕ → Attrs A → SettingError A → Type 0
+IsErrorAtName name attrs e =
+    IsErrorAtValue name (list_of attrs) e ⊎ (IsUnset name (list_of attrs) × (span_of e ≡ attrs_end attrs))

@@ -138,7 +138,7 @@ impl<A: Allocator> Attrs<A> {
     {
         let found = self.unsigned(setting, most);
         match found {
-            Ok(found) => Ok(found.unwrap_or(default)),
+            Ok(value) => Ok(value.unwrap_or(default)),
             Err(error) => Err(error),
         }
     }

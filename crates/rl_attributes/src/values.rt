@@ -278,22 +278,7 @@ impl<A: Allocator> Attrs<A> {
     /// Returns `Malformed` at a value that isn't a valid literal or is an integer above 128 bits. Returns `Kind` at any
     /// other literal that isn't an integer, and at an integer with a minus or above `most`.
     ///
-    /// # Example
-    ///
-    /// ```
-    /// use rl_attributes::{Setting, read};
-    /// use std::alloc::Global;
-    ///
-    /// pub fn optional_tries(alloc: Global, text: &str) -> Option<u64> {
-    ///     let tries = Setting {
-    ///         name: "tries",
-    ///         expected: "an integer from 0 to 9",
-    ///     };
-    ///     read(alloc, text, 0).ok()?.unsigned(tries, 9).ok()?
-    /// }
-    /// // optional_tries(alloc, "tries = 0x5") == Some(5)
-    /// // optional_tries(alloc, "tries = 10") == None
-    /// ```
+    /// See the example of [`Attrs::unsigned_or`].
     pub fn unsigned(&self, setting: Setting, most: u64) -> Result<Option<u64>, SettingError<A>>
         ensures set { IfOk result (IsSetAs setting (entries_of self.now) (IsUnsignedSet most)) }
         ensures rejected { IfErr result

@@ -10,7 +10,7 @@ use Rattle.rl_tokens.specs.WrittenLists.{AStrListIsPrinted}
 use Rattle.rl_tokens.proofs.WrittenListLemmas.{str_list_printed}
 use Rattle.rl_tokens.proofs.TreeLaws.{inside_lighter, mark_lighter, no_mark, one_group, one_mark, peeked_mark, step_lighter}
 use Rattle.rl_tokens.proofs.TreeRests.{rest_step}
-use Rattle.rl_tokens.proofs.MarkLemmas.{one_joint}
+use Rattle.rl_tokens.proofs.MarkLemmas.{one_rest}
 
 pub printed_literals_lex_to_their_trees : PrintedLiteralsLexToTheirTrees
 printed_literals_lex_to_their_trees = printed_lexes_law
@@ -37,7 +37,7 @@ pub a_mark_has_one_rest : AMarkHasOneRest
 a_mark_has_one_rest = one_mark
 
 pub joint_marks_have_one_rest : JointMarksHaveOneRest
-joint_marks_have_one_rest = one_joint
+joint_marks_have_one_rest = one_rest
 
 pub a_peeked_mark_is_at_the_front : APeekedMarkIsAtTheFront
 a_peeked_mark_is_at_the_front = peeked_mark

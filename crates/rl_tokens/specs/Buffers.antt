@@ -62,24 +62,19 @@ pub record IsAfterMark (ch : ℕ) (trees rest : List Tree) : Type 0 where
   pub trees_are : trees ≡ PunctTree mark ∷ rest
   pub is : mark.ch ≡ ch
 
--- The punctuation character `mark` begins where the span `before` ends.
-abbrev pub Touches : Span → Mark → Type 0
-Touches before mark = (before.file ≡ mark.span.file) × (before.hi ≡ mark.span.lo)
-
 -- The token trees `trees` are the punctuation characters `chs`, followed by the token trees `rest`. The first character
 -- begins where the span `before` ends, and each other character where the one before it ends. The span `span` begins where
 -- `before` begins, and ends where the last character ends.
-abbrev pub IsAfterMoreMarks : List ℕ → Span → List Tree → Span → List Tree → Type 0
-IsAfterMoreMarks [] before trees span rest = (span ≡ before) × (rest ≡ trees)
-IsAfterMoreMarks (ch ∷ chs) before (PunctTree m ∷ trees) span rest =
-    (m.ch ≡ ch) × Touches before m × IsAfterMoreMarks chs (record before { hi = m.span.hi }) trees span rest
-IsAfterMoreMarks (ch ∷ chs) before _ span rest = ⊥
+abbrev pub IsAfterMarks : List ℕ → Span → List Tree → Span → List Tree → Type 0
+IsAfterMarks [] before trees span rest = (span ≡ before) × (rest ≡ trees)
+IsAfterMarks (ch ∷ chs) before (PunctTree m ∷ trees) span rest =
+    (m.ch ≡ ch) × (before.file ≡ m.span.file) × (before.hi ≡ m.span.lo)
+    × IsAfterMarks chs (record before { hi = m.span.hi }) trees span rest
+IsAfterMarks (ch ∷ chs) before _ span rest = ⊥
 
--- The token trees `trees` are the punctuation characters `chs`, followed by the token trees `rest`. There is at least one
--- character, and each begins where the one before it ends. The span `span` contains exactly the characters.
-abbrev pub IsAfterMarks : List ℕ → List Tree → Span → List Tree → Type 0
-IsAfterMarks (ch ∷ chs) (PunctTree m ∷ trees) span rest = (m.ch ≡ ch) × IsAfterMoreMarks chs m.span trees span rest
-IsAfterMarks _ _ span rest = ⊥
+-- The empty span at the start of a span.
+abbrev pub start_of : Span → Span
+start_of span = record span { hi = span.lo }
 
 -- The token trees `left` are the end of the token trees `before`: a parser consumed the token trees before them.
 pub record IsRest (before left : List Tree) : Type 0 where

@@ -27,8 +27,8 @@ AMarkHasOneRest =
 -- One list of token trees follows punctuation characters with nothing between them, and the characters have one span.
 abbrev pub JointMarksHaveOneRest : Type 0
 JointMarksHaveOneRest =
-    (chs : List ℕ) (trees r s : List Tree) (a b : Span) → IsAfterMarks chs trees a r → IsAfterMarks chs trees b s
-    → (a ≡ b) × (r ≡ s)
+    (chs : List ℕ) (before : Span) (trees r s : List Tree) (a b : Span) → IsAfterMarks chs before trees a r
+    → IsAfterMarks chs before trees b s → (a ≡ b) × (r ≡ s)
 
 -- `peek_punct` returns `true` exactly if the token trees begin with the character.
 abbrev pub APeekedMarkIsAtTheFront : Type 0

@@ -66,7 +66,7 @@ impl<'a, A: Allocator> ParseBuffer<'a, A> {
       begins_mark,
       IsAfterMark,
       IsAfterMarks,
-      IsAfterMoreMarks,
+      start_of,
       IsRejection,
       IsRest,
       StaysRest,
@@ -243,37 +243,47 @@ impl<'a, A: Allocator> ParseBuffer<'a, A> {
     }
 
     /// Consumes the next token trees if they are the punctuation characters of `marks`, for example `..=`, and nothing is
-    /// between the characters. Returns the span of the characters. Otherwise, and if `marks` is empty, the result is
-    /// `None` and the buffer is unchanged. Like `syn`'s `Token![..=]`, the call doesn't look at the token tree after the
-    /// characters: `..` is also consumed from `..=`.
+    /// between the characters. Returns the span of the characters. Otherwise the result is `None`, and the buffer is
+    /// unchanged. [`ParseBuffer::error`] creates the error.
+    ///
+    /// The token tree after the characters doesn't matter: `..` is also consumed from `..=`, as by `syn`'s `Token![..]`.
     ///
     /// # Example
     ///
     /// ```
     /// use rl_tokens::{ParseBuffer, Span, lex};
+    /// use rust_literals::LitInt;
     /// use std::alloc::Global;
     ///
-    /// pub fn arrow_span(alloc: Global, text: &str) -> Option<Span> {
+    /// pub fn closed_range(alloc: Global, text: &str) -> Option<(u64, u64)> {
     ///     let stream = lex(alloc, text, 0).ok()?;
-    ///     ParseBuffer::new(stream.trees(), Span::call_site()).joint_puncts("=>")
+    ///     let mut input = ParseBuffer::new(stream.trees(), Span::call_site());
+    ///     let first = input.parse::<LitInt>(alloc).ok()?;
+    ///     input.joint_puncts("..=")?;
+    ///     let last = input.parse::<LitInt>(alloc).ok()?;
+    ///     Some((
+    ///         first.base10_parse(alloc).ok()?,
+    ///         last.base10_parse(alloc).ok()?,
+    ///     ))
     /// }
-    /// // arrow_span(alloc, "=> 80") == Some(Span::new(0, 0, 2))
-    /// // arrow_span(alloc, "= > 80") == None
+    /// // closed_range(alloc, "1..=5") == Some((1, 5))
+    /// // closed_range(alloc, "1 .. = 5") == None
     /// ```
     pub fn joint_puncts(&mut self, marks: &str) -> Option<Span>
-        ensures taken { IfSome result
-            (λ span. IsAfterMarks (chars marks.now) (trees_in self.old) span (trees_in self.new)) }
+        ensures taken { IfSome result (λ span. IsAfterMarks (chars marks.now)
+            (start_of (first_span (trees_in self.old) (scope_of self.old))) (trees_in self.old) span (trees_in self.new)) }
         ensures left { IfNone result (trees_in self.new ≡ trees_in self.old) }
-        ensures other { IfNone result ((span : SpanValue) (rest : List Tree)
-            → IsAfterMarks (chars marks.now) (trees_in self.old) span rest → ⊥) }
+        ensures other { IfNone result ((span : SpanValue) (rest : List Tree) → IsAfterMarks (chars marks.now)
+            (start_of (first_span (trees_in self.old) (scope_of self.old))) (trees_in self.old) span rest → ⊥) }
         ensures rest { IsRest (trees_in self.old) (trees_in self.new) }
         ensures onward { StaysRest (trees_in self.old) (trees_in self.new) }
         ensures scope { scope_of self.new ≡ scope_of self.old }
     {
-        let (ch, more) = split_char(marks)?;
+        let Span { file, lo, .. } = self.span();
         let mut ahead = self.fork();
-        let first = ahead.mark(ch)?;
-        let span = ahead.more_puncts(more, first.span())?;
+        let Some(span) = ahead.next_puncts(marks, Span { file, lo, hi: lo }) else {
+            return None;
+        };
         self.trees = ahead.trees;
         Some(span)
     }
@@ -281,11 +291,11 @@ impl<'a, A: Allocator> ParseBuffer<'a, A> {
     /// Consumes the next token trees if they are the punctuation characters of `marks`, the first begins where the span
     /// `before` ends, and nothing is between the characters. Returns the span `before`, continued to the end of the last
     /// character. If the result is `None`, some of the characters may have been consumed.
-    fn more_puncts(&mut self, marks: &str, before: Span) -> Option<Span>
-        ensures taken { IfSome result (λ span.
-            IsAfterMoreMarks (chars marks.now) before (trees_in self.old) span (trees_in self.new)) }
+    fn next_puncts(&mut self, marks: &str, before: Span) -> Option<Span>
+        ensures taken { IfSome result
+            (λ span. IsAfterMarks (chars marks.now) before (trees_in self.old) span (trees_in self.new)) }
         ensures other { IfNone result ((span : SpanValue) (rest : List Tree)
-            → IsAfterMoreMarks (chars marks.now) before (trees_in self.old) span rest → ⊥) }
+            → IsAfterMarks (chars marks.now) before (trees_in self.old) span rest → ⊥) }
     {
         let Some((ch, more)) = split_char(marks) else {
             return Some(before);
@@ -294,12 +304,14 @@ impl<'a, A: Allocator> ParseBuffer<'a, A> {
         if at.file != before.file || at.lo != before.hi {
             return None;
         }
-        let joined = Span {
-            file: before.file,
-            lo: before.lo,
-            hi: at.hi,
-        };
-        self.more_puncts(more, joined)
+        self.next_puncts(
+            more,
+            Span {
+                file: before.file,
+                lo: before.lo,
+                hi: at.hi,
+            },
+        )
     }
 
     /// Consumes the next token tree if it is a group, and returns the group, borrowed. Otherwise the result is `None`

@@ -7,5 +7,5 @@ pub returns-in-None-clause-rejected : goal.returns-in-None-clause-rejected
 returns-in-None-clause-rejected g c =
     rw c.in-Int.is (
       ap (λ z. Kind c.args.setting z) c.span.ensures,
-      λ n h. c.in-None.ensures.none n (subst (λ z. IsUnsigned c.args.most n z) (sym c.text.ensures) h),
+      λ n h. c.in-None.ensures.none n (subst (λ z. IsUnsigned c.args.most n z) (sym c.text.ensures) h.1),
     )

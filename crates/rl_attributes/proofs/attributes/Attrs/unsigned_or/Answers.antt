@@ -8,12 +8,12 @@ use Rattle.rl_attributes.proofs.attributes.Attrs.unsigned_or.Goals as goal
 pub returns-in-Ok-clause-set : goal.returns-in-Ok-clause-set
 returns-in-Ok-clause-set g c =
     rw c.unwrap_or.ensures
-    (or_set (IsUnsignedOf c.args.most) c.args.setting.name.now c.args.default c.in-Ok.found (list_of c.args.self.now) c.in-Ok.ensures.text)
+    (or_set (IsUnsignedOf c.args.most) c.args.setting.name.now c.args.default c.in-Ok.value (list_of c.args.self.now) c.in-Ok.ensures.text)
 
 pub returns-in-Ok-clause-exactly : goal.returns-in-Ok-clause-exactly
 returns-in-Ok-clause-exactly g c w at =
     let same : c.unwrap_or.result ≡ w = c.unwrap_or.ensures
-    ∙ or_exactly (IsUnsignedOf c.args.most) c.args.setting.name.now c.args.default w c.in-Ok.found (list_of c.args.self.now) c.in-Ok.ensures.text
+    ∙ or_exactly (IsUnsignedOf c.args.most) c.args.setting.name.now c.args.default w c.in-Ok.value (list_of c.args.self.now) c.in-Ok.ensures.text
     (c.in-Ok.ensures.exactly w) at in
     cc
 
