@@ -157,8 +157,10 @@ def section(crate):
     for path, item in own_items(crate):
         if item.kind != 'fn' and '::' in item.name:
             continue
-        if last != (last := way_to(path, item)):
-            lines.append(f'// {last}:')
+        way = way_to(path, item)
+        if way != last:
+            lines.append(f'// {way}:')
+        last = way
         lines += quoted(path, item, needed) if item.kind == 'fn' else typed(path, item, parts.get((path, item.name)), needed)
     words = '`ghost use` lines import the words of the contracts. Below each line are the definitions of its words:'
     return '\n'.join([HEAD + INTRODUCTION, '```text', *lines, '```', '', words, '', '```text', *imports(needed), '```', ''])

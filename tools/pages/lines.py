@@ -67,5 +67,6 @@ def with_sizes(page):
     for it in families()[0] + families()[1]:
         if paths(f'crates/{it}/src/lib.rt'):
             taken = crates.with_those_below([it])
-            rows += f'| `{it}` | {len(taken)} | ' + ' | '.join(f'{sum(lines[crate, part] for crate in taken):,}' for part in FOLDERS) + ' |\n'
+            sums = [f'{sum(lines[crate, part] for crate in taken):,}' for part in FOLDERS]
+            rows += f'| `{it}` | {len(taken)} | {" | ".join(sums)} |\n'
     return with_rows(page, SIZES, rows)
