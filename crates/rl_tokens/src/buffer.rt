@@ -304,14 +304,9 @@ impl<'a, A: Allocator> ParseBuffer<'a, A> {
         if at.file != before.file || at.lo != before.hi {
             return None;
         }
-        self.next_puncts(
-            more,
-            Span {
-                file: before.file,
-                lo: before.lo,
-                hi: at.hi,
-            },
-        )
+        let mut joined = before;
+        joined.hi = at.hi;
+        self.next_puncts(more, joined)
     }
 
     /// Consumes the next token tree if it is a group, and returns the group, borrowed. Otherwise the result is `None`

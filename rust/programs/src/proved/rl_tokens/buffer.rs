@@ -114,14 +114,9 @@ impl<'a, A: Allocator> ParseBuffer<'a, A> {
         if at.file != before.file || at.lo != before.hi {
             return None;
         }
-        self.next_puncts(
-            more,
-            Span {
-                file: before.file,
-                lo: before.lo,
-                hi: at.hi,
-            },
-        )
+        let mut joined = before;
+        joined.hi = at.hi;
+        self.next_puncts(more, joined)
     }
 
     pub fn group(&mut self) -> Option<&'a Group<A>> {
