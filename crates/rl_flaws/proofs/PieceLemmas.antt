@@ -1,5 +1,5 @@
 -- The valid content of a quoted literal, and its segments.
-use Rattle.rl_flaws.proofs.Names.{◌≡◌, ◌≤◌, ◌+◌, ◌-◌, ℕ, Bool, Bor, true, false, List, [], ◌∷◌, ◌++◌, map, length, length-append, refl, sym, ap, subst, ◌∙◌, inl, inr, arith, and_from, append_cancel_right, append-nil, encodes-chars, flat_map, list_all, IsUtf8, IsUtf8-nil, chars-nil, chars, byte_len, is_dropped_blank, Kind, Plain, QuotedUnit, StrictUnit, Itself, QuoteEscape, PlainEscape, AsciiEscape, ByteEscape, UnicodeEscape, LineBreak, strict_text, is_strict_unit, BlanksEnd, BreaksEnd, QuotedForm, CookedForm, RawForm, SingleForm, is_raw_form, IsInsideUpTo, LineEnds, Text, File, IsRestOf, lf_text, read_of, IsLeft, IsSameLiteral, StaysOpen, IsOpened, opened_front, ArePiecesLeft, IsGoodLeft, IsOpenAs, Left, Inside, Closed, Nothing, Opened, passes_front}
+use Rattle.rl_flaws.proofs.Names.{◌≡◌, ◌≤◌, ◌+◌, ◌-◌, ℕ, Bool, Bor, true, false, List, [], ◌∷◌, ◌++◌, map, length, length-append, refl, sym, ap, subst, ◌∙◌, inl, inr, arith, and_from, append_cancel_right, append-nil, encodes-chars, flat_map, list_all, IsUtf8, IsUtf8-nil, chars-nil, chars, byte_len, is_dropped_blank, Kind, Plain, StrictUnit, Itself, QuoteEscape, PlainEscape, AsciiEscape, ByteEscape, UnicodeEscape, LineBreak, strict_text, is_strict_unit, BlanksEnd, BreaksEnd, QuotedForm, CookedForm, RawForm, SingleForm, is_raw_form, IsInsideUpTo, LineEnds, Text, File, IsRestOf, lf_text, read_of, IsLeft, IsSameLiteral, StaysOpen, IsOpened, opened_front, ArePiecesLeft, IsGoodLeft, IsOpenAs, Left, Inside, Closed, Nothing, Opened, passes_front}
 use Rattle.rl_flaws.proofs.FilePieces.{HasUnitsIn, file_units, no_text, no_units}
 use Rattle.rl_syntax.proofs.StrictQuoted.{stand_row}
 use Rattle.rl_cursors.specs.Segments.{IsSegmentsState}

@@ -1,5 +1,5 @@
 -- The results of parsing the content of a quoted literal.
-use Rattle.rl_flaws.proofs.Names.{◌≡◌, ◌≢◌, ◌≤◌, ◌<◌, ◌+◌, encode_utf8_all, encodes-append, encodes-chars, length, length-append, IsUtf8, ◌⊎◌, ℕ, true, false, List, [], ◌∷◌, ◌++◌, Some, None, refl, sym, ap, ◌∙◌, inl, inr, both_ways, append_assoc, arith, replicate, chars, Kind, is_single, is_string, raw_opener, is_apostrophe, BeginsStrictUnit, QuotedForm, CookedForm, RawForm, SingleForm, byte_len, form_opener, has_form, FoundOpener, found_opener, opener_at, front_complete, unit_rest, quoted_single, unit_rest_complete, unit_rest_sound, FlawAt, FlawKind, LineEnds, IsRestOf, Option, first_of, StopsAsRead, read_of, SuffixFlaw, CarriageReturn, EmptyBraces, MustEscape, NoBrace, NoHexDigit, NoUnicode, NotAscii, Nul, HexEscapeOutOfRange, UnicodeEscapeOutOfRange, Surrogate, TooManyDigits, UnknownEscape, is_flaw_of_unit, IsFlawAt, suffix_read_at, found_flaw, IsUnitUpTo, OpensSingle, OpensString, HasForm, front_of}
+use Rattle.rl_flaws.proofs.Names.{◌≡◌, ◌≢◌, ◌≤◌, ◌<◌, ◌+◌, encode_utf8_all, encodes-append, encodes-chars, length, length-append, IsUtf8, ◌⊎◌, ℕ, true, false, List, [], ◌∷◌, ◌++◌, Some, None, refl, sym, ap, ◌∙◌, inl, inr, both_ways, append_assoc, arith, replicate, chars, Kind, is_single, raw_opener, is_apostrophe, BeginsStrictUnit, QuotedForm, CookedForm, RawForm, SingleForm, byte_len, form_opener, has_form, FoundOpener, found_opener, opener_at, front_complete, unit_rest, quoted_single, unit_rest_complete, unit_rest_sound, FlawAt, FlawKind, LineEnds, IsRestOf, Option, first_of, StopsAsRead, read_of, SuffixFlaw, CarriageReturn, EmptyBraces, MustEscape, NoBrace, NoHexDigit, NoUnicode, NotAscii, Nul, HexEscapeOutOfRange, UnicodeEscapeOutOfRange, Surrogate, TooManyDigits, UnknownEscape, is_flaw_of_unit, IsFlawAt, suffix_read_at, found_flaw, IsUnitUpTo, OpensSingle, OpensString, HasForm, front_of}
 use Rattle.rl_lenient.proofs.Names.{first_passes}
 use Rattle.rl_strict.specs.LineEnds.{IsGoodUnit, IsOfStretch}
 use Rattle.rl_strict.proofs.ReadQuoted.{judged_by}

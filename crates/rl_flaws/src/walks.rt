@@ -5,7 +5,7 @@ ghost use Rattle.std.specs.Str.{chars};
 ghost use Rattle.rl_syntax.specs.Texts.{IsTail};
 ghost use Rattle.rl_syntax.specs.declared.kind.Kind.{Kind as AnyKind};
 ghost use Rattle.rl_syntax.specs.Quoted.{is_single};
-ghost use Rattle.rl_lenient.specs.declared.quoted_forms.QuotedForm.TheVariants.{Single as SingleForm};
+ghost use Rattle.rl_lenient.specs.declared.quoted_forms.QuotedForm.TheVariants.{Raw as RawForm, Single as SingleForm};
 ghost use Rattle.rl_strict.specs.LineEnds.{IsGoodUnit, IsOfStretch, IsRestOf, StopsAsRead, read_of};
 ghost use Rattle.rl_strict.specs.StrictRead.{IsFlawAt};
 ghost use Rattle.rl_strict.specs.StrictShapes.{ClosesForm, IsToken};
@@ -33,6 +33,7 @@ pub struct Opened<'t> {
 /// Returns the opening delimiter of the quoted literal that `text` begins with, and the text after it.
 pub fn split_opening_delimiter(text: &str) -> Option<(Opened<'_>, &str)>
     ensures some { IfSome result (λ p. IsOpened p.0) }
+    ensures hashes { IfSome result (λ p. (p.0.form ≡ RawForm) ⊎ (p.0.hashes.now ≡ [])) }
     ensures cut { IfSome result (λ p. chars text.now ≡ opened_front p.0 ++ chars p.1.now) }
     ensures none { IfNone result ((k : AnyKind) → OpensString k (chars text.now) ⊎ OpensSingle k (chars text.now) → ⊥) }
 {
