@@ -1,5 +1,5 @@
 -- Each token of a rewritten source is the old one, or a literal with its kind, value and suffix.
-use Rattle.std.proofs.Common.{◌≡◌, ℕ, List, [], ◌∷◌, Option, Some, None, inl, inr, sym, subst}
+use Rattle.std.proofs.Common.{ℕ, List, [], ◌∷◌, Option, Some, None, inl, inr, sym, subst}
 use Rattle.std.specs.Prelude.{IsFalse}
 use Rattle.rl_lexer.specs.Sources.{CutSource, source_text}
 use Rattle.rl_style.specs.Rewriting.{SameLiteral}

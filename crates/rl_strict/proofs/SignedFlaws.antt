@@ -1,5 +1,5 @@
 -- The position where a text that begins with a minus can't continue as a literal token or as a negative number.
-use Rattle.rl_strict.proofs.Names.{◌≡◌, ℕ, ◌==◌, true, false, List, [], ◌∷◌, ◌++◌, ◌+◌, refl, sym, ap, subst, ◌∙◌, inl, inr, both_ways, is_ascii_digit, first_passes, NoNumber, UnexpectedEnd, StopsBefore, IsMinusFlawOf, IsSignedToken, IsToken, FoundFlaw, passes_more, end_flaw_at}
+use Rattle.rl_strict.proofs.Names.{◌≡◌, ℕ, ◌==◌, true, false, List, [], ◌∷◌, ◌++◌, refl, sym, ap, subst, ◌∙◌, inl, inr, both_ways, is_ascii_digit, first_passes, NoNumber, UnexpectedEnd, StopsBefore, IsMinusFlawOf, IsSignedToken, IsToken, FoundFlaw, passes_more, end_flaw_at}
 use Rattle.rl_strict.proofs.ReadNumbers.{goes_on as digit_goes_on, one_digit}
 use Rattle.rl_strict.proofs.StrictWordFlaws.{minus_no_token}
 use Rattle.rl_strict.proofs.Stops.{Flawed, raised}

@@ -1,5 +1,5 @@
 -- The bytes of a raw string that is rewritten as a string with escapes.
-use Rattle.rl_syntax.proofs.Common.{◌≡◌, ℕ, ◌+◌, ◌*◌, ◌≤◌, true, List, [], ◌∷◌, ◌++◌, length, map, replicate, refl, sym, ap, ◌∙◌, arith, append_assoc, append-nil, and_from, and_parts, list_all, encode_utf8_all, encodes-append, encodes-chars, length-append, scalar, is_ascii_digit, IsUtf8, Bool, not}
+use Rattle.rl_syntax.proofs.Common.{◌≡◌, ℕ, ◌+◌, ◌≤◌, true, List, [], ◌∷◌, ◌++◌, length, map, replicate, refl, sym, ap, ◌∙◌, arith, append_assoc, append-nil, and_from, and_parts, list_all, encode_utf8_all, encodes-append, encodes-chars, length-append, scalar, is_ascii_digit, IsUtf8, Bool, not}
 use Rattle.std.specs.Str.{chars}
 use Rattle.std.proofs.Math.Utf8.{scalars}
 use Rattle.std.proofs.lemmas.Str.{scalars-chars}

@@ -1,10 +1,9 @@
 -- One list of token trees follows a punctuation character or a group, and it has fewer tokens.
-use Rattle.rl_syntax.proofs.Common.{◌≡◌, ◌<◌, ◌+◌, ℕ, suc, true, false, eqb, eq-eqb, eqb-true, List, [], ◌∷◌, ◌++◌, refl, sym, ap, subst, ◌∙◌, length, length-append, append_assoc, arith}
+use Rattle.rl_syntax.proofs.Common.{◌≡◌, ◌<◌, ◌+◌, ℕ, suc, true, eq-eqb, eqb-true, List, [], ◌∷◌, ◌++◌, refl, sym, ap, subst, ◌∙◌, length, length-append, arith}
 use Rattle.std.specs.Prelude.{◌↔◌, IsTrue}
-use Rattle.rl_syntax.specs.declared.span.Span.{Span}
 use Rattle.rl_tokens.specs.declared.token.Delimiter.{Delimiter}
 use Rattle.rl_tokens.specs.Buffers.{begins_mark, IsAfterMark, IsRest}
-use Rattle.rl_tokens.specs.Trees.{Tree, Trees, GroupTree, IdentTree, PunctTree, LiteralTree, NoTrees, MoreTrees, flat, flat_trees, inside_of}
+use Rattle.rl_tokens.specs.Trees.{Tree, GroupTree, IdentTree, PunctTree, LiteralTree, flat, flat_trees, inside_of}
 use Rattle.rl_tokens.specs.Laws.{IsAfterGroup, weight}
 
 pub one_mark : (ch : ℕ) (trees r s : List Tree) → IsAfterMark ch trees r → IsAfterMark ch trees s → r ≡ s

@@ -5,7 +5,7 @@ use Rattle.std.specs.List.{AllByRecursion}
 use Rattle.rl_syntax.specs.declared.kind.Kind.TheVariants.{Str}
 use Rattle.rl_syntax.specs.Reading.{Characters}
 use Rattle.rl_syntax.specs.Trivia.{IsTrivia, White}
-use Rattle.rl_syntax.specs.Printed.{Entry, IsApart, IsStrictItem, LiteralItem, Printed, printed_text}
+use Rattle.rl_syntax.specs.Printed.{IsApart, IsStrictItem, LiteralItem, Printed, printed_text}
 use Rattle.rl_syntax.specs.Written.{written_text}
 use Rattle.rl_syntax.proofs.Theorems.{a_written_value_is_strict, a_written_value_reads}
 use Rattle.rl_tokens.specs.WrittenLists.{characters_of, str_entries, str_list_end, str_list_text}

@@ -1,4 +1,4 @@
-use Rattle.rl_syntax.proofs.Common.{ap, chars, not, sym, ◌∙◌}
+use Rattle.rl_syntax.proofs.Common.{chars, sym, ◌∙◌}
 use Rattle.rl_restyle.proofs.ChangingLemmas.{rule_kept, rule_unset}
 use Rattle.rl_restyle.proofs.changing.push_if_changing.Goals as goal
 

@@ -1,4 +1,4 @@
-use Rattle.rl_syntax.proofs.Common.{length, ◌≡◌, ◌∙◌, sym, ap, arith, not-true}
+use Rattle.rl_syntax.proofs.Common.{length, ◌∙◌, sym, ap, arith, not-true}
 use Rattle.std.specs.Str.{chars}
 use Rattle.rl_style.proofs.Room.{bare_if_shown, grown_least, not-false}
 use Rattle.rl_style.proofs.WrittenQuoted.{raw_kept, raw_lost, raw_room, raw_stands, raw_trimmed}
