@@ -5,4 +5,6 @@ pub mod RewriteLemmas
 pub mod CountLemmas
 pub mod ShortageLemmas
 pub mod CapitalLemmas
-mod ConfigLemmas
+pub mod JobLemmas
+pub mod NumberLemmas
+pub mod StringLemmas
