@@ -12,9 +12,9 @@ TABLE = 'Builds'
 FOLDER = os.path.join(build.BUILD, 'builds')
 # The number of times that each time is measured.
 ROUNDS = 3
-# The package, with its default features and without, and the other libraries. Each has a name (that of bench/limits for the
+# The package, with its default features, without and with `full`, and the other libraries. Each has a name (that of bench/limits for the
 # package), the dependency line for Cargo, and the code that parses a literal.
-OURS = {'package': 'code', 'package, no features': 'code, no features'}
+OURS = {'package, full': 'code', 'package, no features': 'code, no features'}
 PATH = os.path.join(build.TOP, 'rust')
 READ = """
 use navyspindle::Lit;
@@ -35,6 +35,7 @@ match syn::parse_str::<Lit>(&text) {
 LIBRARIES = {
     'package': ('navyspindle = { path = "%s" }' % PATH, READ),
     'package, no features': ('navyspindle = { path = "%s", default-features = false }' % PATH, READ),
+    'package, full': ('navyspindle = { path = "%s", features = ["full"] }' % PATH, READ),
     'package, proc-macro': ('navyspindle = { path = "%s", default-features = false, features = ["proc-macro"] }' % PATH, READ),
     'package, proc-macro, settings': (
         'navyspindle = { path = "%s", default-features = false, features = ["proc-macro", "settings"] }' % PATH, READ),

@@ -8,7 +8,7 @@ use crate::kind::Kind;
 use crate::lit::Lit;
 use crate::parse_error::ParseError;
 use crate::rl_lenient::number_forms::float_suffix;
-use crate::rl_lenient::{float_parts, integer_parts, is_signed};
+use crate::rl_lenient::{digit_runs, float_parts, integer_parts, is_signed};
 use crate::rl_syntax::scan::{len_before_near_mark, Marks};
 use crate::rl_syntax::IntegerType;
 use alloc::borrow::Cow;
@@ -192,7 +192,7 @@ macro_rules! number_type {
             #[inline]
             #[must_use]
             pub fn is_negative(&self) -> bool {
-                self.text.starts_with('-')
+                digit_runs::is_negative(&self.text)
             }
 
             /// Returns the number type that the suffix names, or `None` if there is no suffix or if it names no number type.

@@ -3,7 +3,7 @@
 use crate::list_error::ListError;
 use crate::rewrite::rewrite_in_context;
 use crate::rl_style::{
-    all_rules, is_changed_by_style, is_safe_to_restyle, Restylable, Restylables,
+    all_rules, growth, is_changed_by_style, is_safe_to_restyle, Restylable, Restylables,
 };
 use crate::style::Style;
 use alloc::borrow::Cow;
@@ -192,7 +192,8 @@ impl<'t> Edits<'t> {
 /// Returns the names of the rules each of which alone changes the literal `text`. `before` is the source's text before the literal.
 #[inline]
 fn rules_after(before: &str, text: &str, style: Style) -> Vec<&'static str> {
-    let (style, mut room) = (style.proved(), vec![0; 4 * text.len() + 1]);
+    let style = style.proved();
+    let mut room = vec![0; text.len() * growth(style, text) + 1];
     let mut is_of = |rule| {
         matches!(
             is_changed_by_style(before, text, style.only(rule), &mut room),

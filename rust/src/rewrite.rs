@@ -2,7 +2,7 @@
 //! same value and the same suffix. Only `1.` may become `1.0`, which `concat!` turns into a different text.
 
 use crate::parse_error::ParseError;
-use crate::rl_style::rewrite_into;
+use crate::rl_style::{growth, rewrite_within};
 use crate::style::Style;
 use alloc::borrow::Cow;
 use alloc::string::String;
@@ -61,9 +61,9 @@ pub fn rewrite_in_context<'t>(
     text: &'t str,
     style: Style,
 ) -> Result<Cow<'t, str>, ParseError> {
-    let mut room = vec![0; 4 * text.len() + 1];
-    let len = rewrite_into(before, text, style.proved(), &mut room).map_err(ParseError::of_flaw)?;
-    room.truncate(len);
+    let mut room = vec![0; text.len() * growth(style.proved(), text) + 1];
+    let len = rewrite_within(before, text, style.proved(), &mut room);
+    room.truncate(len.map_err(ParseError::of_flaw)?);
     if room == text.as_bytes() {
         return Ok(Cow::Borrowed(text));
     }

@@ -2,7 +2,7 @@
 //!
 //! `after_first!(text)` is the text after its first character, which must be ASCII. A step of `chars` saves the four instructions of
 //! that test, but in unoptimized builds it costs more than the slice. `split_at!(text, at)` is `text.split_at(at)`. In unoptimized
-//! builds two slices cost less. The last argument of both macros says whether the build is unoptimized.
+//! builds two slices cost less, and `get` less than an index. The last argument of both macros says whether the build is unoptimized.
 
 macro_rules! after_first {
     ($text:ident) => {
@@ -10,7 +10,7 @@ macro_rules! after_first {
     };
     ($text:ident, $is_unoptimized:expr) => {
         if $is_unoptimized {
-            &$text[1..]
+            $text.get(1..).unwrap()
         } else {
             let mut characters = $text.chars();
             characters.next();
@@ -28,7 +28,7 @@ macro_rules! split_at {
         match $at {
             at if !$is_unoptimized => $text.split_at(at),
             0 => ("", $text),
-            at => (&$text[..at], &$text[at..]),
+            at => ($text.get(..at).unwrap(), $text.get(at..).unwrap()),
         }
     };
 }

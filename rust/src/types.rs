@@ -3,6 +3,7 @@
 use crate::lit::Lit;
 use crate::numbers::NumberType;
 use crate::rl_flaws::{self, TypeError};
+use crate::rl_lenient::digit_runs::{after_minus, is_negative};
 use crate::rl_lenient::parse_literal;
 use core::fmt;
 use core::hash::{Hash, Hasher};
@@ -49,14 +50,13 @@ impl Lit<'_> {
     #[inline]
     #[must_use]
     pub fn type_error(&self) -> Option<TypeError> {
-        let Some(body) = self.text().strip_prefix('-') else {
-            return type_error_of(self.text(), false);
-        };
+        let is_negative = is_negative(self.text());
         let is_unsigned = match self {
             Lit::Int(literal) => literal.type_suffix().is_some_and(NumberType::is_unsigned),
             _ => false,
         };
-        type_error_of(body, true).or(is_unsigned.then_some(TypeError::OutOfRange))
+        let error = type_error_of(after_minus(self.text()), is_negative);
+        error.or((is_negative && is_unsigned).then_some(TypeError::OutOfRange))
     }
 
     /// Returns the result of [`Lit::type_error`] for a literal with a minus before it in the source. The minus may be a binary one, so
@@ -73,8 +73,7 @@ impl Lit<'_> {
     #[inline]
     #[must_use]
     pub fn type_error_negated(&self) -> Option<TypeError> {
-        let text = self.text();
-        type_error_of(text.strip_prefix('-').unwrap_or(text), true)
+        type_error_of(after_minus(self.text()), true)
     }
 }
 

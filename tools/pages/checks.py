@@ -225,6 +225,28 @@ def check_limits(tell):
         tell(f'docs/PERFORMANCE.md: {above} of the {len(limits)} limits are above the lowest that they were')
 
 
+# The limits on docs/RELIABILITY.md: the first cells of each row, and the constant in the sources.
+LIMITS = {
+    '| 128 bits | an integer |': ('rl_syntax/specs/Numbers.antt', 'limit = 2 ^ 128 - 1'),
+    '| 128 | groups that are open at once |': ('rl_tokens/src/nest.rt', 'const MAX_OPEN: usize = 128;'),
+    '| 255 | hashes of a raw string |': ('rl_theorem/specs/RustRules.antt', 'nat_lt hashes 256'),
+    '| 1 GiB | a file or standard input of `rl_scan` |': ('rl_files/src/host.rt', 'const LONGEST: u64 = 1 << 30;'),
+    '| 1 MiB | a literal for which `--check` and `--stats` name rules |': ('rl_scan/src/rewriting.rt', 'const LONGEST_NAMED: usize = 1 << 20;'),
+    '| 100 | names that `--fix` tries for its temporary file |': ('rl_files/src/whole_file.rt', 'const TRIES: u32 = 100;'),
+    '| 4,294,967,295 | calls of a reader for one input of `rl_tool` |': ('rl_program/src/streams.rt', 'const TURNS: u32 = u32::MAX;'),
+    '| 4,294,967,295 | directories entered in a row': ('rl_files/src/walk.rt', 'const TURNS: u32 = u32::MAX;'),
+}
+
+
+def check_source_limits(tell):
+    """Checks that each row of the table of limits is listed above, and that the sources have its constant."""
+    rows = read('docs/RELIABILITY.md').split('| Limit | Applies to |')[1].split('\n\n')[0].split('\n')[2:]
+    for row in rows:
+        path, constant = next((its for head, its in LIMITS.items() if row.startswith(head)), (None, None))
+        if path is None or constant not in read(f'crates/{path}'):
+            tell(f'docs/RELIABILITY.md: no source has the limit: {row}')
+
+
 # A row of the table of options of rl_scan with its lines of the help, and a line that begins an option.
 OPTION_ROW = re.compile(r"""OptionRow \{ name: "(--[\w-]*)", letter: '(\\0|.)', modes: (\w+), value: Value::(\w+).*, help: "([^"]*)" \}""")
 OPTION_LINE = re.compile(r'(?m)^ {2,6}(?:-(\w), )?(--[\w-]*)( [A-Z][A-Z,.]*)?(?: |$)')
@@ -306,4 +328,4 @@ def check_map(tell):
 
 OF_PAGES = (
     check_core, check_map, check_paths, check_snippets, check_definitions, check_names, check_words, check_owners,
-    check_errors, check_diagrams, check_limits, check_options, check_rules, check_habits, check_public_names)
+    check_errors, check_diagrams, check_limits, check_source_limits, check_options, check_rules, check_habits, check_public_names)

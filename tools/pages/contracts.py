@@ -1,22 +1,25 @@
-"""The sections `## Contracts` of the pages CALLING.md: the public functions of a library with their clauses,
-as in the sources."""
+"""The sections `## Contracts` of the pages CALLING.md, as in the sources: the public types of a library, its public functions with
+their clauses, and the definitions of the words of the clauses."""
 import functools
-import itertools
 import re
-import textwrap
 
+from . import defined
 from .items import (
-    blanked, code_files, core, given_by, holders, items_of, paths, public_items, read, root_of, signature_end)
+    blanked, code_files, core, first_sentence, given_by, holders, items_of, paths, public_items, read, root_of, signature_end)
 from .snippets import BRACES, closing
 
 HEAD = '## Contracts\n'
 INTRODUCTION = """
-`tools/docs --write` wrote this section from the sources. `x.now` is the value of a borrowed argument at the call. For an
-argument that is borrowed to be changed, `x.old` is the value at the call, and `x.new` the value at the return. A clause
-without a label can't be cited by name. The line below a law's name is its statement.
+`tools/docs --write` wrote this section from the sources. [RATTLE.md](../../docs/RATTLE.md#reading-a-contract) explains the notation, and
+[lists the laws](../../docs/RATTLE.md#laws-and-lemmas) of all crates. A clause without a label can't be cited by name.
 """
 NAMES = re.compile(r'^( *)ghost use ([\w.]+)\.\{([^}]*)\};', re.M)
 MODULE = re.compile(r'^( *)ghost use ([\w.]+) as (\w+);', re.M)
+# The ghost members that state the meaning of a type or of its parser, and the impls that have them.
+MEMBER = re.compile(r'^    ghost (runs|peeks|shown|appends|same|KIND|Value)(?: =|:) \{', re.M)
+IMPL = re.compile(r'^(?:pub trait|impl(?:<[^\n]*?>)?(?= .* for )) (\w+)(?:<[^\n]*?>)?(?: for (\w+))?', re.M)
+# The lengths of a line with a whole contract, and of the lines of a definition.
+SHORT, LONG = 120, 330
 
 
 def calling_pages():
@@ -25,9 +28,8 @@ def calling_pages():
 
 
 def passed_on():
-    """Returns the modules of lower crates that a library re-exports as a whole, and the modules of laws."""
-    given = {at for crate in calling_pages() for at, names in given_by(crate, root_of(crate)).items() if names is None and at[0] != crate}
-    return given | {(crate, 'laws') for crate in calling_pages()}
+    """Returns the modules of lower crates that a library re-exports as a whole."""
+    return {at for crate in calling_pages() for at, names in given_by(crate, root_of(crate)).items() if names is None and at[0] != crate}
 
 
 def core_items(crate):
@@ -44,18 +46,17 @@ def core_items(crate):
                 yield path, item
 
 
-def functions(crate):
-    """Returns the functions that the page of a crate quotes: those that it exports for callers, and those that it re-exports from
-    crates without a page."""
+def own_items(crate):
+    """Returns the items that the page of a crate quotes: those that it exports for callers, and those that it re-exports from crates
+    without a page. Laws have a page of their own."""
     items = core_items(crate) if crate in core() else public_items(crate)
     with_page = {*calling_pages()} - {crate}
-    return [(path, item) for path, item in items if item.kind == 'fn' and path.split('/')[1] not in with_page]
+    return [(path, item) for path, item in items if path.split('/')[1] not in with_page and not path.endswith('/laws.rt')]
 
 
-def first_sentence(docs):
-    first = re.split(r'\n\n|\n#', docs.strip())[0].replace('\n', ' ')
-    first = re.sub(r'\[(`[^`]*`)\](\([^)]*\)|\[[^\]]*\])?', r'\1', first)
-    return re.split(r'(?<=[.;:])\s', first, maxsplit=1)[0].rstrip(';:')
+def in_braces(text, at):
+    """Returns the text in the braces that open at a position, in one line without comments."""
+    return ' '.join(re.sub(r'//[^\n]*', '', text[at + 1:closing(text, at, BRACES) - 1]).split())
 
 
 def clauses_of(path, item):
@@ -65,7 +66,7 @@ def clauses_of(path, item):
     found, end = [], signature_end(code, item.at)
     while it := head.match(code, end):
         end = closing(code, it.end() - 1, BRACES)
-        found.append((it[1], it[2], ' '.join(re.sub(r'//[^\n]*', '', text[it.end():end - 1]).split())))
+        found.append((it[1], it[2], in_braces(text, it.end() - 1)))
     return found
 
 
@@ -109,78 +110,75 @@ def add_imports(path, at, said, needed):
 def quoted(path, item, needed):
     """Iterates over the lines that quote a function. Adds the `ghost use` lines that its clauses need."""
     yield f'/// {first_sentence(item.docs)}'
-    yield re.sub(r'^.*?\bfn \w+', f'fn {item.name}', item.head)
+    head, lines = re.sub(r'^.*?\bfn \w+', f'fn {item.name}', item.head), []
     for sort, label, said in clauses_of(path, item):
-        yield f'  {sort}{" " + label if label else ""}: {said}'
-        if law := statement(said):
-            yield f'    = {law}'
+        law = statement(said)
+        lines += [f'  {sort}{" " + label if label else ""}: {said}', *([f'    = {law}'] if law else [])]
         add_imports(path, item.at, said, needed)
+    is_short = len(lines) == 1 and len(head + lines[0]) <= SHORT
+    yield from [head + lines[0]] if is_short else [head, *lines]
+
+
+def members(path, item, needed):
+    """Iterates over the ghost members of a type or a trait, a line for each impl."""
+    text = read(path)
+    for it in IMPL.finditer(text):
+        if item.name == (it[2] or it[1]):
+            end = closing(text, text.find('{', it.start()), BRACES)
+            found = [(at[1], at.start(), in_braces(text, at.end() - 1)) for at in MEMBER.finditer(text, it.start(), end)]
+            for _, at, said in found:
+                add_imports(path, at, said, needed)
+            if found:
+                yield f'  ghost {it[1]}: ' + '; '.join(f'{name} {"=" if it[2] else ":"} {said}' for name, _, said in found)
+
+
+def typed(path, item, parts, needed):
+    """Iterates over the lines that quote a type or a trait, whose public fields or variants are `parts`."""
+    head = re.sub(r'^pub ', '', ' '.join(read(path)[item.at:].partition(';')[0].split())) if item.kind == 'type' else item.head
+    yield f'{head}{" { " + ", ".join(parts) + " }" if parts else ""} // {first_sentence(item.docs)}'
+    for file in code_files(path.split('/')[1]):
+        yield from members(file, item, needed)
+
+
+def way_to(path, item):
+    """Returns the path by which callers import an item: its crate, or a public module of the crate."""
+    crate, module, owner = path.split('/')[1], path.split('/')[3].removesuffix('.rt'), item.name.split('::')[0]
+    root = read(root_of(crate))
+    is_at_root = re.search(rf'pub use crate::(?:\w+::)+(?:\{{[^}}]*)?\b{owner}\b', root)
+    return crate if is_at_root or f'pub mod {module};' not in root else f'{crate}::{module}'
 
 
 def section(crate):
-    lines, needed = [], {}
-    for path, items in itertools.groupby(functions(crate), lambda it: it[0]):
-        lines.append(f'// {path.removeprefix("crates/")}')
-        lines += [line for _, item in items for line in quoted(path, item, needed)]
-    uses = [f'ghost use {module}{".{" + ", ".join(sorted(names)) + "}" if names else ""};' for module, names in sorted(needed.items())]
-    names = 'These lines import the names of the contracts:'
-    return '\n'.join([HEAD + INTRODUCTION, '```text', *lines, '```', '', names, '', '```text', *uses, '```', ''])
+    lines, needed, last, parts = [], {}, crate, {}
+    for path, item in own_items(crate):
+        owner = item.name.split('::')[0]
+        if item.kind == 'part':
+            parts.setdefault((path, owner), []).append(item.head)
+    for path, item in own_items(crate):
+        if item.kind != 'fn' and '::' in item.name:
+            continue
+        way = way_to(path, item)
+        if way != last:
+            lines.append(f'// {way}:')
+        last = way
+        lines += quoted(path, item, needed) if item.kind == 'fn' else typed(path, item, parts.get((path, item.name)), needed)
+    words = '`ghost use` lines import the words of the contracts. Below each line are the definitions of its words:'
+    return '\n'.join([HEAD + INTRODUCTION, '```text', *lines, '```', '', words, '', '```text', *imports(needed), '```', ''])
 
 
-# The page of the laws, the heading of its section, and the subject of each crate's laws.
-LAWS_PAGE, LAWS = 'docs/RATTLE.md', '## Laws and lemmas\n'
-SUBJECTS = {
-    'rl_syntax': 'The two grammars', 'rl_lexer': 'Tokens', 'rl_tokens': 'Printed lists and token trees',
-    'rl_lenient': 'Literals that were found', 'rl_fronts': 'The literal at the start of token trees', 'rl_cursors': 'Cursors, and the ranges of values', 'rl_strict': 'Flaws', 'rl_flaws': 'All flaws, and the types of literals',
-    'rl_writing': 'Written numbers and raw strings', 'rl_style': 'Literals that are rewritten',
-    'rl_restyle': 'Sources that are rewritten', 'rust_literals': '`Lit` and its parsers', 'rl_attributes': 'Settings',
-}
-
-
-def paragraph(docs):
-    """Returns the first paragraph of a documentation, as comment lines."""
-    return [f'-- {line}' for line in textwrap.wrap(re.sub(r'\[(`[^`]*`)\]\([^)]*\)', r'\1', ' '.join(docs.strip().split('\n\n')[0].split())), 110)]
-
-
-def comment_of(crate, name):
-    """Returns the comment above a definition of a crate, as its lines."""
-    for path in paths(f'crates/{crate}/specs/*.antt'):
-        found = re.search(rf'(?m)((?:^-- .*\n)+)^(?:unfoldable |abbrev |pub )+{name}\b', read(path))
-        if found:
-            return found[1].rstrip('\n').split('\n')
-    return []
-
-
-def lemmas_of(crate):
-    """Returns the lemmas of a crate's theorems, each with its module."""
-    return {name: path.removeprefix('crates/').removesuffix('.antt').replace('/', '.')
-            for path in paths(f'crates/{crate}/proofs/*Theorems.antt') for name in re.findall(r'(?m)^pub ([\w-]+) :', read(path))}
-
-
-def laws_section(crate):
-    lines, uses, modules = [], {}, lemmas_of(crate)
-    path = f'crates/{crate}/src/laws.rt'
-    for item in items_of(path):
-        names = [said for _, _, said in clauses_of(path, item)]
-        for name in names:
-            lines += paragraph(item.docs) if len(names) == 1 else comment_of(crate, name.split(' ')[0])
-            # A lemma has the name of the statement that it proves.
-            lemma = re.sub(r'(?<!^)(?=[A-Z])', '_', name.split(' ')[0]).lower()
-            uses.setdefault(modules[lemma], []).append(lemma)
-            lines += [f'{lemma} : {name}', f'    = {statement(name)}']
-    used = ''.join(f'use Rattle.{module}.{{{", ".join(sorted(names))}}}\n' for module, names in uses.items())
-    return f'### {SUBJECTS[crate]} (`{crate}`)\n\n```text\n{used}\n' + '\n'.join(lines) + '\n```\n'
-
-
-def with_laws():
-    """Returns the page of the laws, with its last section as in the sources."""
-    front, _, section_now = read(LAWS_PAGE).partition(LAWS)
-    introduction = re.split(r'(?m)^### ', section_now, maxsplit=1)[0]
-    return front + LAWS + introduction.rstrip('\n') + '\n\n' + '\n'.join(laws_section(it) for it in SUBJECTS)
+def imports(needed):
+    """Iterates over the `ghost use` lines of some modules, each with the definitions of its names below it. A definition is shown once,
+    also if several of its names are used."""
+    seen = set()
+    for module, names in sorted(needed.items(), key=lambda it: (it[0].startswith('Rattle.std'), it[0])):
+        yield f'ghost use {module}{".{" + ", ".join(sorted(names)) + "}" if names else ""};'
+        found = [defined.found_in(module, name.split(' as ')[0]) for name in sorted(names)]
+        for it in dict.fromkeys(it for it in found if it and it.path.endswith('.antt') and it not in seen):
+            seen.add(it)
+            yield from defined.lines_of(it, LONG)
 
 
 def as_they_are():
     """Iterates over the pages with such a section, each with its text as in the sources."""
-    yield LAWS_PAGE, with_laws()
     for crate, page in calling_pages().items():
         yield page, read(page).partition(HEAD)[0].rstrip('\n') + '\n\n' + section(crate)

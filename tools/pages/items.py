@@ -70,6 +70,12 @@ def docs_before(text, at):
     return '\n'.join(re.findall(r'(?m)^ */// ?(.*)', above))
 
 
+def first_sentence(docs):
+    first = re.split(r'\n\n|\n#', docs.strip())[0].replace('\n', ' ')
+    first = re.sub(r'\[(`[^`]*`)\](\([^)]*\)|\[[^\]]*\])?', r'\1', first)
+    return re.split(r'(?<=[.;:])\s', first, maxsplit=1)[0].rstrip(';:')
+
+
 class Holder(NamedTuple):
     """The block of an impl or a trait: its range, its type or trait, whether it is a trait, and whether it implements one."""
     start: int
@@ -85,7 +91,7 @@ def holders(code):
     found = []
     for it in head.finditer(code):
         is_trait, of_trait = it[1] == 'pub trait', ' for ' in it[2]
-        name = re.match(r'\w+', it[2] if is_trait else re.sub(r'.* for ', '', it[2]))[0]
+        name = re.match(r'\W*(\w*)', it[2] if is_trait else re.sub(r'.* for ', '', it[2]))[1]
         found.append(Holder(it.start(), closing(code, code.find('{', it.start())), name, is_trait, of_trait))
     return found
 

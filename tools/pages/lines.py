@@ -1,11 +1,15 @@
-"""The lines of all files, for docs/MAP.md."""
+"""The lines of all files, for docs/MAP.md, and those that a caller takes along, for docs/RATTLE.md."""
 import collections
 import re
 import subprocess
 
-from .items import TOP, read
+from trying.crates import PARTS as FOLDERS, Crates
 
-PAGE, HEADING = 'docs/MAP.md', '## The lines of all files\n'
+from .items import TOP, families, paths, read
+
+PAGE, HEAD = 'docs/MAP.md', '| Part | Before | Now |\n|---|---|---|\n'
+# The head of the table of docs/RATTLE.md.
+SIZES = '| Library | Crates | Code | Definitions | Proofs |\n|---|---|---|---|---|\n'
 # Each part of the repository, the start of the paths of its files, of which the first that matches counts, and its lines before
 # `rl_scan` became one crate (1 December 2026, commit 20697a39c).
 PARTS = [
@@ -21,7 +25,6 @@ PARTS = [
     ('pages', r'docs/|\w+\.md$', 6974),
     ('other files', '', 491),
 ]
-ROW = re.compile(r'\| ([\w ,]+) \| ([\d,]+) \| ([\d,]+) \|')
 
 
 def counted():
@@ -43,10 +46,27 @@ def table():
     return ''.join(f'| {name} | {before:,} | {now:,} |\n' for name, before, now in rows)
 
 
+def with_rows(page, head, rows):
+    """Returns the page with these rows below the head of a table, or as it is if each number of the table is right within 2 per cent."""
+    old = re.search(f'(?<={re.escape(head)})(?:\\|.*\\n)*', page)
+    shown, wanted = ([int(it.replace(',', '')) for it in re.findall(r'(?<=\| )[\d,]+(?= \|)', text)] for text in (old[0], rows))
+    is_near = len(shown) == len(wanted) and all(abs(a - b) <= b / 50 for a, b in zip(shown, wanted))
+    return page if is_near else page[:old.start()] + rows + page[old.end():]
+
+
 def with_lines():
-    """Returns the page with the present numbers, or as it is if each number on it is right within 2 per cent."""
-    page, rows = read(PAGE), table()
-    shown, wanted = ([int(it[2].replace(',', '')) for it in ROW.findall(text)] for text in (page.split(HEADING)[1], rows))
-    if len(shown) == len(wanted) and all(abs(a - b) <= b / 50 for a, b in zip(shown, wanted)):
-        return page
-    return re.sub(f'({HEADING}.*?\\|---\\|---\\|---\\|\n)(?:\\|.*\n)*', lambda it: it[1] + rows, page, flags=re.S)
+    """Returns the page with the present numbers."""
+    return with_rows(read(PAGE), HEAD, table())
+
+
+def with_sizes(page):
+    """Returns the guide for callers with the lines of each library, together with all crates that it depends on."""
+    crates, rows = Crates(TOP), ''
+    lines = {(crate, part): sum(read(it).count('\n') for it in paths(f'crates/{crate}/{part}/**/*.*t'))
+             for crate in crates.lines for part in FOLDERS}
+    for it in families()[0] + families()[1]:
+        if paths(f'crates/{it}/src/lib.rt'):
+            taken = crates.with_those_below([it])
+            sums = [f'{sum(lines[crate, part] for crate in taken):,}' for part in FOLDERS]
+            rows += f'| `{it}` | {len(taken)} | {" | ".join(sums)} |\n'
+    return with_rows(page, SIZES, rows)

@@ -1,12 +1,10 @@
 """The page docs/THEOREM.md: the contracts of rl_theorem, and then each definition that they need, once."""
 import collections
-import functools
 import re
-from typing import NamedTuple
 
-from .contracts import clauses_of, first_sentence, quoted
-from .items import code_files, items_of, paths, read
-from .snippets import blanked, closing
+from .contracts import clauses_of, quoted
+from .defined import found_in, modules, uses_of
+from .items import items_of, read
 
 PAGE, ROOT = 'docs/THEOREM.md', 'crates/rl_theorem/src/lib.rt'
 # The contracts beside the headline: the loop over a list, and reading a list again.
@@ -23,7 +21,6 @@ that they need, in groups, and the names of Rattle's standard library. `rt check
 
 - The contracts without the loop over a list (`literal_at`, `both_ways`) and `read_again` need {headline_n} definitions in
   {headline_n_lines} lines, of which {headline_n_code} aren't comments.
-- With `read_again`, these are {again} definitions in {again_lines} lines, of which {again_code} aren't comments.
 - All contracts need {all} definitions in {all_lines} lines, of which {all_code} aren't comments, and {types} types of the code in
   {types_lines} lines.
 
@@ -36,17 +33,26 @@ How to read it:
   that a writer returns for a string, bytes, a C string, a byte or a character.
 - A token (`Literal`) and each of `LitStr`, `LitByteStr`, `LitCStr`, `LitByte`, `LitChar`, `LitInt` and `LitFloat` is a text in UTF-8,
   held as bytes, and a span: `SpannedText`. A `LitBool` is a `bool` and a span. `Kept` is an error, and the value that is handed back.
-- `⊎` is *or*, `×` is *and* or *there is*, `→` is *for all* or *implies*, `≡` is *equals*, `⊥` is *false*, and `⊤` is *true*.
+- `⊎` is *or*, `×` is *and* or *there is*, `→` is *for all* or *implies*, `≡` is *equals*, `≢` is *differs from*, `⊥` is *false*,
+  and `⊤` is *true*. An operator in this list binds tighter than those after it: a field such as `l.text`; a function and its
+  arguments; `^`; `*`, `/` and `%`; `∷`; `+`, `-` and `++`; `==` and `is`; `&&`; `⋅` and `||`; `∣`; `≡` and `≢`; `×`; `⊎`; `→`.
 - `pub record` begins a structure, or a statement that consists of its fields. `pub data` lists constructors. Other definitions
-  consist of equations, of which the first that fits counts. `StrKind` and the like are the variants of `Kind`.
+  consist of equations, of which the first that fits counts. `record {{ a = x }}` is the record with these fields, and
+  `record r {{ a = x }}` is `r` with another `a`. `p.0` and `p.1` are the parts of a pair. `suc n` is `n + 1`. `StrKind` and the like
+  are the variants of `Kind`.
 - `∷` puts an element before a list, and `++` joins two lists. `codes "ab"` is the list of the codes of `a` and `b`.
   `digits_onto m 10 false n []` is the digits of `n` in base ten, if `m` is above the number of the digits.
-- `IsTrue b` states that a test succeeds. `IfOk result (λ x. P)` states `P` of the value `x` if the result is `Ok`.
+- `IsTrue b` states that a test succeeds. `IfOk result (λ x. P)` states `P` of the value `x` if the result is `Ok`, and
+  `IfErr result (λ e. P)` states `P` of the error `e` if it is `Err`.
 - `Memory` is the error for a failed allocation. No contract states that an allocation fails if `Memory` is returned, or that one
   succeeds: Rattle's allocators promise neither. So a function that always returned `Memory` would fulfill each contract except that
   of `literal_at`, which allocates nothing, and that of `suffix_of`.
 - Each grammar consists of rules. Rust's are those of the Rust Reference, `syn`'s are those of its parser. Not all that `syn` parses is
   Rust's. That the rules are those of rustc and `syn` isn't proved, but [compared](COMPARISON.md).
+- No contract states that an integer above 128 bits has no parse result. It follows from the rules of `syn_literal`: `Int` tests the
+  number, and `Float` excludes integers of any size. The lemma `read_within` in `crates/rl_strict/proofs/LimitLemmas.antt` proves it of
+  `Reads`, the definition that agrees with these rules by the law `syn_literals_are_by_the_rules`. By the law
+  `a_strict_literal_is_a_syn_literal_or_above_128_bits` in `crates/rl_strict/src/laws.rt`, every other strict text has a parse result.
 - The page leaves out the bodies of the functions, which only call the libraries. Except for `read_again`, nothing is stated about
   reading a text that isn't a printed list.
 """
@@ -62,72 +68,6 @@ GROUPS = {
     "`syn`'s grammar": r'rl_theorem/specs/SynRules|rl_syntax/specs/Numbers',
 }
 WORD = re.compile(r"[^\W\d][\w'-]*(?:\.[^\W\d][\w'-]*)*|[^\s\w(){}\[\].,;:\"]+")
-
-
-class Definition(NamedTuple):
-    """A definition, or a type of the code: its file, its text with its comment, and the module in which its names are looked up."""
-    path: str
-    text: str
-    module: str
-
-
-def uses_of(text):
-    """Returns the names that a file imports: the module and the name in it, by the name in the file."""
-    found = {}
-    for module, names, one in re.findall(r'(?m)^ *(?:ghost |pub |unfoldable )*use ([\w.]+?)(?:\.\{([^}]*)\}|\.(\w+));?$', text):
-        for name in (names or one).split(','):
-            whole, _, own = name.strip().partition(' as ')
-            found[own or whole] = module, whole
-    return found
-
-
-def names_of(code):
-    """Returns the names that a block of a file defines, with the constructors of a type."""
-    head = r"(?:(?:abbrev|unfoldable|pub|record|data) +)*([^\s:({]+)"
-    if code.startswith(('mutual', 'abbrev mutual')):
-        return [it for it in re.findall(rf'(?m)^  {head}', code) if it] + re.findall(r'(?m)^    (\w+) :', code)
-    first = re.match(head, re.sub(r'\A(?:infix.*\n)+', '', code))[1]
-    return [first, *(re.findall(r'(?m)^  (\S+) :', code) if re.search(r'(?m)^(?:pub )?data ', code) else [])]
-
-
-@functools.cache
-def modules():
-    """Returns the modules of all crates: what each defines, by name, and what it imports."""
-    found = {}
-    for path in paths('crates/*/specs/**/*.antt'):
-        module = 'Rattle.' + path.removeprefix('crates/').removesuffix('.antt').replace('/', '.')
-        defined = {}
-        for block in re.split(r'\n\n+(?=\S)', read(path)):
-            code = re.sub(r'(?m)^--.*\n?', '', block)
-            if code and not re.match(r'(pub |unfoldable )*(use|mod) ', code):
-                it = Definition(path, block.rstrip('\n'), module)
-                defined.update((name, it) for name in names_of(code))
-        found[module] = defined, uses_of(read(path))
-    return found
-
-
-@functools.cache
-def declared(crate, name):
-    """Returns a type of the code: its first sentence, and its fields or variants."""
-    for path in code_files(crate):
-        for it in items_of(path):
-            if it.kind in ('struct', 'enum') and it.name == name:
-                text, code = read(path), blanked(read(path))
-                end = re.compile(r'[{;]').search(code, it.at).end()
-                whole = text[it.at:closing(code, end - 1) if code[end - 1] == '{' else end]
-                kept = [row for row in whole.split('\n') if not re.match(r' *(//|#)', row)]
-                return Definition(path, '\n'.join([f'// {first_sentence(it.docs)}', *kept]), f'Rattle.{crate}.specs')
-    return None
-
-
-def found_in(module, name):
-    """Returns the definition that a name has in a module, or None for a name of std."""
-    if type_of := re.match(r'Rattle\.(\w+)\.specs\.declared\.(?:\w+\.)*?([A-Z]\w*)\b', f'{module}.{name}'):
-        return declared(type_of[1], type_of[2])
-    defined, imported = modules().get(module, ({}, {}))
-    if name in defined:
-        return defined[name]
-    return found_in(*imported[name]) if name in imported else None
 
 
 def words_of(text):
@@ -191,7 +131,7 @@ def page():
     parts['Names of the standard library'] = [f'{module}: {", ".join(sorted(those))}' for module, those in sorted(standard.items())]
     body = ''.join('\n'.join([f'\n## {title}\n', '```text', *those, '```', '']) for title, those in parts.items())
     counts = figures('types', [it for it in found if it.path.endswith('.rt')])
-    for name, without in {'headline_n': BESIDE, 'again': BESIDE - {'read_again'}, 'all': ()}.items():
+    for name, without in {'headline_n': BESIDE, 'all': ()}.items():
         counts |= figures(name, [it for it in definitions(without)[0] if it.path.endswith('.antt')])
     headline = re.search(r'(?m)^> .*', read('docs/PROVED.md'))[0]
     return INTRODUCTION.format(headline=headline, **counts) + body

@@ -1,8 +1,8 @@
 -- Lemmas about the values of settings in terms of the text: of its attributes, and of the texts of their literals.
-use Rattle.std.proofs.Common.{◌≡◌, ◌⊎◌, inl, inr, ℕ, ◌<◌, suc, zero, Bool, true, false, List, [], ◌∷◌, ◌++◌, map, get_or, length, Option, Some, None, Result, Ok, Err, refl, sym, ◌∙◌, ap, subst, arith, rules, IsTrue, codes, ◌||◌}
+use Rattle.std.proofs.Common.{◌≡◌, ◌⊎◌, inl, inr, ℕ, ◌<◌, ◌≤◌, suc, zero, Bool, true, false, List, [], ◌∷◌, ◌++◌, map, get_or, length, Option, Some, None, Result, Ok, Err, refl, sym, ◌∙◌, ap, subst, arith, rules, IsTrue, codes, ◌||◌}
 use Rattle.std.proofs.Props.{props}
 use Rattle.std.proofs.Math.Logic.{∥∥₁_elim}
-use Rattle.std.specs.Prelude.{String, string_bytes, MatchOption, IfOk, IfErr, IsOkAnd, encode_utf8_all}
+use Rattle.std.specs.Prelude.{String, string_bytes, MatchOption, IfNone, IfOk, IfErr, IsOkAnd, encode_utf8_all}
 use Rattle.std.specs.List.{All, Any, Contains}
 use Rattle.std.specs.Option.{unwrap_or}
 use Rattle.std.specs.Str.{chars, bytes_eq, IsUtf8}
@@ -13,7 +13,7 @@ use Rattle.std.proofs.lemmas.Slice.Eq.{bytes_eq-Decides}
 use Rattle.std.proofs.lemmas.Str.{chars-IsAscii, encodes-chars}
 use Rattle.rl_syntax.specs.declared.kind.Kind.{Kind}
 use Rattle.rl_syntax.specs.declared.kind.Kind.TheVariants.{Str as StrKind, ByteStr as ByteStrKind, CStr as CStrKind, Byte as ByteKind, Char as CharKind, Int as IntKind, Float as FloatKind, Bool as BoolKind}
-use Rattle.rl_syntax.specs.Numbers.{float_digits}
+use Rattle.rl_syntax.specs.Numbers.{Sign, float_digits, limit, NoSign}
 use Rattle.rl_syntax.specs.Reading.{Characters, Digits, Truth, Contents, Reads, ReadsAs, HasContents, HasNoInteger, HasNoReading, HasSuffix, IsReadAs, truth_text}
 use Rattle.rl_syntax.proofs.OneReading.{one_reading}
 use Rattle.rust_literals.specs.declared.lit.Lit.{Lit}
@@ -26,8 +26,9 @@ use Rattle.rl_attributes.specs.declared.settings.Setting.{Setting}
 use Rattle.rl_attributes.specs.declared.settings.SettingError.{SettingError}
 use Rattle.rl_attributes.specs.Attributes.{Attribute}
 use Rattle.rl_attributes.specs.Entries.{attribute_of, attributes_of, AreReadValues, EntriesDiffer, IsReadLit, HasName}
-use Rattle.rl_attributes.specs.Settings.{knows, IsStringSet, IsTruthSet, IsNumberSet, RejectsString, RejectsTruth, RejectsNumber, RejectsFirst, RejectsSetValue, IsSetAs, IsRejectedEntry}
-use Rattle.rl_attributes.specs.TextSettings.{IsNamed, IsOneOf, setting_names, AreNamedOf, HasBareText, HaveBareTexts, IsUnset, IsSetWith, IsSetOr, IsStringOf, IsTruthOf, HasNumberDigits, IsStringAt, IsTruthAt, AreDigitsAt, IsNumberAt, IsTruthOr, IsMemoryError, IsSomeStringOrMemory, IsSomeNumberOrRejected}
+use Rattle.rl_attributes.specs.Settings.{knows, IsStringSet, IsTruthSet, IsUnsigned, IsUnsignedSet, IsNumberSet, RejectsString, RejectsTruth, RejectsUnsigned, RejectsNumber, RejectsFirst, RejectsSetValue, IsSetAs, IsRejectedEntry}
+use Rattle.rl_attributes.specs.TextSettings.{IsNamed, IsOneOf, setting_names, AreNamedOf, HasBareText, HaveBareTexts, IsUnset, IsSetWith, IsSetOr, IsStringOf, IsTruthOf, IsUnsignedOf, HasNumberDigits, IsStringAt, IsTruthAt, IsUnsignedAt, AreDigitsAt, IsNumberAt, IsMemoryError, IsSomeStringOrMemory, IsSomeNumberOrRejected}
+use Rattle.rl_lenient.proofs.IntegerLemmas.{int_past}
 use Rattle.rl_attributes.proofs.EntryLemmas.{value_lent}
 
 -- ---- lemmas about the elements of a mapped list
@@ -375,6 +376,46 @@ truth_exactly p es (Err e) rd set rejected w text =
     let at = rejected_at p es (RejectsTruth p) e (IsTruthOf w) rd rejected text in
     absurd (truth_fits p at.entry.value e (is_kind at.entry.value at.read BoolKind (Truth w) at.is.0 at.is.1) at.of)
 
+-- ---- lemmas about settings that are unsigned integers
+
+pub none_if : {X : Type 0} (o : Option X) (P : Type 0) → P → IfNone o P
+none_if None P p = p
+none_if (Some x) P p = tt
+
+pub unsigned_in_words : {A : Type 0} (most : ℕ) (e : Entry A) (n : ℕ) → IsReadLit e.value → IsUnsignedSet most e.value n
+    → IsUnsignedOf most n (attribute_of e)
+unsigned_in_words most e n rd h = h.1
+
+abbrev magnitude_in : Option (Sign × ℕ × List ℕ) → ℕ
+magnitude_in (Some p) = p.1
+magnitude_in None = 0
+
+-- An unsigned integer has one value.
+pub one_unsigned : (most m n : ℕ) (t : List ℕ) → IsUnsigned most m t → IsUnsigned most n t → m ≡ n
+one_unsigned most m n t h k =
+    let e = sym (int_past (chars t) NoSign m h.suffix h.reads) ∙ int_past (chars t) NoSign n k.suffix k.reads in
+    ap (λ (o : Option (Sign × ℕ × List ℕ)). magnitude_in o) e
+
+unsigned_kind : {A : Type 0} (most n : ℕ) (l : Lit A) → most ≤ limit → IsReadLit l → IsUnsigned most n (token_of l).text
+    → kind_of l ≡ Some IntKind
+unsigned_kind most n l bound rd h =
+    is_kind l rd IntKind _ h.suffix
+    (record { sign = NoSign; magnitude = n; reads = h.reads; within = omega (arith, bound, h.small); contents_is = refl })
+
+pub unsigned_exactly : {A : Type 0} (most : ℕ) (p : Setting) (es : List (Entry A)) (r : Result (Option ℕ) (SettingError A))
+    → most ≤ limit → AreReadValues es → IfOk r (IsSetAs p es (IsUnsignedSet most))
+    → IfErr r (RejectsSetValue p es (RejectsUnsigned most p)) → (w : ℕ)
+    → IsUnsignedAt p.name.now most w (attributes_of es) → r ≡ Ok (Some w)
+unsigned_exactly most p es (Ok (Some n)) bound rd set rejected w text =
+    let at = some_at p es (IsUnsignedSet most) n (IsUnsignedOf most w) rd set text in
+    let same = one_unsigned most n w _ at.of.1 at.is in
+    cc
+unsigned_exactly most p es (Ok None) bound rd set rejected w text =
+    absurd (none_at {V = ℕ} p es (IsUnsignedSet most) (IsUnsignedOf most w) set text)
+unsigned_exactly most p es (Err e) bound rd set rejected w text =
+    let at = rejected_at p es (RejectsUnsigned most p) e (IsUnsignedOf most w) rd rejected text in
+    absurd (at.of.1 w (unsigned_kind most w at.entry.value bound at.read at.is, at.is))
+
 -- ---- lemmas about settings that are numbers
 
 no_integer : (t : List ℕ) → ∥ ReadsAs FloatKind t ∥₁ → HasNoInteger t
@@ -557,23 +598,25 @@ pub rejected_named : {A : Type 0} (p : Setting) (es : List (Entry A)) (Rejects :
     (err : SettingError A) → RejectsSetValue p es Rejects err → Any (IsNamed p.name.now) (attributes_of es)
 rejected_named p es Rejects err (k, x, lt, e, j) = any_map attribute_of (IsNamed p.name.now) es (k, x, lt, e, j.0)
 
-pub or_set : (name : List ℕ) (b : Bool) (o : Option Bool) (list : List Attribute)
-    → MatchOption o (IsUnset name list) (λ v. IsTruthAt name v list) → IsTruthOr name b (unwrap_or o b) list
-or_set name b (Some v) list at = set_or_of_set name (IsTruthOf v) (v ≡ b) list at
-or_set name b None list at = set_or_of_unset name (IsTruthOf b) (b ≡ b) list at refl
+pub or_set : {V : Type 0} (Is : V → Attribute → Type 0) (name : List ℕ) (b : V) (o : Option V) (list : List Attribute)
+    → MatchOption o (IsUnset name list) (λ v. IsSetWith name (Is v) list)
+    → IsSetOr name (Is (unwrap_or o b)) (unwrap_or o b ≡ b) list
+or_set Is name b (Some v) list at = set_or_of_set name (Is v) (v ≡ b) list at
+or_set Is name b None list at = set_or_of_unset name (Is b) (b ≡ b) list at refl
 
-pub or_exactly : {E : Type 0} (name : List ℕ) (b w : Bool) (o : Option Bool) (list : List Attribute)
-    → MatchOption o (IsUnset name list) (λ v. IsTruthAt name v list)
-    → (IsTruthAt name w list → ◌≡◌ {A = Result (Option Bool) E} (Ok o) (Ok (Some w))) → IsTruthOr name b w list → unwrap_or o b ≡ w
-or_exactly name b w (Some v) list set exactly at =
-    let e = exactly (set_of_set_or name (IsTruthOf w) (w ≡ b) list at set.named) in cc
-or_exactly name b w None list none exactly at =
-    sym (default_of_set_or name (IsTruthOf w) (w ≡ b) list none at)
+pub or_exactly : {V E : Type 0} (Is : V → Attribute → Type 0) (name : List ℕ) (b w : V) (o : Option V)
+    (list : List Attribute) → MatchOption o (IsUnset name list) (λ v. IsSetWith name (Is v) list)
+    → (IsSetWith name (Is w) list → ◌≡◌ {A = Result (Option V) E} (Ok o) (Ok (Some w)))
+    → IsSetOr name (Is w) (w ≡ b) list → unwrap_or o b ≡ w
+or_exactly Is name b w (Some v) list set exactly at =
+    let e = exactly (set_of_set_or name (Is w) (w ≡ b) list at set.named) in cc
+or_exactly Is name b w None list none exactly at = sym (default_of_set_or name (Is w) (w ≡ b) list none at)
 
-pub or_rejected : {A : Type 0} (p : Setting) (es : List (Entry A)) (b w : Bool) (err : SettingError A)
-    → RejectsSetValue p es (RejectsTruth p) err
-    → (IsTruthAt p.name.now w (attributes_of es) → ◌≡◌ {A = Result (Option Bool) (SettingError A)} (Err err) (Ok (Some w)))
-    → IsTruthOr p.name.now b w (attributes_of es) → ⊥
-or_rejected p es b w err rejected exactly at =
-    let named = rejected_named p es (RejectsTruth p) err rejected in
-    let never = exactly (set_of_set_or p.name.now (IsTruthOf w) (w ≡ b) (attributes_of es) at named) in cc
+pub or_rejected : {A V : Type 0} (Is : V → Attribute → Type 0) (Rejects : Lit A → SettingError A → Type 0) (p : Setting)
+    (es : List (Entry A)) (b w : V) (err : SettingError A) → RejectsSetValue p es Rejects err
+    → (IsSetWith p.name.now (Is w) (attributes_of es)
+    → ◌≡◌ {A = Result (Option V) (SettingError A)} (Err err) (Ok (Some w)))
+    → IsSetOr p.name.now (Is w) (w ≡ b) (attributes_of es) → ⊥
+or_rejected Is Rejects p es b w err rejected exactly at =
+    let named = rejected_named p es Rejects err rejected in
+    let never = exactly (set_of_set_or p.name.now (Is w) (w ≡ b) (attributes_of es) at named) in cc

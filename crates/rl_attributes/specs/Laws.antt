@@ -10,7 +10,7 @@ use Rattle.rust_literals.specs.LitParts.{HasLitSuffix, lit_span}
 use Rattle.rl_attributes.specs.declared.settings.Setting.{Setting}
 use Rattle.rl_attributes.specs.declared.settings.SettingError.{SettingError}
 use Rattle.rl_attributes.specs.Entries.{IsReadLit}
-use Rattle.rl_attributes.specs.Settings.{knows, IsStringSet, IsTruthSet, RejectsString, RejectsTruth, span_of}
+use Rattle.rl_attributes.specs.Settings.{knows, IsStringSet, IsTruthSet, RejectsString, RejectsTruth, RejectsUnsigned, span_of}
 use Rattle.rl_attributes.specs.TextSettings.{IsOneOf, setting_names, IsMemoryError}
 
 -- A theorem: if an attribute's value is a string without a suffix, the text of the value is parsed as that string.
@@ -70,3 +70,8 @@ ARejectedStringIsAtTheValue A =
 abbrev pub ARejectedBoolIsAtTheValue : (A : Type 0) → Type 0
 ARejectedBoolIsAtTheValue A =
     (s : Setting) (l : Lit A) (e : SettingError A) → RejectsTruth s l e → span_of e ≡ lit_span l
+
+-- A theorem: the error for a value that must be an integer from 0 to `most` is at the value.
+abbrev pub ARejectedUnsignedIsAtTheValue : (A : Type 0) → Type 0
+ARejectedUnsignedIsAtTheValue A =
+    (most : ℕ) (s : Setting) (l : Lit A) (e : SettingError A) → RejectsUnsigned most s l e → span_of e ≡ lit_span l

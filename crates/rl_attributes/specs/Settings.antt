@@ -1,5 +1,5 @@
 -- The check of attributes against the settings that a program accepts, the values of settings, and their errors.
-use Rattle.std.specs.Prelude.{◌≡◌, ◌≢◌, ◌⊎◌, ℕ, Bool as Truth, List, [], ◌∷◌, ◌++◌, All, Any, Option, Result, String, IfSome, IsTrue, IsFalse, codes, string_bytes}
+use Rattle.std.specs.Prelude.{◌≡◌, ◌≢◌, ◌⊎◌, ◌≤◌, ℕ, Bool as Truth, List, [], ◌∷◌, ◌++◌, All, Any, Option, Some, Result, String, IfSome, IsTrue, IsFalse, codes, string_bytes}
 use Rattle.std.specs.List.{list_any}
 use Rattle.std.specs.Option.{IsSomeAnd}
 use Rattle.std.specs.Str.{bytes_eq, chars}
@@ -7,10 +7,12 @@ use Rattle.rl_syntax.specs.declared.span.Span.{Span}
 use Rattle.rl_tokens.specs.declared.error.Error.{Error}
 use Rattle.rl_syntax.specs.declared.kind.Kind.TheVariants.{Str as StrKind, Int as IntKind, Float as FloatKind}
 use Rattle.rl_tokens.specs.Errors.{message_of, memory_at}
+use Rattle.rl_syntax.specs.Numbers.{IntReads, NoSign}
 use Rattle.rl_syntax.specs.Reading.{Characters, HasContents}
 use Rattle.rust_literals.specs.declared.lit.Lit.{Lit}
 use Rattle.rust_literals.specs.declared.lit.Lit.TheVariants.{Str, Int, Float, Bool, Verbatim}
 use Rattle.rust_literals.specs.Base10.{AreBase10Digits, IsMadeOf, IsRejectedBy}
+use Rattle.rust_literals.specs.Literals.{kind_of, token_of}
 use Rattle.rust_literals.specs.LitParts.{HasLitSuffix, lit_span}
 use Rattle.rl_attributes.specs.declared.attributes.Entry.{Entry}
 use Rattle.rl_attributes.specs.Entries.{HasName}
@@ -88,6 +90,16 @@ abbrev pub IsTruthSet : {A : Type 0} → Lit A → Truth → Type 0
 IsTruthSet (Bool l) value = l.value ≡ value
 IsTruthSet _ value = ⊥
 
+-- The text is an integer literal without a minus, with any suffix. Its value is `value`, and is at most `most`.
+pub record IsUnsigned (most value : ℕ) (text : List ℕ) : Type 0 where
+  pub suffix : List ℕ
+  pub reads : IntReads (chars text) NoSign value suffix
+  pub small : value ≤ most
+
+-- The literal is an integer literal with the value `value`, from 0 to `most`.
+abbrev pub IsUnsignedSet : {A : Type 0} → ℕ → Lit A → ℕ → Type 0
+IsUnsignedSet most l value = (kind_of l ≡ Some IntKind) × IsUnsigned most value (token_of l).text
+
 -- The literal is an integer or a float, and `value` is the number that the number type parses from its digits in base
 -- ten.
 abbrev pub IsNumberSet : {A N E : Type 0} → (List ℕ → Result N E → Type 0) → Lit A → N → Type 0
@@ -111,6 +123,11 @@ RejectsString setting other e = IsOtherKind setting other e
 abbrev pub RejectsTruth : {A : Type 0} → Setting → Lit A → SettingError A → Type 0
 RejectsTruth setting (Bool l) e = ⊥
 RejectsTruth setting other e = IsOtherKind setting other e
+
+-- The error `e` is the error for a setting that must be an integer from 0 to `most`: the value isn't an integer literal,
+-- or is one with a minus or with a value above `most`.
+abbrev pub RejectsUnsigned : {A : Type 0} → ℕ → Setting → Lit A → SettingError A → Type 0
+RejectsUnsigned most setting l e = IsOtherKind setting l e × ((value : ℕ) → IsUnsignedSet most l value → ⊥)
 
 -- The error `e` is the error of a number type that rejects a literal's digits in base ten. The error's span is `span`.
 abbrev pub RejectsNumberDigits : {A N E : Type 0} → (List ℕ → Result N E → Type 0)

@@ -14,7 +14,7 @@ use Rattle.rl_attributes.specs.declared.settings.SettingError.TheVariants.{Text,
 use Rattle.rl_attributes.specs.AttributeParsing.{entries_of, attrs_end}
 use Rattle.rl_attributes.specs.Attributes.{Attribute}
 use Rattle.rl_attributes.specs.Entries.{attributes_of}
-use Rattle.rl_attributes.specs.Settings.{RejectsSetValue}
+use Rattle.rl_attributes.specs.Settings.{IsUnsigned, RejectsSetValue, span_of}
 
 -- The attributes of a list, each converted to an `Attribute`.
 abbrev pub list_of : {A : Type 0} → Attrs A → List Attribute
@@ -73,6 +73,10 @@ IsStringOf value a = HasContents StrKind (chars a.literal.text) (Characters (cha
 abbrev pub IsTruthOf : Truth → Attribute → Type 0
 IsTruthOf value a = HasContents BoolKind (chars a.literal.text) (TruthContents value)
 
+-- The attribute's literal is an integer without a minus. Its value is `value`, and is at most `most`.
+abbrev pub IsUnsignedOf : ℕ → ℕ → Attribute → Type 0
+IsUnsignedOf most value a = IsUnsigned most value a.literal.text
+
 -- The attribute's literal is an integer or a float with the digits `digits` in base ten, as bytes.
 pub record HasNumberDigits (digits : List ℕ) (a : Attribute) : Type 0 where
   pub is_text : IsUtf8 digits
@@ -87,6 +91,10 @@ IsStringAt name value list = IsSetWith name (IsStringOf value) list
 abbrev pub IsTruthAt : List ℕ → Truth → List Attribute → Type 0
 IsTruthAt name value list = IsSetWith name (IsTruthOf value) list
 
+-- The name `name` is set to an integer with the value `value`, from 0 to `most`.
+abbrev pub IsUnsignedAt : List ℕ → ℕ → ℕ → List Attribute → Type 0
+IsUnsignedAt name most value list = IsSetWith name (IsUnsignedOf most value) list
+
 -- The name `name` is set to a number with the digits `digits` in base ten.
 abbrev pub AreDigitsAt : List ℕ → List ℕ → List Attribute → Type 0
 AreDigitsAt name digits list = IsSetWith name (HasNumberDigits digits) list
@@ -98,6 +106,11 @@ IsNumberAt gives name value list = (digits : List ℕ) × AreDigitsAt name digit
 -- The name `name` is set to the `bool` `value`. Or no attribute has the name, and `value` is the default.
 abbrev pub IsTruthOr : List ℕ → Truth → Truth → List Attribute → Type 0
 IsTruthOr name default value list = IsSetOr name (IsTruthOf value) (value ≡ default) list
+
+-- The name `name` is set to an integer with the value `value`, from 0 to `most`. Or no attribute has the name, and `value`
+-- is the default.
+abbrev pub IsUnsignedOr : List ℕ → ℕ → ℕ → ℕ → List Attribute → Type 0
+IsUnsignedOr name most default value list = IsSetOr name (IsUnsignedOf most value) (value ≡ default) list
 
 -- ---- the results of functions that return a setting's value
 
@@ -139,3 +152,15 @@ abbrev pub RejectsRequired : {A : Type 0} → Setting → Attrs A
 RejectsRequired setting attrs Rejects e =
     (IsUnset setting.name.now (list_of attrs) × (e ≡ Missing setting (attrs_end attrs)))
     ⊎ RejectsSetValue setting (entries_of attrs) Rejects e
+
+-- ---- the positions of errors, by the name of a setting
+
+-- The error `e` is at the value of an attribute with the name `name`.
+abbrev pub IsErrorAtValue : {A : Type 0} → List ℕ → List Attribute → SettingError A → Type 0
+IsErrorAtValue name list e = Any (λ a. IsNamed name a × (span_of e ≡ a.literal.span)) list
+
+-- The error `e` is at the value of an attribute with the name `name`. Or no attribute has the name, and the error is at the
+-- end of the settings.
+abbrev pub IsErrorAtName : {A : Type 0} → List ℕ → Attrs A → SettingError A → Type 0
+IsErrorAtName name attrs e =
+    IsErrorAtValue name (list_of attrs) e ⊎ (IsUnset name (list_of attrs) × (span_of e ≡ attrs_end attrs))

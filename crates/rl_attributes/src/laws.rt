@@ -1,7 +1,7 @@
 //! Theorems about the values of attributes and about settings. Each function here does nothing when it is called: its
 //! contract is a theorem.
 
-ghost use Rattle.rl_attributes.specs.Laws.{AStringIsParsedFromItsText, ABoolIsParsedFromItsText, TheTextTellsTheKind, TheTextTellsTheSuffix, AMalformedLiteralHasNoReading, OnlyAnAllocationFailureRejectsAString, ABoolIsAccepted, KnownNamesAreTheSettings, ARejectedStringIsAtTheValue, ARejectedBoolIsAtTheValue};
+ghost use Rattle.rl_attributes.specs.Laws.{AStringIsParsedFromItsText, ABoolIsParsedFromItsText, TheTextTellsTheKind, TheTextTellsTheSuffix, AMalformedLiteralHasNoReading, OnlyAnAllocationFailureRejectsAString, ABoolIsAccepted, KnownNamesAreTheSettings, ARejectedStringIsAtTheValue, ARejectedBoolIsAtTheValue, ARejectedUnsignedIsAtTheValue};
 
 use std::alloc::Allocator;
 
@@ -47,9 +47,10 @@ pub fn known_names_are_the_settings()
     ensures { KnownNamesAreTheSettings }
 {}
 
-/// Proves that the error for a value that isn't the string or the `bool` that its setting expects is at the value. The lemma
-/// `a_rejected_number_is_at_the_value` states the same of numbers.
+/// Proves that the error for a value that isn't the string, the `bool` or the unsigned integer that its setting expects is at
+/// the value. The lemma `a_rejected_number_is_at_the_value` states the same of numbers.
 pub fn a_rejected_value_is_where_the_error_is<A: Allocator>()
     ensures string { ARejectedStringIsAtTheValue A }
     ensures truth { ARejectedBoolIsAtTheValue A }
+    ensures unsigned { ARejectedUnsignedIsAtTheValue A }
 {}

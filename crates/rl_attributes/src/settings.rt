@@ -45,8 +45,8 @@ pub enum SettingError<A: Allocator = Global> {
     Unknown(Span),
     /// The value of an attribute has a suffix. The field is the value's span.
     Suffix(Span),
-    /// The value of a setting is a literal of another kind than the expected one. The fields are the setting and the
-    /// value's span.
+    /// The value of a setting is a literal of another kind than the expected one, or an integer out of the range that
+    /// [`Attrs::unsigned`] expects. The fields are the setting and the value's span.
     Kind(Setting, Span),
     /// The value of a setting isn't a valid literal, or is an integer above 128 bits. The fields are the setting and
     /// the value's span. `explain_missing_value` of `rl_grammar` returns the reason for the literal's text.

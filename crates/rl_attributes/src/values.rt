@@ -1,23 +1,28 @@
-//! Functions that return the value of a setting as a string, a number or a `bool`.
+//! Functions that return the value of a setting as a string, a number, an unsigned integer or a `bool`.
 
-ghost use Rattle.std.specs.Prelude.{◌≡◌, ℕ, List, Bool, Some, None, Ok, IfOk, IfErr, IsOkAnd, MatchOption, string_bytes};
+ghost use Rattle.std.specs.Prelude.{◌≡◌, ℕ, List, Bool, Some, None, Ok, IfOk, IfErr, IfSome, IfNone, IsOkAnd, MatchOption, string_bytes};
 ghost use Rattle.rl_attributes.specs.AttributeParsing.{entries_of, attrs_end};
 ghost use Rattle.rl_attributes.specs.Settings.{
   IsSetAs,
   IsStringSet,
   IsTruthSet,
+  IsUnsigned,
+  IsUnsignedSet,
   IsNumberSet,
   IsOtherKind,
   RejectsSetValue,
   RejectsString,
   RejectsTruth,
+  RejectsUnsigned,
   RejectsNumber,
 };
-ghost use Rattle.rl_attributes.specs.TextSettings.{AreDigitsAt, IsNumberAt, IsSomeNumberOrRejected, IsSomeStringOrMemory, IsStringAt, IsTruthAt, IsUnset, list_of};
+ghost use Rattle.rl_attributes.specs.TextSettings.{AreDigitsAt, IsNumberAt, IsSomeNumberOrRejected, IsSomeStringOrMemory, IsStringAt, IsTruthAt, IsUnset, IsUnsignedAt, list_of};
 ghost use Rattle.rl_attributes.specs.declared.settings.SettingError.TheVariants.{Missing};
 
 use crate::attributes::Attrs;
 use crate::settings::{Setting, SettingError};
+use rl_lenient::parse_int_literal;
+use rl_syntax::text::begins_with_char;
 use rust_literals::Lit;
 use std::alloc::Allocator;
 use std::fmt::Display;
@@ -58,6 +63,40 @@ fn bool_of<A: Allocator>(setting: Setting, value: &Lit<A>) -> Result<bool, Setti
 {
     match value {
         Lit::Bool(literal) => Ok(literal.value()),
+        other => Err(other_kind(setting, other)),
+    }
+}
+
+/// Returns the value of the integer literal `text`, or `None` if it is negative or above `most`.
+fn unsigned_value(text: &str, most: u64) -> Option<u64>
+    ensures some { IfSome result (λ value. IsUnsigned most value text.now) }
+    ensures none { IfNone result ((value : ℕ) → IsUnsigned most value text.now → ⊥) }
+{
+    if begins_with_char(text, '-') {
+        return None;
+    }
+    let found = parse_int_literal(text)??;
+    if found.magnitude > most as u128 {
+        return None;
+    }
+    Some(found.magnitude as u64)
+}
+
+/// Returns the value of the literal `value`, which is the value of the setting `setting`, and must be an integer literal
+/// from 0 to `most`.
+fn unsigned_of<A: Allocator>(
+    setting: Setting,
+    most: u64,
+    value: &Lit<A>,
+) -> Result<u64, SettingError<A>>
+    ensures read { IfOk result (IsUnsignedSet most value.now) }
+    ensures rejected { IfErr result (RejectsUnsigned most setting value.now) }
+{
+    match value {
+        Lit::Int(literal) => match unsigned_value(literal.text(), most) {
+            Some(number) => Ok(number),
+            None => Err(SettingError::Kind(setting, literal.span())),
+        },
         other => Err(other_kind(setting, other)),
     }
 }
@@ -120,6 +159,22 @@ impl<A: Allocator> Attrs<A> {
             return Ok(None);
         };
         match number_of(alloc, setting, value) {
+            Ok(number) => Ok(Some(number)),
+            Err(error) => Err(error),
+        }
+    }
+
+    /// Returns the integer that the setting `setting` is set to, from 0 to `most`, or `None` if no attribute has the
+    /// setting's name.
+    fn found_unsigned(&self, setting: Setting, most: u64) -> Result<Option<u64>, SettingError<A>>
+        ensures set { IfOk result (IsSetAs setting (entries_of self.now) (IsUnsignedSet most)) }
+        ensures rejected { IfErr result
+            (RejectsSetValue setting (entries_of self.now) (RejectsUnsigned most setting)) }
+    {
+        let Some(value) = self.get(setting.name) else {
+            return Ok(None);
+        };
+        match unsigned_of(setting, most, value) {
             Ok(number) => Ok(Some(number)),
             Err(error) => Err(error),
         }
@@ -213,6 +268,31 @@ impl<A: Allocator> Attrs<A> {
         ensures unset { IsUnset setting.name.now (list_of self.now) → IsOkAnd result (λ found. found ≡ None) }
     {
         self.found_number(alloc, setting)
+    }
+
+    /// Returns the integer that the setting `setting` is set to, or `None` if no attribute has the setting's name. The
+    /// integer must be from 0 to `most`. Its suffix is ignored: [`Attrs::check`] rejects suffixes. Nothing is allocated.
+    ///
+    /// # Errors
+    ///
+    /// Returns `Malformed` at a value that isn't a valid literal or is an integer above 128 bits. Returns `Kind` at any
+    /// other literal that isn't an integer, and at an integer with a minus or above `most`.
+    ///
+    /// See the example of [`Attrs::unsigned_or`].
+    pub fn unsigned(&self, setting: Setting, most: u64) -> Result<Option<u64>, SettingError<A>>
+        ensures set { IfOk result (IsSetAs setting (entries_of self.now) (IsUnsignedSet most)) }
+        ensures rejected { IfErr result
+            (RejectsSetValue setting (entries_of self.now) (RejectsUnsigned most setting)) }
+        // If the result is an integer, the text sets the setting's name to that integer. If it is `None`, no attribute
+        // in the text has the name. Conversely, an integer from 0 to `most` in the text is returned, and a missing name
+        // gives `None`.
+        ensures text { IfOk result (λ found. MatchOption found (IsUnset setting.name.now (list_of self.now))
+            (λ value. IsUnsignedAt setting.name.now most value (list_of self.now))) }
+        ensures exactly { (value : ℕ) → IsUnsignedAt setting.name.now most value (list_of self.now)
+            → result ≡ Ok (Some value) }
+        ensures unset { IsUnset setting.name.now (list_of self.now) → IsOkAnd result (λ found. found ≡ None) }
+    {
+        self.found_unsigned(setting, most)
     }
 
     /// Returns the `bool` that the setting `setting` is set to, or `None` if no attribute has the setting's name.

@@ -94,15 +94,6 @@ module _ {P X : Type 0} (star : P → Bool) (one : P → X → Bool) where
     pub rest_is : rest ≡ drop (length passed) text
     pub same : all_match star one pattern text ≡ all_match star one after rest
 
-  pub goes_start : (pattern : List P) (text : List X) → Goes pattern text pattern text
-  goes_start pattern text = record {
-    passed = [];
-    plain = All-nil (λ p. star p ≡ false);
-    pattern_is = refl;
-    rest_is = refl;
-    same = refl;
-  }
-
   pub goes_on : (pattern : List P) (text : List X) (p : P) (after : List P) (x : X) (rest : List X)
       → Goes pattern text (p ∷ after) (x ∷ rest) → star p ≡ false → one p x ≡ true → Goes pattern text after rest
   goes_on pattern text p after x rest g plain matches = record {
@@ -120,46 +111,10 @@ module _ {P X : Type 0} (star : P → Bool) (one : P → X → Bool) where
       and_true false b e = absurd (false≢true e)
 
   module _ {Q T : Type 0} (pattern_of : Q → List P) (text_of : T → List X) where
-    pub stops_at_star : (pattern : List P) (text : List X) (p : P) (after : Q) (rest : T)
-        → Goes pattern text (p ∷ pattern_of after) (text_of rest) → star p ≡ true
-        → StopsAs star one pattern_of text_of pattern text (Star after rest)
-    stops_at_star pattern text p after rest g is = record {
-      same = g.same ∙ star_more p (pattern_of after) (text_of rest) is;
-      stands = record {
-        passed = g.passed;
-        at = p;
-        is_star = is;
-        plain = g.plain;
-        pattern_is = g.pattern_is;
-        rest_is = g.rest_is;
-      };
-    }
-
     -- If all parts of a pattern have matched, the pattern matches exactly if no element is left.
     pub stops_at_end : (pattern : List P) (text rest : List X) → Goes pattern text [] rest
         → StopsAs star one pattern_of text_of pattern text (Decided (length rest == 0))
     stops_at_end pattern text rest g = record { same = g.same; stands = tt }
-
-    -- If no element is left for a part other than a star, the pattern doesn't match. The next lemma, `stops_apart`, is
-    -- about a part that doesn't match the next element.
-    pub stops_short : (pattern : List P) (text : List X) (p : P) (after : List P) → Goes pattern text (p ∷ after) []
-        → star p ≡ false → StopsAs star one pattern_of text_of pattern text (Decided false)
-    stops_short pattern text p after g plain = record {
-      same = g.same ∙ one_more p after [] plain;
-      stands = tt;
-    }
-
-    pub stops_apart : (pattern : List P) (text : List X) (p : P) (after : List P) (x : X) (rest : List X)
-        → Goes pattern text (p ∷ after) (x ∷ rest) → star p ≡ false → one p x ≡ false
-        → StopsAs star one pattern_of text_of pattern text (Decided false)
-    stops_apart pattern text p after x rest g plain differs = record {
-      same = g.same ∙ one_more p after (x ∷ rest) plain ∙ and_false (one p x) (all_match star one after rest) differs;
-      stands = tt;
-    }
-      where
-        and_false : (a b : Bool) → a ≡ false → (a && b) ≡ false
-        and_false true b e = absurd (false≢true (sym e))
-        and_false false b e = refl
 
     -- ---- lemmas about matching a pattern after a star
 
@@ -184,18 +139,3 @@ module _ {P X : Type 0} (star : P → Bool) (one : P → X → Bool) where
       same = so ∙ first_enough pattern text (pattern_of after) (text_of rest) s.stands s.same;
       smaller = reached_smaller pattern text (pattern_of after) (text_of rest) s.stands;
     }
-
-    -- If the pattern after a star doesn't match from one position of the text, it matches exactly if it matches from a
-    -- later position.
-    pub fails_here : (pattern : List P) (first : List X) (x : X) (rest : List X)
-        → any_end (all_match star one pattern) first ≡ any_end (all_match star one pattern) (x ∷ rest)
-        → all_match star one pattern (x ∷ rest) ≡ false
-        → any_end (all_match star one pattern) first ≡ any_end (all_match star one pattern) rest
-    fails_here pattern first x rest so fails = so
-        ∙ ap (λ (b : Bool). b || any_end (all_match star one pattern) rest) fails
-
-    pub fails_last : (pattern : List P) (first : List X)
-        → any_end (all_match star one pattern) first ≡ any_end (all_match star one pattern) []
-        → all_match star one pattern [] ≡ false
-        → StopsAfter star one pattern_of text_of pattern first (Decided false)
-    fails_last pattern first so fails = record { same = so ∙ fails; smaller = omega arith }

@@ -6,7 +6,7 @@ use Rattle.rl_syntax.specs.Texts.{IsTail}
 use Rattle.rl_restyle.specs.Places.{IsTextBetween}
 
 -- The end of a UTF-8 text after a prefix of whole characters is UTF-8.
-back_utf8 : (front back : List ℕ) → IsUtf8 (encode_utf8_all (front ++ back)) → IsUtf8 (encode_utf8_all back)
+pub back_utf8 : (front back : List ℕ) → IsUtf8 (encode_utf8_all (front ++ back)) → IsUtf8 (encode_utf8_all back)
 back_utf8 [] back u = u
 back_utf8 (c ∷ cs) back u = back_utf8 cs back (IsUtf8-past_char (encode_utf8_all (c ∷ (cs ++ back)))
     (encode_utf8_all (cs ++ back)) c u refl)

@@ -14,15 +14,13 @@ use Rattle.rl_cursors.specs.declared.entries.EntryRejection.{EntryRejection}
 use Rattle.rl_cursors.specs.SettingSteps.{TakesMark}
 use Rattle.rl_cursors.specs.EntrySteps.{TakesEntry, TakesSeparator, RejectsNextEntry}
 use Rattle.rl_cursors.proofs.EntryLemmas.{name_same}
-use Rattle.rl_style.specs.declared.style.Style.{Style}
 use Rattle.rl_restyle.specs.declared.rule.Rule.{Rule}
-use Rattle.rl_restyle.specs.declared.rule.Rule.TheVariants.{HexDigits, DropUnderscores, DropLeadingZeros, SuffixSeparator, BinaryGroups, OctalGroups, DecimalGroups, HexadecimalGroups, MinDigits, FloatZero, ExponentLetter, DropExponentPlus, EscapeDigits, FewestEscapeDigits, DropAsciiEscapes, NamedEscapes, DropQuoteEscapes, FewestHashes, DropRaw, EscapeInvisible}
 use Rattle.rl_restyle.specs.declared.style_error.StyleError.{StyleError}
 use Rattle.rl_restyle.specs.declared.value.Value.{Value}
 use Rattle.rl_restyle.specs.declared.values.Values.{Values}
 use Rattle.rl_restyle.specs.Rules.{rule_name, rule_number}
 use Rattle.rl_restyle.specs.Values.{IsOfText}
-use Rattle.rl_restyle.specs.Styles.{Setting, setting, value_in, SetsRule, HoldsSettings, HoldsNoSetting, HoldsOneMore, BeginsEntries, style_set_by, SaysStyle, RejectsEntry, RejectsRest, IsNewName, RejectsStyle}
+use Rattle.rl_restyle.specs.Styles.{Setting, setting, value_in, SetsRule, HoldsSettings, HoldsNoSetting, HoldsOneMore, BeginsEntries, RejectsEntry, RejectsRest, IsNewName, RejectsStyle}
 use Rattle.rl_restyle.specs.Held.{value_at, AreOf, NamesSet}
 
 -- ---- lemmas about the values of rules
@@ -57,10 +55,6 @@ new_name before v o name are some not_set = subst (λ (z : Option DottedName). I
 
 pub no_name : (before : List Setting) (o : Option DottedName) → o ≡ None → IsNewName before o
 no_name before o none = subst (λ (z : Option DottedName). IsNewName before z) (sym none) tt
-
--- If all rules have equal values, the styles are equal.
-same_style : (f g : Rule → Option Value) → ((rule : Rule) → f rule ≡ g rule) → style_set_by f ≡ style_set_by g
-same_style f g h = rw (h HexDigits, h DropUnderscores, h DropLeadingZeros, h SuffixSeparator, h BinaryGroups, h OctalGroups, h DecimalGroups, h HexadecimalGroups, h MinDigits, h FloatZero, h ExponentLetter, h DropExponentPlus, h EscapeDigits, h FewestEscapeDigits, h DropAsciiEscapes, h NamedEscapes, h DropQuoteEscapes, h FewestHashes, h DropRaw, h EscapeInvisible) refl
 
 -- ---- lemmas: the cursor over an entry leaves the input text unchanged
 
@@ -137,18 +131,6 @@ read_more text t new v w entry has takes sets =
       are = are;
       same = entry_same t new entry takes ∙ has.same;
     }
-
-pub says_end : (text : List ℕ) (t : CursorState) (v : Values) (style : Style) → HasRead text t v → t.rest ≡ []
-    → style ≡ style_set_by (value_at v) → SaysStyle text style
-says_end text t v style has ends is = record {
-  start = has.start;
-  settings = has.before;
-  at_end = t;
-  begins = has.begins;
-  holds = has.holds;
-  ends = ends;
-  style_is = is ∙ same_style (value_at v) (value_in has.before) has.are;
-}
 
 pub rejects_entry : (text : List ℕ) (t new : CursorState) (v : Values) (entry : NextEntry) (e : StyleError)
     → HasRead text t v → TakesEntry t entry new

@@ -1,16 +1,27 @@
 -- Lemmas about the literals that `--bad` accepts.
-use Rattle.rl_syntax.proofs.Common.{AllByRecursion, Bool, Err, IfNone, IfSome, IsTrue, List, None, Ok, Option, Some, [], ap, chars, encode_utf8_all, inl, inr, refl, subst, sym, true, ℕ, ◌++◌, ◌∙◌, ◌∷◌, ◌≡◌, ◌⊎◌, ⊤}
+use Rattle.rl_syntax.proofs.Common.{AllByRecursion, Bool, Err, IfNone, IfSome, IsCharBoundary, IsTrue, IsUtf8, List, None, Ok, Option, Some, [], ap, chars, encode_utf8_all, encodes-append, encodes-chars, false, inl, inr, refl, subst, sym, true, ℕ, ◌++◌, ◌∙◌, ◌∷◌, ◌≡◌, ◌⊎◌, ⊤}
+use Rattle.std.proofs.lemmas.Str.{IsCharBoundary-at_seam}
+use Rattle.rl_syntax.specs.Reading.{HasReading}
 use Rattle.rl_lexer.specs.Cursors.{CursorState}
 use Rattle.rl_lexer.specs.Sources.{BeginsNoSource, CutSource, IsBorrowedSource, IsCutUpTo, IsLiteralText, IsOtherToken, PassesTo, SourceBefore, SourceErrorAt, SourceKind, TakesLiteralAfter, TakesSource, source_kind, source_text, source_view}
 use Rattle.rl_lexer.specs.declared.lex_error.LexKind.{LexKind}
 use Rattle.rl_lexer.specs.declared.sources.SourceToken.{SourceToken}
+use Rattle.rl_strict.specs.FileTexts.{IsPlaceInFile}
+use Rattle.rl_strict.proofs.LimitLemmas.{read_within, signed_past}
+use Rattle.rl_strict.proofs.ReadValues.{past_read}
+use Rattle.rl_strict.specs.Limits.{IsFloatBySuffix, suffix_at_if_above_128_bits}
+use Rattle.rl_strict.specs.Readings.{HasValueOf, IsReadingOf}
+use Rattle.rl_strict.specs.declared.line_ends.LineEnds.TheVariants.{File}
+use Rattle.rl_strict.specs.declared.strict_reading.Reading.{Reading}
+use Rattle.rl_strict.specs.declared.strict_reading.Reading.TheVariants.{Text, Unit, Integer, Float, Truth}
 use Rattle.rl_style.specs.Calls.{CallState, Outside, advance_calls, is_in_call}
 use Rattle.rl_files.specs.Trees.{World}
 use Rattle.rl_files.specs.Walks.{Visited, Visits, VisitsFirst, VisitsNone, Waypoint}
 use Rattle.rl_files.specs.declared.tree.PathError.{PathError}
 use Rattle.rl_files.specs.declared.tree.PathError.TheVariants.{OutOfMemory, PathNotUtf8}
 use Rattle.rl_files.specs.declared.walk.Selection.{Selection}
-use Rattle.rl_scan.specs.Accepted.{AcceptsAll, Allows, AreAccepted, HasFollowed, IsAcceptedLiteral, IsAcceptedFile, IsAcceptedToken, IsAcceptedVisit, IsInCallAt, calls_after, end_id}
+use Rattle.rl_restyle.proofs.TextSlices.{back_utf8}
+use Rattle.rl_scan.specs.Accepted.{AcceptsAll, Allows, AreAccepted, BeginsSuffix, HasFollowed, IsAcceptedLiteral, IsAcceptedFile, IsAcceptedToken, IsAcceptedVisit, IsInCallAt, calls_after, end_id}
 use Rattle.rl_scan.specs.declared.job.Job.{Job}
 
 all_join : {X : Type 0} (P : X → Type 0) (xs ys : List X) → AllByRecursion P xs → AllByRecursion P ys
@@ -154,6 +165,33 @@ pub at_end : (rest : List ℕ) → BeginsNoSource (chars rest)
     → (rest ≡ []) ⊎ ((kind : SourceKind) × (after : List ℕ) × SourceBefore (chars rest) kind after) → rest ≡ []
 at_end rest none (inl nothing) = nothing
 at_end rest none (inr (kind, after, begins)) = absurd (none kind after begins)
+
+-- ---- the suffix of a literal
+
+place_begins : (t : List ℕ) (read at : ℕ) → IsUtf8 t → IsPlaceInFile (chars t) read at → IsCharBoundary t at
+place_begins t read at u p =
+    let whole : t ≡ encode_utf8_all (p.front ++ p.rest) = sym (encodes-chars t u) ∙ ap encode_utf8_all p.text_is in
+    let bytes = whole ∙ encodes-append p.front p.rest in
+    subst (IsCharBoundary t) (sym p.at_is) (IsCharBoundary-at_seam t (encode_utf8_all p.front) (encode_utf8_all p.rest) bytes
+    (back_utf8 p.front p.rest (subst IsUtf8 whole u)))
+
+pub begins_suffix : (t : List ℕ) (r : Reading) → IsUtf8 t → IsReadingOf File false t r → BeginsSuffix t r
+begins_suffix t (Text kind body) u (read, reads, places) = place_begins t read.suffix_at body.suffix_at u places.suffix_at
+begins_suffix t (Unit kind body unit) u (same, found) = found.stands.following
+begins_suffix t (Integer magnitude at) u (same, number) = number.0
+begins_suffix t (Float at) u (same, number) = number.0
+begins_suffix t (Truth truth) u reads = tt
+
+-- An integer above 128 bits has a value only if its suffix makes it a float.
+pub under_limit : (t : List ℕ) (r : Reading) (at : ℕ) → IsReadingOf File false t r → HasValueOf File (chars t)
+    → r ≡ Integer None at → IsFloatBySuffix (chars t)
+under_limit t r at reads value is =
+    let past = past_read File false t r at reads (ap suffix_at_if_above_128_bits is) in
+    elim value [
+      | inl has ↦ absurd (read_within (chars t) (subst HasReading past.0 has) (signed_past t r at past.1
+          (ap suffix_at_if_above_128_bits is)).1.0)
+      | inr float ↦ subst IsFloatBySuffix past.0 float
+    ]
 
 -- ---- the files of a walk
 

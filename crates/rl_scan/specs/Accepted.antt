@@ -1,7 +1,7 @@
 -- The literals that `--bad` accepts. Sources, paths and texts are lists of bytes.
 use Rattle.std.specs.Prelude.{◌≡◌, ◌⊎◌, ◌<◌, ◌+◌, ℕ, Bool, false, ◌||◌, List, [], ◌∷◌, Option, Some, None, IfSome, IsTrue, codes, drop, encode_utf8_all, length, slice_range, ⊤}
 use Rattle.std.specs.List.{AllByRecursion, list_any}
-use Rattle.std.specs.Str.{bytes_eq, chars}
+use Rattle.std.specs.Str.{bytes_eq, chars, IsCharBoundary}
 use Rattle.std.specs.declared.result.Result.TheVariants.{Ok}
 use Rattle.rl_syntax.specs.Texts.{begins}
 use Rattle.rl_syntax.specs.declared.kind.Kind.TheVariants.{Int as IntKind, Float as FloatKind}
@@ -10,16 +10,15 @@ use Rattle.rl_lexer.specs.Sources.{CutSource, IsCutUpTo, IsLiteralText, SourceEr
 use Rattle.rl_lexer.specs.declared.lex_error.LexKind.{LexKind}
 use Rattle.rl_lexer.specs.declared.lex_error.LexKind.TheVariants.{UnclosedComment, UnclosedQuote}
 use Rattle.rl_strict.specs.FlawWords.{flaw_id}
-use Rattle.rl_strict.specs.Limits.{IsFloatBySuffix}
+use Rattle.rl_strict.specs.Limits.{ExplainsLimit, IsFloatBySuffix}
 use Rattle.rl_strict.specs.Readings.{ExplainsOf, IsReadingOf}
 use Rattle.rl_strict.specs.declared.flaws.Flaw.{Flaw}
-use Rattle.rl_strict.specs.declared.flaws.FlawKind.TheVariants.{TooLarge}
 use Rattle.rl_strict.specs.declared.line_ends.LineEnds.TheVariants.{File as InFile}
 use Rattle.rl_strict.specs.declared.strict_reading.Reading.{Reading}
 use Rattle.rl_strict.specs.declared.strict_reading.Reading.TheVariants.{Text, Unit, Integer, Float, Truth}
-use Rattle.rl_flaws.specs.Before.{may_negate, year_of}
+use Rattle.rl_flaws.specs.Before.{may_negate, reserved, year_of}
 use Rattle.rl_flaws.specs.ErrorWords.{type_error_id}
-use Rattle.rl_flaws.specs.TypeErrors.{HasType}
+use Rattle.rl_flaws.specs.TypeErrors.{HasType, HasTypeError}
 use Rattle.rl_flaws.specs.declared.type_errors.TypeError.{TypeError}
 use Rattle.rl_style.specs.Calls.{CallState, Outside, advance_calls, is_in_call}
 use Rattle.rl_files.specs.Trees.{World}
@@ -37,10 +36,25 @@ HasTypeBy text negated (Integer None at) = IsFloatBySuffix (chars text)
 HasTypeBy text negated (Float at) = HasType FloatKind (chars text) 0 negated (drop at text)
 HasTypeBy text negated (Truth truth) = ⊤
 
--- An integer is within 128 bits, or its suffix makes it a float.
-abbrev pub IsUnderLimit : List ℕ → Reading → Type 0
-IsUnderLimit text (Integer None at) = IsFloatBySuffix (chars text)
-IsUnderLimit text _ = ⊤
+-- The literal with the given parse result has the type error.
+abbrev pub HasTypeErrorBy : TypeError → List ℕ → Bool → Reading → Type 0
+HasTypeErrorBy error text negated (Text kind body) =
+    HasTypeError error kind (chars text) 0 negated (drop body.suffix_at text)
+HasTypeErrorBy error text negated (Unit kind body unit) =
+    HasTypeError error kind (chars text) 0 negated (drop body.suffix_at text)
+HasTypeErrorBy error text negated (Integer (Some magnitude) at) =
+    HasTypeError error IntKind (chars text) magnitude negated (drop at text)
+HasTypeErrorBy error text negated (Integer None at) = ⊥
+HasTypeErrorBy error text negated (Float at) = HasTypeError error FloatKind (chars text) 0 negated (drop at text)
+HasTypeErrorBy error text negated (Truth truth) = ⊥
+
+-- The suffix of a literal with the given parse result begins at the start of a character, or is empty.
+abbrev pub BeginsSuffix : List ℕ → Reading → Type 0
+BeginsSuffix text (Text kind body) = IsCharBoundary text body.suffix_at
+BeginsSuffix text (Unit kind body unit) = IsCharBoundary text body.suffix_at
+BeginsSuffix text (Integer magnitude at) = IsCharBoundary text at
+BeginsSuffix text (Float at) = IsCharBoundary text at
+BeginsSuffix text (Truth truth) = ⊤
 
 -- The position relative to macro calls after some tokens of a source.
 abbrev pub calls_after : CallState → List CutSource → CallState
@@ -66,16 +80,24 @@ pub record IsInCallAt (source : List ℕ) (at : ℕ) : Type 0 where
 abbrev pub Allows : Job → List ℕ → Type 0
 Allows job id = IsTrue (list_any (λ allowed. bytes_eq allowed.now id) job.lists.allowed.now)
 
--- The identifier of a literal's error that Rust has no type for the literal.
-abbrev pub IsIdOfTypeError : List ℕ → Type 0
-IsIdOfTypeError id = ((error : TypeError) × (id ≡ type_error_id error)) ⊎ (id ≡ flaw_id TooLarge)
+-- The identifier of the reason why Rust has no type for the literal with the given parse result.
+abbrev pub IsIdOfTypeError : List ℕ → List ℕ → Bool → Reading → Type 0
+IsIdOfTypeError id text negated reading =
+    ((error : TypeError) × HasTypeErrorBy error text negated reading × (id ≡ type_error_id error))
+    ⊎ ((flaw : Flaw) × ExplainsLimit (chars text) flaw × (id ≡ flaw_id flaw.kind))
 
--- A literal with the given parse result is accepted: it has a type, types aren't checked, or an error is allowed.
+-- The literal has a reserved prefix in the edition of the call, and reserved prefixes are allowed. `before` is the text before it.
+abbrev pub HasAllowedPrefix : Job → List ℕ → List ℕ → Type 0
+HasAllowedPrefix job before text = IsTrue (reserved job.edition before text) × Allows job (codes "reserved-prefix")
+
+-- A literal with the given parse result is accepted: it has a type, types aren't checked, or its error is allowed. `before` is the
+-- text before it.
 abbrev pub IsTyped : Job → List ℕ → ℕ → List ℕ → Reading → Type 0
 IsTyped job source at text reading =
     HasTypeBy text (may_negate (slice_range source 0 at)) reading ⊎ IsTrue job.any_suffix
-    ⊎ (IsTrue job.follows × IsInCallAt source at) ⊎ ((id : List ℕ) × IsIdOfTypeError id × Allows job id)
-    ⊎ Allows job (codes "reserved-prefix")
+    ⊎ (IsTrue job.follows × IsInCallAt source at)
+    ⊎ ((id : List ℕ) × IsIdOfTypeError id text (may_negate (slice_range source 0 at)) reading × Allows job id)
+    ⊎ HasAllowedPrefix job (slice_range source 0 at) text
 
 -- The text may be several tokens before the edition 2021.
 abbrev pub is_since_2021 : List ℕ → Bool

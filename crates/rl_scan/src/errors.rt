@@ -1,12 +1,17 @@
 //! Finds the literals of a source that Rust rejects, and what ends the source early.
 
-ghost use Rattle.std.specs.Prelude.{◌≡◌, ◌⊎◌, ◌<◌, ℕ, Bool, codes, drop, length, IfNone, IfOk, IfSome, IsTrue, OnOk};
-ghost use Rattle.std.specs.Str.{chars};
+ghost use Rattle.std.specs.Prelude.{◌≡◌, ◌⊎◌, ◌<◌, ℕ, Bool, false, None, drop, length, slice_range, IfNone, IfOk, IfSome, IsTrue, OnOk};
+ghost use Rattle.std.specs.Str.{chars, IsCharBoundary};
 ghost use Rattle.rl_lexer.specs.Sources.{BeginsNoSource, IsLiteralText, PassesTo, TakesLiteralAfter, TakesSource, source_view};
 ghost use Rattle.rl_strict.specs.FlawWords.{flaw_id};
+ghost use Rattle.rl_strict.specs.Limits.{IsFloatBySuffix};
+ghost use Rattle.rl_strict.specs.LineEnds.{read_of};
+ghost use Rattle.rl_strict.specs.Readings.{IsReadingOf, IsTokenIf};
+ghost use Rattle.rl_strict.specs.declared.line_ends.LineEnds.TheVariants.{File as InFile};
+ghost use Rattle.rl_strict.specs.declared.strict_reading.Reading.TheVariants.{Integer};
 ghost use Rattle.rl_flaws.specs.Before.{may_negate};
-ghost use Rattle.rl_flaws.specs.TypeErrors.{HasType};
-ghost use Rattle.rl_scan.specs.Accepted.{Allows, AreAccepted, HasTypeBy, IsAcceptedLiteral, IsIdOfTypeError, IsTyped, IsUnderLimit, end_id, is_since_2021};
+ghost use Rattle.rl_flaws.specs.TypeErrors.{HasType, HasTypeError};
+ghost use Rattle.rl_scan.specs.Accepted.{Allows, AreAccepted, BeginsSuffix, HasAllowedPrefix, HasTypeBy, HasTypeErrorBy, IsAcceptedLiteral, IsIdOfTypeError, IsTyped, end_id, is_since_2021};
 
 use crate::failure::Failure;
 use crate::finding::{Fault, Finding, Place};
@@ -18,9 +23,10 @@ use rl_flaws::{
     may_be_negated, type_error_of,
 };
 use rl_lexer::{LexError, LexKind, SourceForm, SourceToken, Sources};
-use rl_strict::{FlawKind, LineEnds, Reading, is_float_by_suffix, read};
+use rl_strict::limits::flaw_if_above_128_bits;
+use rl_strict::{LineEnds, Reading, read};
 use rl_syntax::Kind;
-use rl_syntax::text::{begins, split_char};
+use rl_syntax::text::begins;
 use std::alloc::Allocator;
 use std::io::Write;
 
@@ -125,16 +131,12 @@ fn type_error_at(
     magnitude: u128,
     suffix_at: usize,
 ) -> Option<TypeError>
-    ensures { IfNone result (HasType kind (chars text.now) magnitude (may_negate before.now) (drop suffix_at text.now)) }
+    requires { IsCharBoundary text.now suffix_at }
+    ensures none { IfNone result (HasType kind (chars text.now) magnitude (may_negate before.now) (drop suffix_at text.now)) }
+    ensures some { IfSome result (λ error. HasTypeError error kind (chars text.now) magnitude (may_negate before.now) (drop suffix_at text.now)) }
 {
-    if has_no_suffix(text, kind, suffix_at) {
-        return None;
-    }
-    if !text.is_char_boundary(suffix_at) {
-        return Some(TypeError::UnknownSuffix);
-    }
-    let suffix = &text[suffix_at..];
-    type_error_of(kind, text, magnitude, suffix, may_be_negated(before))
+    let (suffix, negated) = (&text[suffix_at..], may_be_negated(before));
+    type_error_of(kind, text, magnitude, suffix, negated)
 }
 
 /// Whether a literal of the kind isn't a float and has no suffix: no text follows the byte offset `at`. Then it has a type.
@@ -161,8 +163,10 @@ fn is_bare(text: &str, reading: &Reading) -> bool
 /// Returns the reason why Rust has no type for a literal. `before` is the text before the literal.
 #[inline(always)]
 fn type_error_in(before: &str, text: &str, reading: &Reading) -> Option<TypeError>
-    requires { IsUnderLimit text.now reading.now }
-    ensures { IfNone result (HasTypeBy text.now (may_negate before.now) reading.now) }
+    requires limit { (at : ℕ) → reading.now ≡ Integer None at → IsFloatBySuffix (chars text.now) }
+    requires begins { BeginsSuffix text.now reading.now }
+    ensures none { IfNone result (HasTypeBy text.now (may_negate before.now) reading.now) }
+    ensures some { IfSome result (λ error. HasTypeErrorBy error text.now (may_negate before.now) reading.now) }
 {
     match reading {
         Reading::Text(kind, body) => type_error_at(before, text, *kind, 0, body.suffix_at),
@@ -173,39 +177,22 @@ fn type_error_in(before: &str, text: &str, reading: &Reading) -> Option<TypeErro
     }
 }
 
-/// Returns the range in a literal where an integer above 128 bits becomes too large: the character after its digits.
-fn large_place(text: &str, reading: &Reading) -> Option<Place>
-    ensures { IfNone result (IsUnderLimit text.now reading.now) }
-{
-    match reading {
-        Reading::Integer(None, at) => {
-            if is_float_by_suffix(text) {
-                return None;
-            }
-            let len = match split_char(text.get(*at..).unwrap_or("")) {
-                Some((c, _)) => c.len_utf8(),
-                None => 0,
-            };
-            let (lo, hi) = (*at, at.saturating_add(len));
-            Some(Place { lo, hi })
-        }
-        _ => None,
-    }
-}
-
 /// Returns the range, the identifier and the message of the type error of a literal. `before` is the text before the literal.
 fn type_words(
     before: &str,
     text: &str,
     reading: &Reading,
 ) -> Option<(Place, &'static str, &'static str)>
+    requires reads { IsReadingOf InFile false text.now reading.now }
+    requires token { IsTokenIf false (read_of InFile (chars text.now)) }
     ensures none { IfNone result (HasTypeBy text.now (may_negate before.now) reading.now) }
-    ensures some { IfSome result (λ p. IsIdOfTypeError p.1.now) }
+    ensures some { IfSome result (λ p. IsIdOfTypeError p.1.now text.now (may_negate before.now) reading.now) }
 {
-    let (lo, hi, large) = (0, text.len(), FlawKind::TooLarge);
-    if let Some(place) = large_place(text, reading) {
-        return Some((place, large.id(), large.message()));
+    if let Some(flaw) = flaw_if_above_128_bits(text, *reading) {
+        let (lo, hi) = (flaw.lo, flaw.hi);
+        return Some((Place { lo, hi }, flaw.kind.id(), flaw.kind.message()));
     }
+    let (lo, hi) = (0, text.len());
     match type_error_in(before, text, reading) {
         Some(error) => Some((Place { lo, hi }, error.id(), error.message())),
         None => None,
@@ -221,6 +208,8 @@ fn report_type<'t, A: Allocator + Copy, W: Write>(
     token: SourceToken<'t>,
     reading: &Reading,
 ) -> Result<bool, Failure<A>>
+    requires reads { IsReadingOf InFile false token.text.now reading.now }
+    requires token { IsTokenIf false (read_of InFile (chars token.text.now)) }
     ensures accepted { IfOk result (λ accepted. IsTrue accepted
         → IsTyped job.entry follower.old token.entry.lo token.entry.text.now reading.now) }
     ensures same { OnOk result (follower.new ≡ follower.old) }
@@ -247,11 +236,12 @@ fn report_type<'t, A: Allocator + Copy, W: Write>(
 #[inline(always)]
 fn report_prefix<A: Allocator + Copy, W: Write>(
     page: &mut Page<'_, '_, A, W>,
+    follower: &Follower<'_>,
     job: Job<'_>,
     token: SourceToken<'_>,
 ) -> Result<Option<bool>, Failure<A>>
-    ensures { IfOk result (λ prefix. IfSome prefix
-        (λ allowed. IsTrue allowed → Allows job.entry (codes "reserved-prefix"))) }
+    ensures { IfOk result (λ prefix. IfSome prefix (λ allowed. IsTrue allowed
+        → HasAllowedPrefix job.entry (slice_range follower.now 0 token.entry.lo) token.entry.text.now)) }
 {
     let source = page.source;
     // A reserved prefix ends with a word or a hash. Most literals follow neither.
@@ -259,7 +249,9 @@ fn report_prefix<A: Allocator + Copy, W: Write>(
     if !last.is_some_and(|b| matches!(*b, b'#' | b'_') || b.is_ascii_alphanumeric()) {
         return Ok(None);
     }
-    let before = source.get(..token.lo).unwrap_or("");
+    let Some(before) = follower.text_before(token.lo) else {
+        return Ok(Some(false));
+    };
     if !job.edition.reserves(before, token.text) {
         return Ok(None);
     }
@@ -341,7 +333,7 @@ fn report_literal<'t, A: Allocator + Copy, W: Write>(
     }
     match read(token.text, LineEnds::File, false) {
         Ok(reading) => {
-            if let Some(is_allowed) = report_prefix(page, job, token)? {
+            if let Some(is_allowed) = report_prefix(page, follower, job, token)? {
                 return Ok(is_allowed);
             }
             if job.any_suffix {

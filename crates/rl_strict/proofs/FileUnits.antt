@@ -3,15 +3,12 @@ use Rattle.rl_strict.proofs.Names.{◌≡◌, ℕ, zero, suc, Bool, true, false,
 use Rattle.rl_strict.proofs.StrictRowLemmas.{is_bare, quoted_single, quoted_string}
 use Rattle.rl_strict.proofs.StrictUnitLemmas.{unit_rest_complete, unit_rest_sound}
 use Rattle.rl_strict.proofs.StrictUnitRows.{breaks_to, row_join, row_none, row_unit}
-use Rattle.rl_strict.proofs.FileTextLemmas.{by_first, closes_free, free_text, front_free, lacks_cr, other_kept, rest_free, rest_line, rest_step, row_rest, when_kept}
+use Rattle.rl_strict.proofs.FileTextLemmas.{by_first, closes_free, free_text, front_free, lacks_cr, other_kept, rest_free, row_rest, when_kept}
 use Rattle.rl_strict.proofs.FileSuffixes.{both, run_rest}
 use Rattle.rl_strict.proofs.FileEscapes.{escape_read, lf_pair}
 use Rattle.rl_strict.proofs.ReadQuoted.{plain_row, single_closes, not_string}
 
 -- ---- a CR LF that is read as LF
-
-pub line_read : (t rest : List ℕ) → t ≡ 13 ∷ 10 ∷ rest → lf_text t ≡ 10 ∷ lf_text rest
-line_read t rest e = ap lf_text e
 
 pub kept_read : (t rest : List ℕ) (c : ℕ) → t ≡ c ∷ rest → is_dropped c rest ≡ false → lf_text t ≡ c ∷ lf_text rest
 kept_read t rest c e h = ap lf_text e ∙ when_kept c rest h
@@ -36,12 +33,6 @@ pub blanks_first : (t rest : List ℕ) → rest ≡ after_run is_dropped_blank t
     ≡ after_run is_dropped_blank (lf_text t)
 blanks_first t rest e = ap (λ z. after_run is_dropped_blank (lf_text z)) e ∙ blanks_past t
 
-pub blanks_on : (t rest after next : List ℕ) → after_run is_dropped_blank (lf_text rest)
-    ≡ after_run is_dropped_blank (lf_text t) → rest ≡ 13 ∷ 10 ∷ after → next ≡ after_run is_dropped_blank after
-    → after_run is_dropped_blank (lf_text next) ≡ after_run is_dropped_blank (lf_text t)
-blanks_on t rest after next same e is = blanks_first after next is
-    ∙ sym (ap (after_run is_dropped_blank) (line_read rest after e)) ∙ same
-
 pub blanks_stop : (t rest : List ℕ) → rest ≡ after_run is_dropped_blank t → first_passes is_dropped_blank rest ≡ false
 blanks_stop t rest e = ap (first_passes is_dropped_blank) e ∙ run_ends is_dropped_blank t
 
@@ -61,21 +52,7 @@ blanks_end t rest same stops none = go rest stops none ∙ same
 pub blanks_in : (t rest : List ℕ) → rest ≡ after_run is_dropped_blank t → IsRestOf File t rest
 blanks_in t rest e = subst (IsRestOf File t) (sym e) (run_rest is_dropped_blank refl t)
 
-pub blanks_more : (t rest after next : List ℕ) → IsRestOf File t rest → rest ≡ 13 ∷ 10 ∷ after
-    → next ≡ after_run is_dropped_blank after → IsRestOf File t next
-blanks_more t rest after next r e is = rest_step t rest next r
-    (rest_step rest after next (rest_line rest after e) (blanks_in after next is))
-
 -- ---- escapes
-
-pub break_in : (t blanks rest : List ℕ) → t ≡ 10 ∷ blanks → IsRestOf File blanks rest → IsRestOf File (92 ∷ t) rest
-break_in t blanks rest e r = rest_step (92 ∷ t) blanks rest
-    (rest_free (92 ∷ t) (92 ∷ 10 ∷ []) blanks (ap (λ z. 92 ∷ z) e) refl) r
-
--- After a backslash, a CR that no LF follows isn't a valid escape.
-pub lone_read : (k : Kind) (t line : List ℕ) → t ≡ 13 ∷ line → first_passes (λ c. c == 10) line ≡ false
-    → None ≡ escape_rest k (lf_text t)
-lone_read k t line e h = sym (ap (escape_rest k) (kept_read t line 13 e h))
 
 map_map : (o : Option (List ℕ × List ℕ)) → option_map (λ (p : List ℕ × List ℕ). p.1) (option_map lf_pair o)
     ≡ option_map (λ (p : List ℕ × List ℕ). lf_text p.1) o

@@ -12,12 +12,6 @@ use Rattle.rl_strict.proofs.WordFlawLemmas.{truth_characters, word_place}
 abbrev pub IsStrictFlaw : (FlawKind → List ℕ → List ℕ → Type 0) → List ℕ → FoundFlaw → Type 0
 IsStrictFlaw says t flaw = Flawed IsToken t flaw.1 (HasKind (says flaw.0) t flaw.1)
 
--- Replaces the kind of a flaw, and the text that begins at the flaw, by equal ones.
-pub moved : (says : FlawKind → List ℕ → List ℕ → Type 0) (t : List ℕ) (flaw : FoundFlaw) (k : FlawKind) (rest : List ℕ)
-    → k ≡ flaw.0 → rest ≡ flaw.1 → IsStrictFlaw says t flaw → IsStrictFlaw says t (k, rest)
-moved says t flaw k rest kind place f = subst (λ z. IsStrictFlaw says t (z, rest)) (sym kind)
-    (subst (λ z. IsStrictFlaw says t (flaw.0, z)) (sym place) f)
-
 -- ---- the completion of the words `true` and `false`
 
 by_truth : (b : Bool) (front more : List ℕ) → truth_text b ≡ front ++ more → AllByRecursion IsScalar more

@@ -1,10 +1,9 @@
 -- Properties of digits and letters that a change of case keeps.
-use Rattle.rl_syntax.proofs.Common.{◌≡◌, ℕ, ◌+◌, ◌-◌, ◌<◌, ◌≤◌, ◌&&◌, ◌||◌, Bool, true, false, not, ◌==◌, cond, nat_le, nat_lt, List, [], ◌∷◌, ◌++◌, Some, None, length, map, refl, sym, ap, ◌∙◌, inl, inr, arith, eqb-true, cases_lt, agree_below_at, digit_value, list_all, list_any, and_from, and_parts, scalar, encode_utf8, encode_utf8_all, encodes-append, append-nil, append_assoc, map-append}
+use Rattle.rl_syntax.proofs.Common.{◌≡◌, ℕ, ◌+◌, ◌-◌, ◌<◌, ◌≤◌, ◌&&◌, Bool, true, false, ◌==◌, cond, nat_le, List, [], ◌∷◌, ◌++◌, Some, None, length, map, refl, sym, ap, ◌∙◌, inl, inr, arith, eqb-true, cases_lt, agree_below_at, digit_value, and_from, and_parts, scalar, encode_utf8, encode_utf8_all, encodes-append, append-nil, append_assoc, map-append}
 use Rattle.std.specs.Prelude.{Option}
 use Rattle.std.proofs.Math.Utf8.{scalars}
 use Rattle.std.proofs.lemmas.Bool.{lt-leb}
-use Rattle.rl_syntax.specs.Texts.{is_run_part}
-use Rattle.rl_syntax.specs.Spelling.{place_value, without_underscores}
+use Rattle.rl_syntax.specs.Spelling.{place_value}
 use Rattle.rl_style.specs.declared.style.Case.{Case}
 use Rattle.rl_style.specs.declared.style.Case.TheVariants.{Lower, Upper}
 use Rattle.rl_style.specs.Cases.{cased, lower_case, upper_case}
@@ -52,43 +51,7 @@ cased_underscore case c =
 
 -- ---- after a change of case, a sequence of digits is still a sequence of digits
 
-part_same : (case : Option Case) (base c : ℕ) → is_run_part (λ c. nat_lt (digit_value c) base) (cased case c)
-    ≡ is_run_part (λ c. nat_lt (digit_value c) base) c
-part_same case base c =
-    ap (λ v. nat_lt v base || (cased case c == 95)) (cased_value case c)
-    ∙ ap (λ b. nat_lt (digit_value c) base || b) (cased_underscore case c)
-
-pub row_cased : (case : Option Case) (base : ℕ) (run : List ℕ)
-    → list_all (is_run_part (λ c. nat_lt (digit_value c) base)) (map (cased case) run)
-    ≡ list_all (is_run_part (λ c. nat_lt (digit_value c) base)) run
-row_cased case base [] = refl
-row_cased case base (c ∷ cs) =
-    ap (λ b. b && list_all (is_run_part (λ c. nat_lt (digit_value c) base)) (map (cased case) cs))
-    (part_same case base c)
-    ∙ ap (λ b. is_run_part (λ c. nat_lt (digit_value c) base) c && b) (row_cased case base cs)
-
-pub some_cased : (case : Option Case) (base : ℕ) (run : List ℕ) → list_any (λ c. nat_lt (digit_value c) base)
-    (map (cased case) run) ≡ list_any (λ c. nat_lt (digit_value c) base) run
-some_cased case base [] = refl
-some_cased case base (c ∷ cs) =
-    ap (λ v. nat_lt v base || list_any (λ c. nat_lt (digit_value c) base) (map (cased case) cs)) (cased_value case c)
-    ∙ ap (λ b. nat_lt (digit_value c) base || b) (some_cased case base cs)
-
 -- ---- after a change of case, digits represent the old number
-
-bare_cased : (case : Option Case) (cs : List ℕ) → without_underscores (map (cased case) cs)
-    ≡ map (cased case) (without_underscores cs)
-bare_cased case [] = refl
-bare_cased case (c ∷ cs) =
-    ap (λ b. cond (not b) (cased case c ∷ without_underscores (map (cased case) cs))
-    (without_underscores (map (cased case) cs))) (cased_underscore case c) ∙ go (c == 95) (bare_cased case cs)
-  where
-    go : (b : Bool) → without_underscores (map (cased case) cs) ≡ map (cased case) (without_underscores cs)
-        → cond (not b) (cased case c ∷ without_underscores (map (cased case) cs))
-        (without_underscores (map (cased case) cs))
-        ≡ map (cased case) (cond (not b) (c ∷ without_underscores cs) (without_underscores cs))
-    go true ih = ih
-    go false ih = ap (λ z. cased case c ∷ z) ih
 
 length_cased : (case : Option Case) (cs : List ℕ) → length (map (cased case) cs) ≡ length cs
 length_cased case [] = refl
@@ -98,11 +61,6 @@ pub spelled_cased : (case : Option Case) (base : ℕ) (ds : List ℕ) → place_
     ≡ place_value base ds
 spelled_cased case base [] = refl
 spelled_cased case base (d ∷ ds) = rw (cased_value case d, length_cased case ds, spelled_cased case base ds) refl
-
-pub number_cased : (case : Option Case) (base : ℕ) (run : List ℕ) → place_value base
-    (without_underscores (map (cased case) run)) ≡ place_value base (without_underscores run)
-number_cased case base run = ap (place_value base) (bare_cased case run)
-    ∙ spelled_cased case base (without_underscores run)
 
 -- ---- a second change to one case changes nothing
 
@@ -117,11 +75,6 @@ twice_cased case c =
     low None c a = agree_below_at (λ c. c == c) (λ c. true) 128 c refl a
     low (Some Upper) c a = agree_below_at (λ c. upper_case (upper_case c) == upper_case c) (λ c. true) 128 c refl a
     low (Some Lower) c a = agree_below_at (λ c. lower_case (lower_case c) == lower_case c) (λ c. true) 128 c refl a
-
-pub twice_row : (case : Option Case) (cs : List ℕ) → map (cased case) (map (cased case) cs) ≡ map (cased case) cs
-twice_row case [] = refl
-twice_row case (c ∷ cs) = ap (λ z. z ∷ map (cased case) (map (cased case) cs)) (twice_cased case c)
-    ∙ ap (λ z. cased case c ∷ z) (twice_row case cs)
 
 -- ---- the text that the code writes in lower or upper case
 

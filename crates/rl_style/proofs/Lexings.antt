@@ -1,5 +1,5 @@
 -- The text after a literal token decides where the lexer ends the token.
-use Rattle.rl_syntax.proofs.Common.{◌≡◌, ℕ, ◌≤◌, suc, ◌⊎◌, inl, inr, Bool, true, false, not, ◌&&◌, ◌||◌, ◌==◌, cond, List, [], ◌∷◌, ◌++◌, length, Option, Some, None, drop, replicate, refl, sym, ◌∙◌, ap, subst, arith, append_assoc, lit<, and_parts, and_from, or_cases, eqb-true, nat_lt, digit_value, list_all, list_any, is_ascii_digit, option_map}
+use Rattle.rl_syntax.proofs.Common.{◌≡◌, ℕ, ◌≤◌, suc, ◌⊎◌, inl, inr, Bool, true, false, not, ◌&&◌, ◌||◌, ◌==◌, cond, List, [], ◌∷◌, ◌++◌, length, Option, Some, None, drop, replicate, refl, sym, ◌∙◌, ap, subst, arith, append_assoc, lit<, and_parts, or_cases, eqb-true, nat_lt, digit_value, list_all, list_any, is_ascii_digit, option_map}
 use Rattle.rl_syntax.specs.Texts.{is_underscore, first_passes, is_run_part, is_start, is_continue, begins_char}
 use Rattle.rl_syntax.specs.Classes.{after_run}
 use Rattle.rl_syntax.proofs.Basics.{all_weaker, false_unless}
@@ -13,15 +13,9 @@ use Rattle.rl_lexer.proofs.LexemeFronts.{at_class, class34, class39, class98, cl
 use Rattle.rl_lexer.proofs.LexemeOpeners.{raw_opens_here}
 use Rattle.rl_lexer.proofs.LexemeRows.{not_among, quote_past, raw_past, run_past, single_past}
 use Rattle.rl_lexer.proofs.Pieces.{is_equal}
+use Rattle.rl_lenient.proofs.FloatLemmas.{run_off}
 
 -- ---- the lexer consumes a sequence of characters
-
-pub run_through : (test : ℕ → Bool) (row y : List ℕ) → list_all test row ≡ true → after_run test (row ++ y)
-    ≡ after_run test y
-run_through test [] y h = refl
-run_through test (c ∷ row) y h =
-    let p = and_parts (test c) (list_all test row) h in
-    ap (λ b. cond b (after_run test (row ++ y)) (c ∷ row ++ y)) p.0 ∙ run_through test row y p.1
 
 run_shorter : (test : ℕ → Bool) (t : List ℕ) → length (after_run test t) ≤ length t
 run_shorter test [] = omega arith
@@ -104,7 +98,7 @@ based_goes letter digits y is each =
     at_class 48 (letter ∷ digits ++ y) DigitHead (class_digit 48 refl)
     ∙ ap (λ b. Some (LiteralForm, cond b (after_run is_continue (digits ++ y)) (after_decimal (letter ∷ digits ++ y))))
     is
-    ∙ ap (λ s. Some (LiteralForm, s)) (run_through is_continue digits y each)
+    ∙ ap (λ s. Some (LiteralForm, s)) (run_off is_continue digits y each)
 
 -- ---- the end of a decimal number in the lexer
 
@@ -201,7 +195,7 @@ is_part c = is_run_part is_ascii_digit c
 -- The lexer's parser of decimal numbers consumes digits and underscores, and continues after them.
 pub digits_gone : (more z : List ℕ) → list_all is_part more ≡ true → after_decimal (more ++ z) ≡ after_decimal z
 digits_gone more z h = ap (λ s. after_suffix (after_lexed_exponent (after_lexed_fraction s)))
-    (run_through is_part more z h)
+    (run_off is_part more z h)
 
 stands : (test : ℕ → Bool) (t : List ℕ) → first_passes test t ≡ false → after_run test t ≡ t
 stands test t h = run_past test [] t (record { each = refl; ends = h })
@@ -215,7 +209,7 @@ fraction_gone (d ∷ f) z (first, each) =
     let free : (d == 46 || is_start d) ≡ false = ap (λ b. b || is_start d) (not_among d 46 is_ascii_digit first refl)
     ∙ digit_not_start d first in
     ap (λ b. after_suffix (after_lexed_exponent (cond (not b) (after_run is_part (d ∷ f ++ z)) (46 ∷ d ∷ f ++ z)))) free
-    ∙ ap (λ s. after_suffix (after_lexed_exponent s)) (run_through is_part (d ∷ f) z each)
+    ∙ ap (λ s. after_suffix (after_lexed_exponent s)) (run_off is_part (d ∷ f) z each)
 
 letter_fails : (test : ℕ → Bool) (c : ℕ) → test 101 ≡ false → test 69 ≡ false → (c == 101 || c == 69) ≡ true
     → test c ≡ false
@@ -268,7 +262,7 @@ power_gone letter u row w is e each some =
     ap (λ b. cond (b && first_passes is_ascii_digit (after_run is_underscore (after_sign u)))
     (after_run is_part (after_sign u)) (letter ∷ u)) is
     ∙ ap (λ b. cond b (after_run is_part (after_sign u)) (letter ∷ u)) digit
-    ∙ ap (after_run is_part) e ∙ run_through is_part row w each
+    ∙ ap (after_run is_part) e ∙ run_off is_part row w each
 
 -- If a text begins with an exponent, the lexer's parser of exponents consumes it, and the digits and underscores after it.
 exponent_gone : (e w : List ℕ) → IsStrictExponent e → after_lexed_exponent (e ++ w) ≡ after_run is_part w

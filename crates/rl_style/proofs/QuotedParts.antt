@@ -28,6 +28,7 @@ use Rattle.rl_strict.proofs.StrictLemmas.{IsStrictNumber, Opened, seen}
 use Rattle.rl_style.specs.Mirrors.{OpensAs, CookedParts, RawParts}
 use Rattle.rl_style.specs.Rewriting.{KeepsTruth}
 use Rattle.rl_style.proofs.SameRaw.{length_hashes, raw_joined}
+use Rattle.rl_style.proofs.WrittenQuoted.{opens_so}
 
 -- ---- the opening delimiter identifies the form of a token
 
@@ -74,16 +75,6 @@ form_same f g k l a b e =
     ap (λ (p : QuotedForm × Kind × List ℕ). p.0) same
 
 -- ---- the delimiters of quoted literals of each kind
-
-opener_same : (k : Kind) → opener k ≡ strict_opener k
-opener_same Str = refl
-opener_same ByteStr = refl
-opener_same CStr = refl
-opener_same Byte = refl
-opener_same Char = refl
-opener_same Int = refl
-opener_same Float = refl
-opener_same BoolKind = refl
 
 raw_opener_same : (k : Kind) → raw_opener k ≡ strict_raw_opener k
 raw_opener_same Str = refl
@@ -257,14 +248,14 @@ cooked_by : (form : QuotedForm) (kind : Kind) (t v b x : List ℕ) → IsToken t
 cooked_by CookedForm kind t v b x token p none =
     let o = cooked_told kind t v b x p in
     let r : List ℕ = b ++ (strict_closer kind ++ x) in
-    cooked_from kind t b x (quoted_contents kind v) (o.text_is ∙ ap (λ z. z ++ r) (opener_same kind))
+    cooked_from kind t b x (quoted_contents kind v) (o.text_is ∙ ap (λ z. z ++ r) (opens_so kind))
     (token_closes t CookedForm kind r (told_front CookedForm kind t r o) token)
     (as_reads t kind (quoted_contents kind v) x (or_left (is_string kind) (is_single kind) o.has)
     (parts_read CookedForm kind t v b x p))
 cooked_by SingleForm kind t v b x token p none =
     let o = single_told kind t v b x p in
     let r : List ℕ = b ++ (strict_closer kind ++ x) in
-    cooked_from kind t b x (quoted_contents kind v) (o.text_is ∙ ap (λ z. z ++ r) (opener_same kind))
+    cooked_from kind t b x (quoted_contents kind v) (o.text_is ∙ ap (λ z. z ++ r) (opens_so kind))
     (token_closes t SingleForm kind r (told_front SingleForm kind t r o) token)
     (as_reads t kind (quoted_contents kind v) x (or_right (is_string kind) (is_single kind) o.has)
     (parts_read SingleForm kind t v b x p))
@@ -332,8 +323,8 @@ token_reads form kind t r h token =
   where
     go : (form : QuotedForm) → has_form form kind ≡ true → t ≡ form_opener form kind ++ r → ClosesForm form kind r
         → (v : Contents) × (x : List ℕ) × Reads t kind v x
-    go CookedForm has e c = units kind t r (e ∙ ap (λ z. z ++ r) (opener_same kind)) c
-    go SingleForm has e c = units kind t r (e ∙ ap (λ z. z ++ r) (opener_same kind)) c
+    go CookedForm has e c = units kind t r (e ∙ ap (λ z. z ++ r) (opens_so kind)) c
+    go SingleForm has e c = units kind t r (e ∙ ap (λ z. z ++ r) (opens_so kind)) c
     go RawForm has e c = inside kind t r (e ∙ ap (λ z. z ++ r) (raw_opener_same kind)) c
 
 quoted_found : (form : QuotedForm) (kind : Kind) (t : List ℕ) (found : Found) → IsToken (chars t)

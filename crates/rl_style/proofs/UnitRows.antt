@@ -135,10 +135,6 @@ pub record UnitsPassed (style : Style) (k : Kind) (us : List StrictUnit) (rest o
   pub left_are : AreUnits k left rest
   pub out_is : out ≡ front ++ encode_utf8_all (text_before style k done left)
 
-pub passed_start : (style : Style) (k : Kind) (us : List StrictUnit) (inside out : List ℕ) → AreUnits k us inside
-    → UnitsPassed style k us inside out out
-passed_start style k us inside out a = record { done = []; left = us; units_are = refl; left_are = a; out_is = sym (append-nil out) }
-
 pub passed_step : (style : Style) (k : Kind) (us : List StrictUnit) (rest v piece after out new front : List ℕ)
     → UnitsPassed style k us rest out front → Some (v, after) ≡ unit_at k rest → rest ≡ piece ++ after
     → new ≡ out ++ encode_utf8_all (restyled_text style k

@@ -3,7 +3,7 @@ use Rattle.std.proofs.Common.{length-append}
 use Rattle.rl_syntax.proofs.Common.{not-true, length, ◌+◌, ◌≢◌, drop, eqb-true, ◌≡◌, ℕ, ◌<◌, ◌≤◌, inl, inr, arith, nat_lt, lt-ltb, ltb-true, cases_lt, agree_below_at, ◌||◌, ◌&&◌, Bool, true, false, not, ◌==◌, cond, List, [], ◌∷◌, ◌++◌, map, Some, None, refl, sym, ap, ◌∙◌, append_assoc, append-nil, and_from, and_parts, or_from, list_all, flat_map, map-append, replicate, zero, suc, scalar, encode_utf8_all, ◌/◌, ◌%◌, encodes-append, encodes-chars, IsUtf8}
 use Rattle.std.specs.Prelude.{Option}
 use Rattle.std.specs.Str.{chars}
-use Rattle.rl_syntax.proofs.Basics.{apart, false_unless}
+use Rattle.rl_syntax.proofs.Basics.{apart, false_unless, scalars_parts}
 use Rattle.rl_syntax.proofs.LowBytes.{encode_is_high, low_front}
 use Rattle.rl_lenient.proofs.Names.{Kind, Str, ByteStr, CStr, Byte, Char, Int, Float, BoolKind, content_of, decodes_to_chars, place_value, strict_content_of, strict_contents, first_passes, IsTail, StrictUnit, Itself, QuoteEscape, PlainEscape, AsciiEscape, ByteEscape, UnicodeEscape, LineBreak, strict_text, is_strict_unit, unit_text}
 use Rattle.rl_syntax.specs.Written.{closer}
@@ -573,13 +573,6 @@ cased_code style text prefix is none =
 
 -- ---- rewritten characters are Unicode scalar values
 
-scalars_split : (a b : List ℕ) → scalars (a ++ b) ≡ true → (scalars a ≡ true) × (scalars b ≡ true)
-scalars_split [] b h = (refl, h)
-scalars_split (c ∷ cs) b h =
-    let p = and_parts (scalar c) (scalars (cs ++ b)) h in
-    let q = scalars_split cs b p.1 in
-    (and_from (scalar c) (scalars cs) p.0 q.0, q.1)
-
 pub chosen_scalars : (b : Bool) (x y : List ℕ) → scalars x ≡ true → scalars y ≡ true → scalars (cond b x y) ≡ true
 chosen_scalars true x y h k = h
 chosen_scalars false x y h k = k
@@ -684,7 +677,7 @@ pub units_scalars : (style : Style) (k : Kind) (us : List StrictUnit) → list_a
 units_scalars style k [] each h = refl
 units_scalars style k (u ∷ us) each h =
     let p = and_parts (is_strict_unit k u) (list_all (is_strict_unit k) us) each in
-    let q = scalars_split (strict_text u) (flat_map strict_text us) h in
+    let q = scalars_parts (strict_text u) (flat_map strict_text us) h in
     let z : Bool = not (digit_follows k us) in
     let n : ℕ = ascii_in (strict_contents (strict_content_of k) u) in
     scalars_join (strict_text (restyled style k z u)) (flat_map strict_text (restyled_units style k us))

@@ -204,10 +204,6 @@ number_text style front middle suffix new u us h e =
     let whole = between_texts front middle (ended style suffix) new u end.0 h e in
     (whole.0, whole.1 ∙ ap (λ z. chars front ++ (middle ++ z)) end.1)
 
-pub number_utf8 : (style : Style) (front middle suffix new : List ℕ) → IsUtf8 front → IsUtf8 suffix
-    → scalars middle ≡ true → Written style front middle suffix new → IsUtf8 new
-number_utf8 style front middle suffix new u us h e = (number_text style front middle suffix new u us h e).0
-
 -- The code finds the base and the digits of an integer that Rust's grammar defines.
 pub digits_cut : (text digits suffix full : List ℕ) (base : ℕ) (v : Contents)
     → ◌≡◌ {A = ℕ × List ℕ} (base, chars digits) (radix_at (chars text))

@@ -16,5 +16,6 @@ pub mod WholeLemmas
 pub mod MarkLemmas
 pub mod TreeLaws
 pub mod WrittenListLemmas
+pub mod RoomLemmas
 pub mod BorrowedTokens
 pub mod Theorems

@@ -1,7 +1,7 @@
 -- The theorems of src/laws.rt, as lemmas that callers may cite.
 use Rattle.rl_tokens.specs.PrintedTrees.{PrintedLiteralsLexToTheirTrees, ReprintedLiteralsLexToThemselves}
 use Rattle.rl_lexer.specs.Cuts.{OneError}
-use Rattle.rl_tokens.specs.Laws.{ARestOfARestIsARest, AMarkHasOneRest, APeekedMarkIsAtTheFront, AGroupHasOneInside, AGroupIsNoMark, AStepIsLighter, AMarkIsLighter, AnInsideIsLighter}
+use Rattle.rl_tokens.specs.Laws.{ARestOfARestIsARest, AMarkHasOneRest, JointMarksHaveOneRest, APeekedMarkIsAtTheFront, AGroupHasOneInside, AGroupIsNoMark, AStepIsLighter, AMarkIsLighter, AnInsideIsLighter}
 use Rattle.rl_tokens.specs.Lexing.{ATextLexesOrHasAnError, NeverBoth, OneList}
 use Rattle.rl_tokens.proofs.LexLaws.{never_both as never_both_law, one_error as one_error_law, one_list as one_list_law}
 use Rattle.rl_tokens.proofs.NestedTrees.{lexes_or_fails}
@@ -10,6 +10,7 @@ use Rattle.rl_tokens.specs.WrittenLists.{AStrListIsPrinted}
 use Rattle.rl_tokens.proofs.WrittenListLemmas.{str_list_printed}
 use Rattle.rl_tokens.proofs.TreeLaws.{inside_lighter, mark_lighter, no_mark, one_group, one_mark, peeked_mark, step_lighter}
 use Rattle.rl_tokens.proofs.TreeRests.{rest_step}
+use Rattle.rl_tokens.proofs.MarkLemmas.{one_rest}
 
 pub printed_literals_lex_to_their_trees : PrintedLiteralsLexToTheirTrees
 printed_literals_lex_to_their_trees = printed_lexes_law
@@ -34,6 +35,9 @@ a_rest_of_a_rest_is_a_rest = rest_step
 
 pub a_mark_has_one_rest : AMarkHasOneRest
 a_mark_has_one_rest = one_mark
+
+pub joint_marks_have_one_rest : JointMarksHaveOneRest
+joint_marks_have_one_rest = one_rest
 
 pub a_peeked_mark_is_at_the_front : APeekedMarkIsAtTheFront
 a_peeked_mark_is_at_the_front = peeked_mark

@@ -62,6 +62,20 @@ pub record IsAfterMark (ch : ℕ) (trees rest : List Tree) : Type 0 where
   pub trees_are : trees ≡ PunctTree mark ∷ rest
   pub is : mark.ch ≡ ch
 
+-- The token trees `trees` are the punctuation characters `chs`, followed by the token trees `rest`. The first character
+-- begins where the span `before` ends, and each other character where the one before it ends. The span `span` begins where
+-- `before` begins, and ends where the last character ends.
+abbrev pub IsAfterMarks : List ℕ → Span → List Tree → Span → List Tree → Type 0
+IsAfterMarks [] before trees span rest = (span ≡ before) × (rest ≡ trees)
+IsAfterMarks (ch ∷ chs) before (PunctTree m ∷ trees) span rest =
+    (m.ch ≡ ch) × (before.file ≡ m.span.file) × (before.hi ≡ m.span.lo)
+    × IsAfterMarks chs (record before { hi = m.span.hi }) trees span rest
+IsAfterMarks (ch ∷ chs) before _ span rest = ⊥
+
+-- The empty span at the start of a span.
+abbrev pub start_of : Span → Span
+start_of span = record span { hi = span.lo }
+
 -- The token trees `left` are the end of the token trees `before`: a parser consumed the token trees before them.
 pub record IsRest (before left : List Tree) : Type 0 where
   pub taken : List Tree

@@ -2,7 +2,7 @@
 use Rattle.std.specs.Prelude.{◌≡◌, ◌↔◌, ◌<◌, ℕ, IsTrue, List, ◌∷◌, length}
 use Rattle.rl_syntax.specs.declared.span.Span.{Span}
 use Rattle.rl_tokens.specs.declared.token.Delimiter.{Delimiter}
-use Rattle.rl_tokens.specs.Buffers.{begins_mark, IsAfterMark, IsRest}
+use Rattle.rl_tokens.specs.Buffers.{begins_mark, IsAfterMark, IsAfterMarks, IsRest}
 use Rattle.rl_tokens.specs.Trees.{Tree, GroupTree, flat_trees, inside_of}
 
 -- The token trees `trees` are a group with the token trees `inside`, followed by `rest`.
@@ -23,6 +23,12 @@ ARestOfARestIsARest =
 abbrev pub AMarkHasOneRest : Type 0
 AMarkHasOneRest =
     (ch : ℕ) (trees r s : List Tree) → IsAfterMark ch trees r → IsAfterMark ch trees s → r ≡ s
+
+-- One list of token trees follows punctuation characters with nothing between them, and the characters have one span.
+abbrev pub JointMarksHaveOneRest : Type 0
+JointMarksHaveOneRest =
+    (chs : List ℕ) (before : Span) (trees r s : List Tree) (a b : Span) → IsAfterMarks chs before trees a r
+    → IsAfterMarks chs before trees b s → (a ≡ b) × (r ≡ s)
 
 -- `peek_punct` returns `true` exactly if the token trees begin with the character.
 abbrev pub APeekedMarkIsAtTheFront : Type 0

@@ -1,6 +1,6 @@
 //! The buffer of token trees that parsers consume.
 
-ghost use Rattle.std.specs.Prelude.{◌≡◌, ◌∷◌, [], map, IsTrue, IsFalse, ◌↔◌, IfSome, IfNone, OnOk, OnErr, IfOk, IfErr};
+ghost use Rattle.std.specs.Prelude.{◌≡◌, ◌∷◌, [], List, map, IsTrue, IsFalse, ◌↔◌, IfSome, IfNone, OnOk, OnErr, IfOk, IfErr};
 
 use crate::error::{Error, ErrorKind};
 use crate::ident::Ident;
@@ -8,6 +8,7 @@ use crate::literal::Literal;
 use crate::punct::{Punct, word_of};
 use crate::token::{Group, TokenTree};
 use rl_syntax::Span;
+use rl_syntax::text::split_char;
 use std::alloc::{Allocator, Global};
 
 /// A sequence of borrowed token trees from which parsers consume, and a scope: the span of an error at the end of the
@@ -64,12 +65,17 @@ impl<'a, A: Allocator> ParseBuffer<'a, A> {
       begins_group,
       begins_mark,
       IsAfterMark,
+      IsAfterMarks,
+      start_of,
       IsRejection,
       IsRest,
       StaysRest,
     };
     ghost use Rattle.rl_lexer.specs.Lexemes.{is_punct};
     ghost use Rattle.rl_tokens.specs.Puncts.{mark_word};
+    ghost use Rattle.rl_tokens.specs.Trees.{Tree};
+    ghost use Rattle.rl_syntax.specs.declared.span.Span.{Span as SpanValue};
+    ghost use Rattle.std.specs.Str.{chars};
 
     /// Creates a buffer of the token trees `trees`, with the scope `scope`. The best scope is the end of the token
     /// trees: the text's end, or a group's closing delimiter.
@@ -234,6 +240,73 @@ impl<'a, A: Allocator> ParseBuffer<'a, A> {
             return None;
         }
         self.punct()
+    }
+
+    /// Consumes the next token trees if they are the punctuation characters of `marks`, for example `..=`, and nothing is
+    /// between the characters. Returns the span of the characters. Otherwise the result is `None`, and the buffer is
+    /// unchanged. [`ParseBuffer::error`] creates the error.
+    ///
+    /// The token tree after the characters doesn't matter: `..` is also consumed from `..=`, as by `syn`'s `Token![..]`.
+    ///
+    /// # Example
+    ///
+    /// ```
+    /// use rl_tokens::{ParseBuffer, Span, lex};
+    /// use rust_literals::LitInt;
+    /// use std::alloc::Global;
+    ///
+    /// pub fn closed_range(alloc: Global, text: &str) -> Option<(u64, u64)> {
+    ///     let stream = lex(alloc, text, 0).ok()?;
+    ///     let mut input = ParseBuffer::new(stream.trees(), Span::call_site());
+    ///     let first = input.parse::<LitInt>(alloc).ok()?;
+    ///     input.joint_puncts("..=")?;
+    ///     let last = input.parse::<LitInt>(alloc).ok()?;
+    ///     Some((
+    ///         first.base10_parse(alloc).ok()?,
+    ///         last.base10_parse(alloc).ok()?,
+    ///     ))
+    /// }
+    /// // closed_range(alloc, "1..=5") == Some((1, 5))
+    /// // closed_range(alloc, "1 .. = 5") == None
+    /// ```
+    pub fn joint_puncts(&mut self, marks: &str) -> Option<Span>
+        ensures taken { IfSome result (λ span. IsAfterMarks (chars marks.now)
+            (start_of (first_span (trees_in self.old) (scope_of self.old))) (trees_in self.old) span (trees_in self.new)) }
+        ensures left { IfNone result (trees_in self.new ≡ trees_in self.old) }
+        ensures other { IfNone result ((span : SpanValue) (rest : List Tree) → IsAfterMarks (chars marks.now)
+            (start_of (first_span (trees_in self.old) (scope_of self.old))) (trees_in self.old) span rest → ⊥) }
+        ensures rest { IsRest (trees_in self.old) (trees_in self.new) }
+        ensures onward { StaysRest (trees_in self.old) (trees_in self.new) }
+        ensures scope { scope_of self.new ≡ scope_of self.old }
+    {
+        let Span { file, lo, .. } = self.span();
+        let mut ahead = self.fork();
+        let Some(span) = ahead.next_puncts(marks, Span { file, lo, hi: lo }) else {
+            return None;
+        };
+        self.trees = ahead.trees;
+        Some(span)
+    }
+
+    /// Consumes the next token trees if they are the punctuation characters of `marks`, the first begins where the span
+    /// `before` ends, and nothing is between the characters. Returns the span `before`, continued to the end of the last
+    /// character. If the result is `None`, some of the characters may have been consumed.
+    fn next_puncts(&mut self, marks: &str, before: Span) -> Option<Span>
+        ensures taken { IfSome result
+            (λ span. IsAfterMarks (chars marks.now) before (trees_in self.old) span (trees_in self.new)) }
+        ensures other { IfNone result ((span : SpanValue) (rest : List Tree)
+            → IsAfterMarks (chars marks.now) before (trees_in self.old) span rest → ⊥) }
+    {
+        let Some((ch, more)) = split_char(marks) else {
+            return Some(before);
+        };
+        let at = self.mark(ch)?.span();
+        if at.file != before.file || at.lo != before.hi {
+            return None;
+        }
+        let mut joined = before;
+        joined.hi = at.hi;
+        self.next_puncts(more, joined)
     }
 
     /// Consumes the next token tree if it is a group, and returns the group, borrowed. Otherwise the result is `None`

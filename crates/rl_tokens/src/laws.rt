@@ -2,7 +2,7 @@
 
 ghost use Rattle.rl_lexer.specs.Cuts.{OneError};
 ghost use Rattle.rl_tokens.specs.WrittenLists.{AStrListIsPrinted};
-ghost use Rattle.rl_tokens.specs.Laws.{ARestOfARestIsARest, AMarkHasOneRest, APeekedMarkIsAtTheFront, AGroupHasOneInside, AGroupIsNoMark, AStepIsLighter, AMarkIsLighter, AnInsideIsLighter};
+ghost use Rattle.rl_tokens.specs.Laws.{ARestOfARestIsARest, AMarkHasOneRest, JointMarksHaveOneRest, APeekedMarkIsAtTheFront, AGroupHasOneInside, AGroupIsNoMark, AStepIsLighter, AMarkIsLighter, AnInsideIsLighter};
 ghost use Rattle.rl_tokens.specs.Lexing.{ATextLexesOrHasAnError, NeverBoth, OneList};
 ghost use Rattle.rl_tokens.specs.PrintedTrees.{PrintedLiteralsLexToTheirTrees, ReprintedLiteralsLexToThemselves};
 
@@ -46,10 +46,11 @@ pub fn steps_join()
     ensures { ARestOfARestIsARest }
 {}
 
-/// Proves that one list of token trees follows a punctuation character or a group, and one list is inside the group. A group
-/// isn't a punctuation character, and `peek_punct` returns `true` exactly before the character.
+/// Proves that one list of token trees follows a punctuation character, punctuation characters with nothing between them,
+/// or a group, and one list is inside the group. A group isn't a punctuation character, and `peek_punct` returns `true` exactly before the character.
 pub fn one_list_follows_a_token()
     ensures mark { AMarkHasOneRest }
+    ensures joint { JointMarksHaveOneRest }
     ensures peeked { APeekedMarkIsAtTheFront }
     ensures group { AGroupHasOneInside }
     ensures other { AGroupIsNoMark }

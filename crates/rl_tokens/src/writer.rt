@@ -1,13 +1,13 @@
 //! Functions that write a value as a literal: a string, bytes, or a character.
 
-ghost use Rattle.std.specs.Prelude.{◌≡◌, ◌⊎◌, ◌<◌, ◌++◌, ◌∷◌, [], length, take, is_ok, IsTrue, if◌then◌else◌, OnOk, OnErr, IfOk, IfErr, MatchResult, string_bytes, encode_utf8_all};
+ghost use Rattle.std.specs.Prelude.{◌≡◌, ◌⊎◌, ◌<◌, ◌≤◌, ◌+◌, ◌++◌, ◌∷◌, [], length, take, is_ok, IsOk, IsTrue, if◌then◌else◌, OnOk, OnErr, IfOk, IfErr, MatchResult, string_bytes, string_capacity, string_len, encode_utf8_all};
 ghost use Rattle.std.specs.Str.{chars};
 ghost use Rattle.rl_syntax.specs.Quoted.{decodes_to_chars, unit_text};
 ghost use Rattle.rl_syntax.specs.Written.{closer, written_text, written_unit, IsWrittenForm};
 ghost use Rattle.rl_syntax.specs.Agreeing.{AreBytesOf, IsQuotedValue};
 ghost use Rattle.rl_tokens.specs.Errors.{memory_at};
 ghost use Rattle.rl_tokens.specs.WrittenLists.{characters_of, str_list_text};
-ghost use Rattle.rl_syntax.specs.Texts.{code};
+ghost use Rattle.rl_syntax.specs.Texts.{byte_len, code};
 ghost use Rattle.rl_syntax.specs.Spans.{nowhere};
 
 use crate::c_string::CString;
@@ -21,9 +21,12 @@ use std::alloc::{AllocError, Allocator};
 /// escape, or unchanged. If an allocation fails, nothing is appended.
 fn push_written<A: Allocator>(out: &mut String<A>, kind: Kind, c: char) -> Result<(), AllocError>
     requires { IsTrue (decodes_to_chars kind) ⊎ (c < 256) }
-    ensures { string_bytes out.new ≡ (if is_ok result
+    ensures bytes { string_bytes out.new ≡ (if is_ok result
         then string_bytes out.old ++ encode_utf8_all (unit_text (written_unit kind c))
         else string_bytes out.old) }
+    ensures len { OnOk result (string_len out.new ≡ string_len out.old + byte_len (unit_text (written_unit kind c))) }
+    ensures capacity { string_capacity out.old ≤ string_capacity out.new }
+    ensures full { OnErr result (string_capacity out.old < string_len out.old + byte_len (unit_text (written_unit kind c))) }
 {
     match escape(kind, c, &mut [0; 4]) {
         Some(text) => out.push_str(text),
@@ -43,6 +46,7 @@ fn push_characters<A: Allocator>(
         ≡ chars (string_bytes out.old) ++ written_text kind (chars value.now)) }
     ensures front { OnErr result (take (length (string_bytes out.old)) (string_bytes out.new)
         ≡ string_bytes out.old) }
+    ensures full { OnErr result (string_capacity out.old < string_len out.old + byte_len (written_text kind (chars value.now))) }
 {
     out.push_str(kind.opener())?;
     for c in value.chars() {
@@ -57,7 +61,7 @@ fn push_characters<A: Allocator>(
 ///
 /// # Errors
 ///
-/// Returns an error if an allocation fails. `out` is unchanged then.
+/// Returns an error if an allocation fails. `out` is unchanged then. If `out` has the capacity for the literal, there is no error.
 pub fn push_str_literal<A: Allocator>(out: &mut String<A>, value: &str) -> Result<(), AllocError>
     ensures text { OnOk result (chars (string_bytes out.new)
         ≡ chars (string_bytes out.old) ++ written_text Kind.Str (chars value.now)) }
@@ -66,6 +70,7 @@ pub fn push_str_literal<A: Allocator>(out: &mut String<A>, value: &str) -> Resul
     ensures form { OnOk result (IsWrittenForm Kind.Str (chars value.now)
         (written_text Kind.Str (chars value.now))) }
     ensures same { OnErr result (string_bytes out.new ≡ string_bytes out.old) }
+    ensures room { string_len out.old + byte_len (written_text Kind.Str (chars value.now)) ≤ string_capacity out.old → IsOk result }
 {
     let len = out.as_str().len();
     match push_characters(out, Kind::Str, value) {

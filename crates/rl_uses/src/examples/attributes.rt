@@ -32,6 +32,15 @@ pub fn required_host(alloc: Global, text: &str) -> Option<String> {
     read(alloc, text, 0).ok()?.required_string(alloc, host).ok()
 }
 
+/// Returns the integer that the settings in `text` set `port` to, or 80 if they don't set it.
+pub fn port_or_80(alloc: Global, text: &str) -> Option<u64> {
+    let port = Setting {
+        name: "port",
+        expected: "an integer from 0 to 65535",
+    };
+    read(alloc, text, 0).ok()?.unsigned_or(port, 65535, 80).ok()
+}
+
 /// Returns the byte offset at which the missing setting `host` is reported, which is the end of `text`. Returns `None`
 /// if `text` sets `host`.
 pub fn missing_host_offset(alloc: Global, text: &str) -> Option<usize> {

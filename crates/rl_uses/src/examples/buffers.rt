@@ -24,6 +24,19 @@ pub fn punct_after_ident(alloc: Global, text: &str) -> Option<char> {
     Some(input.punct()?.as_char())
 }
 
+/// Returns the two integers of a range such as `1..=5` at the start of `text`.
+pub fn closed_range(alloc: Global, text: &str) -> Option<(u64, u64)> {
+    let stream = lex(alloc, text, 0).ok()?;
+    let mut input = ParseBuffer::new(stream.trees(), Span::call_site());
+    let first = input.parse::<LitInt>(alloc).ok()?;
+    input.joint_puncts("..=")?;
+    let last = input.parse::<LitInt>(alloc).ok()?;
+    Some((
+        first.base10_parse(alloc).ok()?,
+        last.base10_parse(alloc).ok()?,
+    ))
+}
+
 /// Returns the number of token trees after `=` and an integer at the start of `text`, or the number of all token trees
 /// if one of the two is missing.
 pub fn remaining_tree_count(alloc: Global, text: &str) -> Option<usize> {

@@ -26,9 +26,9 @@ mod whole;
 pub use crate::rl_style::calls::{Calls, advance_calls, is_in_call};
 #[cfg(feature = "sources")]
 pub use crate::rl_style::restylable::{Restylable, Restylables};
-pub use crate::rl_style::rewrite::{rewrite_into, rewrite_within};
+pub use crate::rl_style::rewrite::{growth, rewrite_within};
 #[cfg(feature = "__rendered")]
-pub use crate::rl_style::rewrite::growth;
+pub use crate::rl_style::rewrite::rewrite_into;
 #[cfg(any(feature = "sources", feature = "settings"))]
 pub use crate::rl_style::rules::{Rule, all_rules, is_changed_by_style};
 pub use crate::rl_style::style::{Case, DigitGroups, Separator, Style};

@@ -52,7 +52,6 @@ fn rewrite_number(text: &str, style: Style, out: &mut [u8]) -> Result<usize, Fla
     }
 }
 
-#[cfg(feature = "__rendered")]
 #[inline]
 pub fn growth(style: Style, text: &str) -> usize {
     if begins_digit(text) {
@@ -76,6 +75,7 @@ pub fn rewrite_within(front: &str, text: &str, style: Style, out: &mut [u8]) -> 
     }
 }
 
+#[cfg(feature = "__rendered")]
 #[inline]
 pub fn rewrite_into(front: &str, text: &str, style: Style, out: &mut [u8]) -> Result<usize, Flaw> {
     rewrite_within(front, text, style, out)

@@ -15,7 +15,7 @@ loop-byte-preserved g c =
     let i = c.loop-byte.byte-index in
     let same : c.from.result ≡ get_or value i 0 = search rules in
     let written : string_bytes c.push_written.new.out ≡ string_bytes c.loop-byte.text
-    ++ encode_utf8_all (unit_text (written_unit c.args.kind c.from.result)) = c.in_ok-push_written.ensures in
+    ++ encode_utf8_all (unit_text (written_unit c.args.kind c.from.result)) = c.in_ok-push_written.ensures.bytes in
     let pushed : string_bytes c.push_written.new.out ≡ string_bytes c.loop-byte.text
     ++ encode_utf8_all (unit_text (written_unit c.args.kind (get_or value i 0))) = written
     ∙ ap (λ z. string_bytes c.loop-byte.text ++ encode_utf8_all (unit_text (written_unit c.args.kind z))) same in

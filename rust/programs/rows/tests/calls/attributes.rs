@@ -79,6 +79,17 @@ fn bool_or() {
     });
 }
 
+/// Reads an integer of 16 bits: as a required setting, and then with the default 80.
+#[test]
+fn unsigned() {
+    check(TABLE, "attr_unsigned", |text| {
+        value_or_error(read(Global, text, 4), |attrs| {
+            required(attrs.required_unsigned(PORT, 65535))
+                + &required(attrs.unsigned_or(PORT, 65535, 80))
+        })
+    });
+}
+
 /// Shows the number of attributes.
 fn count(attrs: &Attrs) -> String {
     format!("{}\n", attrs.entries().len())

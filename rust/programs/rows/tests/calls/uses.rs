@@ -17,10 +17,11 @@ use navyspindle_rows::rl_uses::callers::strict::first_bad_byte;
 use navyspindle_rows::rl_uses::callers::style::write_lower_hex;
 use navyspindle_rows::rl_uses::callers::writing::write_ascii_string_literal;
 use navyspindle_rows::rl_uses::examples::attributes::{
-    missing_host_offset, optional_host, required_host, string_setting,
+    missing_host_offset, optional_host, port_or_80, required_host, string_setting,
 };
 use navyspindle_rows::rl_uses::examples::buffers::{
-    first_integer_in_group, integer_tree_count, parse_port, punct_after_ident, remaining_tree_count,
+    closed_range, first_integer_in_group, integer_tree_count, parse_port, punct_after_ident,
+    remaining_tree_count,
 };
 use navyspindle_rows::rl_uses::examples::grammar::{
     decoded_string, exponent_of, first_escape_offset, hex_digits, integer_value, is_plain_string,
@@ -270,6 +271,8 @@ fn examples() {
             first_delimiter(Global, "[1, 2]");
             first_integer_in_group(Global, "(0x10, 2)");
             punct_after_ident(Global, "port = 80");
+            closed_range(Global, "1..=5");
+            closed_range(Global, "1 .. = 5");
             remaining_tree_count(Global, "= 80");
             remaining_tree_count(Global, "= a");
             parse_port(Global, "8_080");
@@ -321,6 +324,9 @@ fn examples() {
             optional_host(Global, "host = \"a\", port = 80");
             required_host(Global, "host = \"a\", port = 80");
             required_host(Global, "port = 80");
+            port_or_80(Global, "port = 8080");
+            port_or_80(Global, "host = \"a\"");
+            port_or_80(Global, "port = 65536");
             missing_host_offset(Global, "port = 80");
             string_setting(Global, "host = \"a\", port = 80", "host");
             string_lit_value(Global, "\"a\\x41\"");

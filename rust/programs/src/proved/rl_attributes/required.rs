@@ -31,6 +31,27 @@ impl<A: Allocator> Attrs<A> {
         }
     }
 
+    pub fn required_unsigned(&self, setting: Setting, most: u64) -> Result<u64, SettingError<A>> {
+        match self.unsigned(setting, most) {
+            Ok(Some(value)) => Ok(value),
+            Ok(None) => Err(self.missing_error(setting)),
+            Err(error) => Err(error),
+        }
+    }
+
+    pub fn unsigned_or(
+        &self,
+        setting: Setting,
+        most: u64,
+        default: u64,
+    ) -> Result<u64, SettingError<A>> {
+        let found = self.unsigned(setting, most);
+        match found {
+            Ok(value) => Ok(value.unwrap_or(default)),
+            Err(error) => Err(error),
+        }
+    }
+
     pub fn required_bool(&self, setting: Setting) -> Result<bool, SettingError<A>> {
         match self.bool(setting) {
             Ok(Some(truth)) => Ok(truth),

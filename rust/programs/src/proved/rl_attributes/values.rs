@@ -1,9 +1,11 @@
 // Rendered from crates/rl_attributes/src/values.rt by tools/render, which erases contracts: change that file, and render again.
-//! Functions that return the value of a setting as a string, a number or a `bool`.
+//! Functions that return the value of a setting as a string, a number, an unsigned integer or a `bool`.
 
 use crate::rattle_std::prelude::{Drop, String};
 use crate::rl_attributes::attributes::Attrs;
 use crate::rl_attributes::settings::{Setting, SettingError};
+use crate::rl_lenient::parse_int_literal;
+use crate::rl_syntax::text::begins_with_char;
 use crate::rust_literals::Lit;
 use crate::rattle_std::alloc::Allocator;
 use crate::rattle_std::fmt::Display;
@@ -30,6 +32,31 @@ fn string_of<A: Allocator>(
 fn bool_of<A: Allocator>(setting: Setting, value: &Lit<A>) -> Result<bool, SettingError<A>> {
     match value {
         Lit::Bool(literal) => Ok(literal.value()),
+        other => Err(other_kind(setting, other)),
+    }
+}
+
+fn unsigned_value(text: &str, most: u64) -> Option<u64> {
+    if begins_with_char(text, '-') {
+        return None;
+    }
+    let found = parse_int_literal(text)??;
+    if found.magnitude > most as u128 {
+        return None;
+    }
+    Some(found.magnitude as u64)
+}
+
+fn unsigned_of<A: Allocator>(
+    setting: Setting,
+    most: u64,
+    value: &Lit<A>,
+) -> Result<u64, SettingError<A>> {
+    match value {
+        Lit::Int(literal) => match unsigned_value(literal.text(), most) {
+            Some(number) => Ok(number),
+            None => Err(SettingError::Kind(setting, literal.span())),
+        },
         other => Err(other_kind(setting, other)),
     }
 }
@@ -79,6 +106,16 @@ impl<A: Allocator> Attrs<A> {
         }
     }
 
+    fn found_unsigned(&self, setting: Setting, most: u64) -> Result<Option<u64>, SettingError<A>> {
+        let Some(value) = self.get(setting.name) else {
+            return Ok(None);
+        };
+        match unsigned_of(setting, most, value) {
+            Ok(number) => Ok(Some(number)),
+            Err(error) => Err(error),
+        }
+    }
+
     fn found_truth(&self, setting: Setting) -> Result<Option<bool>, SettingError<A>> {
         let Some(value) = self.get(setting.name) else {
             return Ok(None);
@@ -103,6 +140,10 @@ impl<A: Allocator> Attrs<A> {
     where
         N::Err: Display + Drop, {
         self.found_number(alloc, setting)
+    }
+
+    pub fn unsigned(&self, setting: Setting, most: u64) -> Result<Option<u64>, SettingError<A>> {
+        self.found_unsigned(setting, most)
     }
 
     pub fn bool(&self, setting: Setting) -> Result<Option<bool>, SettingError<A>> {

@@ -11,9 +11,10 @@ use crate::rl_flaws::{
     may_be_negated, type_error_of,
 };
 use crate::rl_lexer::{LexError, LexKind, SourceForm, SourceToken, Sources};
-use crate::rl_strict::{FlawKind, LineEnds, Reading, is_float_by_suffix, read};
+use crate::rl_strict::limits::flaw_if_above_128_bits;
+use crate::rl_strict::{LineEnds, Reading, read};
 use crate::rl_syntax::Kind;
-use crate::rl_syntax::text::{begins, split_char};
+use crate::rl_syntax::text::begins;
 use crate::rattle_std::alloc::Allocator;
 use crate::rattle_std::io::Write;
 
@@ -93,14 +94,8 @@ fn type_error_at(
     magnitude: u128,
     suffix_at: usize,
 ) -> Option<TypeError> {
-    if has_no_suffix(text, kind, suffix_at) {
-        return None;
-    }
-    if !text.is_char_boundary(suffix_at) {
-        return Some(TypeError::UnknownSuffix);
-    }
-    let suffix = &text[suffix_at..];
-    type_error_of(kind, text, magnitude, suffix, may_be_negated(before))
+    let (suffix, negated) = (&text[suffix_at..], may_be_negated(before));
+    type_error_of(kind, text, magnitude, suffix, negated)
 }
 
 #[inline(always)]
@@ -129,32 +124,16 @@ fn type_error_in(before: &str, text: &str, reading: &Reading) -> Option<TypeErro
     }
 }
 
-fn large_place(text: &str, reading: &Reading) -> Option<Place> {
-    match reading {
-        Reading::Integer(None, at) => {
-            if is_float_by_suffix(text) {
-                return None;
-            }
-            let len = match split_char(text.get(*at..).unwrap_or("")) {
-                Some((c, _)) => c.len_utf8(),
-                None => 0,
-            };
-            let (lo, hi) = (*at, at.saturating_add(len));
-            Some(Place { lo, hi })
-        }
-        _ => None,
-    }
-}
-
 fn type_words(
     before: &str,
     text: &str,
     reading: &Reading,
 ) -> Option<(Place, &'static str, &'static str)> {
-    let (lo, hi, large) = (0, text.len(), FlawKind::TooLarge);
-    if let Some(place) = large_place(text, reading) {
-        return Some((place, large.id(), large.message()));
+    if let Some(flaw) = flaw_if_above_128_bits(text, *reading) {
+        let (lo, hi) = (flaw.lo, flaw.hi);
+        return Some((Place { lo, hi }, flaw.kind.id(), flaw.kind.message()));
     }
+    let (lo, hi) = (0, text.len());
     match type_error_in(before, text, reading) {
         Some(error) => Some((Place { lo, hi }, error.id(), error.message())),
         None => None,
@@ -190,6 +169,7 @@ fn report_type<'t, A: Allocator + Copy, W: Write>(
 #[inline(always)]
 fn report_prefix<A: Allocator + Copy, W: Write>(
     page: &mut Page<'_, '_, A, W>,
+    follower: &Follower<'_>,
     job: Job<'_>,
     token: SourceToken<'_>,
 ) -> Result<Option<bool>, Failure<A>> {
@@ -198,7 +178,9 @@ fn report_prefix<A: Allocator + Copy, W: Write>(
     if !last.is_some_and(|b| matches!(*b, b'#' | b'_') || b.is_ascii_alphanumeric()) {
         return Ok(None);
     }
-    let before = source.get(..token.lo).unwrap_or("");
+    let Some(before) = follower.text_before(token.lo) else {
+        return Ok(Some(false));
+    };
     if !job.edition.reserves(before, token.text) {
         return Ok(None);
     }
@@ -268,7 +250,7 @@ fn report_literal<'t, A: Allocator + Copy, W: Write>(
     }
     match read(token.text, LineEnds::File, false) {
         Ok(reading) => {
-            if let Some(is_allowed) = report_prefix(page, job, token)? {
+            if let Some(is_allowed) = report_prefix(page, follower, job, token)? {
                 return Ok(is_allowed);
             }
             if job.any_suffix {

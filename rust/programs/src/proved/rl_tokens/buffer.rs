@@ -7,6 +7,7 @@ use crate::rl_tokens::literal::Literal;
 use crate::rl_tokens::punct::{Punct, word_of};
 use crate::rl_tokens::token::{Group, TokenTree};
 use crate::rl_syntax::Span;
+use crate::rl_syntax::text::split_char;
 use crate::rattle_std::alloc::{Allocator, Global};
 
 pub struct ParseBuffer<'a, A: Allocator = Global> {
@@ -93,6 +94,29 @@ impl<'a, A: Allocator> ParseBuffer<'a, A> {
             return None;
         }
         self.punct()
+    }
+
+    pub fn joint_puncts(&mut self, marks: &str) -> Option<Span> {
+        let Span { file, lo, .. } = self.span();
+        let mut ahead = self.fork();
+        let Some(span) = ahead.next_puncts(marks, Span { file, lo, hi: lo }) else {
+            return None;
+        };
+        self.trees = ahead.trees;
+        Some(span)
+    }
+
+    fn next_puncts(&mut self, marks: &str, before: Span) -> Option<Span> {
+        let Some((ch, more)) = split_char(marks) else {
+            return Some(before);
+        };
+        let at = self.mark(ch)?.span();
+        if at.file != before.file || at.lo != before.hi {
+            return None;
+        }
+        let mut joined = before;
+        joined.hi = at.hi;
+        self.next_puncts(more, joined)
     }
 
     pub fn group(&mut self) -> Option<&'a Group<A>> {

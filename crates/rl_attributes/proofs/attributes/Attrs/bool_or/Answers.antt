@@ -1,22 +1,23 @@
 use Rattle.std.proofs.Common.{◌≡◌, ◌∙◌}
 use Rattle.rl_attributes.specs.AttributeParsing.{entries_of}
-use Rattle.rl_attributes.specs.TextSettings.{list_of}
+use Rattle.rl_attributes.specs.Settings.{RejectsTruth}
+use Rattle.rl_attributes.specs.TextSettings.{IsTruthOf, list_of}
 use Rattle.rl_attributes.proofs.TextLemmas.{or_set, or_exactly, or_rejected}
 use Rattle.rl_attributes.proofs.attributes.Attrs.bool_or.Goals as goal
 
 pub returns-in-Ok-clause-set : goal.returns-in-Ok-clause-set
 returns-in-Ok-clause-set g c =
     rw c.unwrap_or.ensures
-    (or_set c.args.setting.name.now c.args.default c.in-Ok.found (list_of c.args.self.now) c.in-Ok.ensures.text)
+    (or_set IsTruthOf c.args.setting.name.now c.args.default c.in-Ok.found (list_of c.args.self.now) c.in-Ok.ensures.text)
 
 pub returns-in-Ok-clause-exactly : goal.returns-in-Ok-clause-exactly
 returns-in-Ok-clause-exactly g c w at =
     let same : c.unwrap_or.result ≡ w = c.unwrap_or.ensures
-    ∙ or_exactly c.args.setting.name.now c.args.default w c.in-Ok.found (list_of c.args.self.now) c.in-Ok.ensures.text
+    ∙ or_exactly IsTruthOf c.args.setting.name.now c.args.default w c.in-Ok.found (list_of c.args.self.now) c.in-Ok.ensures.text
     (c.in-Ok.ensures.exactly w) at in
     cc
 
 pub returns-in-Err-clause-exactly : goal.returns-in-Err-clause-exactly
 returns-in-Err-clause-exactly g c w at =
-    absurd (or_rejected c.args.setting (entries_of c.args.self.now) c.args.default w c.in-Err.error
-    c.in-Err.ensures.rejected (c.in-Err.ensures.exactly w) at)
+    absurd (or_rejected IsTruthOf (RejectsTruth c.args.setting) c.args.setting (entries_of c.args.self.now) c.args.default w
+    c.in-Err.error c.in-Err.ensures.rejected (c.in-Err.ensures.exactly w) at)

@@ -3,6 +3,7 @@ import itertools
 import os
 import re
 import subprocess
+import tempfile
 
 import programs
 
@@ -10,17 +11,17 @@ from .items import TOP, read
 
 
 def commands():
-    """Runs the calls of programs that the pages show. Each call is a line after `$`, with its output below it. Yields each
-    call, a bool, and the call's output. The bool is true if the output is as shown."""
+    """Runs the calls of programs that the pages show, in a folder of their own. Each call is a line after `$`, with its output below
+    it. Yields each call, a bool, and the call's output. The bool is true if the output is as shown."""
     found_first = dict(os.environ, PATH=f'{programs.cargo_folder()}:{os.environ["PATH"]}')
-    shown = read('README.md') + read('docs/PROGRAMS.md')
-    for block in re.findall(r'```sh\n(\$.*?)```', shown, re.S):
-        for call in re.split(r'^\$ ', block, flags=re.M)[1:]:
-            command, wanted = call.split('\n', 1)
-            ran = subprocess.run(
-                ['bash', '-c', command], cwd=TOP, env=found_first, capture_output=True, check=False)
-            told = re.sub(r'^rl_\w+: .*\n', '', ran.stderr.decode(), flags=re.M)
-            found = ran.stdout.decode() + told
+    shown = ''.join(map(read, ('README.md', 'docs/PROGRAMS.md', 'docs/DIFFERENCES.md', 'docs/ERRORS.md')))
+    calls = [it for block in re.findall(r'```sh\n(\$.*?)```', shown, re.S) for it in re.split(r'^\$ ', block, flags=re.M)[1:]]
+    with tempfile.TemporaryDirectory() as folder:
+        for name in ('rl_tool', 'rl_scan', 'docs'):
+            os.symlink(f'{TOP}/{name}', f'{folder}/{name}')
+        for command, wanted in (call.split('\n', 1) for call in calls):
+            ran = subprocess.run(['bash', '-c', command], cwd=folder, env=found_first, capture_output=True, check=False)
+            found = ran.stdout.decode() + re.sub(r'^rl_\w+: .*\n', '', ran.stderr.decode(), flags=re.M)
             yield command, found == wanted, found
 
 
