@@ -5,6 +5,4 @@ pub mod RewriteLemmas
 pub mod CountLemmas
 pub mod ShortageLemmas
 pub mod CapitalLemmas
-pub mod JobLemmas
-pub mod NumberLemmas
 pub mod StringLemmas

@@ -1,9 +1,8 @@
 //! The settings of a job: the required setting `name`, and the settings `tries` and `reports` with defaults.
 
-ghost use Rattle.std.specs.Prelude.{◌≡◌, ℕ, List, Bool, IfOk, IfErr, Ok, codes, string_bytes};
-ghost use Rattle.rl_attributes.specs.AttributeParsing.{entries_of};
+ghost use Rattle.std.specs.Prelude.{ℕ, List, Bool, IfOk, IfErr, string_bytes};
 ghost use Rattle.rl_attributes.specs.TextSettings.{list_of};
-ghost use Rattle.rl_uses.specs.Jobs.{IsUnsignedOr, IsJob, IsJobText, IsJobOrMemory, IsAtNamed, RejectsJob, RejectsJobText};
+ghost use Rattle.rl_uses.specs.Jobs.{IsJob, IsJobText, IsJobOrMemory, RejectsJob, RejectsJobText};
 
 use rl_attributes::{Attrs, Setting, SettingError, read};
 use std::alloc::{Allocator, Global};
@@ -17,7 +16,7 @@ const NAME: Setting = Setting {
 /// The setting `tries`, how often the job is tried. Its default is 3.
 const TRIES: Setting = Setting {
     name: "tries",
-    expected: "an integer from 0 to 4294967295",
+    expected: "an integer from 0 to 100",
 };
 
 /// The setting `reports`, whether the job reports its end. Its default is `false`.
@@ -32,21 +31,9 @@ pub struct Job<A: Allocator = Global> {
     /// The job's name.
     pub name: String<A>,
     /// How often the job is tried.
-    pub tries: u32,
+    pub tries: u64,
     /// Whether the job reports its end.
     pub reports: bool,
-}
-
-/// Returns how often the job is tried, 3 times if the attributes `attrs` don't set `tries`.
-fn tries_of<A: Allocator + Copy>(alloc: A, attrs: &Attrs<A>) -> Result<u32, SettingError<A>>
-    ensures set { IfOk result (λ n. IsUnsignedOr 32 (codes "tries") 3 n (list_of attrs.now)) }
-    ensures exactly { (n : ℕ) → IsUnsignedOr 32 (codes "tries") 3 n (list_of attrs.now) → result ≡ Ok n }
-    ensures rejected { IfErr result (IsAtNamed (codes "tries") (entries_of attrs.now)) }
-{
-    match attrs.number::<u32>(alloc, TRIES) {
-        Ok(tries) => Ok(tries.unwrap_or(3)),
-        Err(error) => Err(error),
-    }
 }
 
 /// Returns the job's settings that the attributes `attrs` set.
@@ -64,7 +51,7 @@ fn job_of<A: Allocator + Copy>(alloc: A, attrs: &Attrs<A>) -> Result<Job<A>, Set
         Err(error) => return Err(error),
         Ok(name) => name,
     };
-    let tries = match tries_of(alloc, attrs) {
+    let tries = match attrs.unsigned_or(TRIES, 100, 3) {
         Err(error) => return Err(error),
         Ok(tries) => tries,
     };
