@@ -1,5 +1,12 @@
-use Rattle.std.proofs.Common.{inl, inr, refl}
-use Rattle.rl_attributes.specs.Settings.{RejectsString, RejectsTruth, RejectsUnsigned}
+use Rattle.std.proofs.Common.{◌≡◌, List, inl, inr, refl}
+use Rattle.rust_literals.specs.declared.lit.Lit.{Lit}
+use Rattle.rust_literals.specs.LitParts.{lit_span}
+use Rattle.rl_attributes.specs.declared.attributes.Entry.{Entry}
+use Rattle.rl_attributes.specs.declared.settings.Setting.{Setting}
+use Rattle.rl_attributes.specs.declared.settings.SettingError.{SettingError}
+use Rattle.rl_attributes.specs.Entries.{attributes_of}
+use Rattle.rl_attributes.specs.Settings.{RejectsSetValue, RejectsString, RejectsTruth, RejectsUnsigned, span_of}
+use Rattle.rl_attributes.specs.TextSettings.{IsErrorAtValue}
 use Rattle.rl_attributes.proofs.Theorems.{a_rejected_bool_is_at_the_value, a_rejected_required_setting_has_its_name, a_rejected_string_is_at_the_value, a_rejected_unsigned_is_at_the_value, a_rejected_value_has_its_name}
 use Rattle.rl_uses.proofs.jobs.job_of.Goals as goal
 
@@ -32,18 +39,23 @@ returns-in-Err-required_string-clause-rejected g c = record {
       ));
 }
 
+-- The error of a setting with a default is at the value of the setting's name.
+named : {A : Type 0} (Rejects : Setting → Lit A → SettingError A → Type 0) (s : Setting) (es : List (Entry A)) (e : SettingError A)
+    → ((l : Lit A) → Rejects s l e → span_of e ≡ lit_span l) → RejectsSetValue s es (Rejects s) e
+    → IsErrorAtValue s.name.now (attributes_of es) e
+named Rejects s es e at r = a_rejected_value_has_its_name (Rejects s) s es e at r
+
 pub returns-in-Err-unsigned_or-clause-rejected : goal.returns-in-Err-unsigned_or-clause-rejected
 returns-in-Err-unsigned_or-clause-rejected g c = record {
   why = inr (inr (inl (
-      a_rejected_value_has_its_name (RejectsUnsigned 100 _) _ _ _
-      (λ l r. a_rejected_unsigned_is_at_the_value 100 _ l _ r) c.in-Err-unsigned_or.ensures.rejected
+      named (RejectsUnsigned 100) _ _ _ (λ l r. a_rejected_unsigned_is_at_the_value 100 _ l _ r)
+      c.in-Err-unsigned_or.ensures.rejected
       )));
 }
 
 pub returns-in-Err-bool_or-clause-rejected : goal.returns-in-Err-bool_or-clause-rejected
 returns-in-Err-bool_or-clause-rejected g c = record {
   why = inr (inr (inr (
-      a_rejected_value_has_its_name (RejectsTruth _) _ _ _ (λ l r. a_rejected_bool_is_at_the_value _ l _ r)
-      c.in-Err-bool_or.ensures.rejected
+      named RejectsTruth _ _ _ (λ l r. a_rejected_bool_is_at_the_value _ l _ r) c.in-Err-bool_or.ensures.rejected
       )));
 }
