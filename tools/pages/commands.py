@@ -30,7 +30,8 @@ COMMANDS = ('read', 'text', 'attr')
 # The other calls, by the table and heading in rust/programs/rows/tests/calls that must have the row.
 STORED = {
     'LitInt::new': ('numbers', 'integer'), 'LitFloat::new': ('numbers', 'real'), 'LitStr::parse': ('parsers', 'inside'),
-    'read_number': ('uses', 'settings'), 'read_config': ('uses', 'config'), 'LitInt': ('parsers', 'LitInt'), 'LitStr': ('parsers', 'LitStr'),
+    'read_number': ('uses', 'settings'), 'read_job': ('uses', 'jobs'), 'Attrs::number': ('attributes', 'attr_settings'),
+    'LitInt': ('parsers', 'LitInt'), 'LitStr': ('parsers', 'LitStr'),
 }
 # A command that is sent after each row of rl_rows, and the line that it prints.
 MARK, LINE = 'text', 'Verbatim "===" -\n'

@@ -5,4 +5,4 @@ pub mod RewriteLemmas
 pub mod CountLemmas
 pub mod ShortageLemmas
 pub mod CapitalLemmas
-mod ConfigLemmas
+pub mod StringLemmas

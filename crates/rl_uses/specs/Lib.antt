@@ -7,6 +7,7 @@ pub mod Lints
 pub mod Reasons
 pub mod Rewrites
 pub mod Counts
-pub mod Configs
-pub mod Mounts
 pub mod Capitals
+pub mod Formats
+pub mod Jobs
+pub mod Strings

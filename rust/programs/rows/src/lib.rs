@@ -16,5 +16,6 @@ use navyspindle::rendered::{
     rl_cursors, rl_lenient, rl_lexer, rl_strict, rl_style, rl_syntax, rl_writing,
 };
 use navyspindle_programs::{
-    rattle_std, rl_attributes, rl_grammar, rl_program, rl_quoted, rl_tokens, rust_literals,
+    rattle_std, rl_attributes, rl_grammar, rl_program, rl_quoted, rl_restyle, rl_tokens,
+    rust_literals,
 };

@@ -4,6 +4,7 @@ use crate::rows::{check, check_headings};
 use crate::shown::{self, at, debug_or_error, value_or_error};
 use navyspindle_programs::rattle_std::alloc::Global;
 use navyspindle_programs::rl_grammar::{next_literal, parse_literal};
+use navyspindle_programs::rl_restyle::RestyleError;
 use navyspindle_programs::rl_tokens::{parse_all, ParseBuffer, Span, Tokens};
 use navyspindle_programs::rust_literals::read_all;
 use navyspindle_rows::rl_uses::callers::cursors::skip_literal;
@@ -41,8 +42,8 @@ use navyspindle_rows::rl_uses::examples::tokens::{
 };
 use navyspindle_rows::rl_uses::{
     backslash_in_path, bad_literals, capital_integers, count_literals, format as formatted,
-    read_attribute, read_config, read_mount, read_number, strings_with_control_characters,
-    Attribute, Item, ItemList, LintError,
+    lower_hex, read_attribute, read_job, read_list, read_number, round_trip,
+    strings_with_control_characters, Attribute, FormatError, Item, ItemList, LintError, ListError,
 };
 use std::fmt::Debug;
 
@@ -111,6 +112,36 @@ fn rejected_list() {
         let list = value_or_error(input.parse::<ItemList>(Global), |_| "ok\n".to_owned());
         let item = value_or_error(input.parse::<Item>(Global), |_| "ok\n".to_owned());
         format!("{list}{item}next {}", at(input.span()))
+    });
+}
+
+/// Shows the strings of a list, and the strings that are read after they were written.
+#[test]
+fn strings() {
+    check(TABLE, "strings", |text| {
+        match read_list(Global, text, FILE) {
+            Ok(values) => {
+                let copies = round_trip(Global, &values).unwrap_or_else(|_| unreachable!());
+                let shown = |it: &[_]| it.iter().map(|it| format!("{it:?};")).collect::<String>();
+                format!("{}\n{}", shown(&values), shown(&copies))
+            }
+            Err(ListError::Text(it)) => shown::error(&it),
+            Err(ListError::NoString(span)) => format!("no string at {}", at(span)),
+        }
+    });
+}
+
+/// Shows a source with lower-case hexadecimal digits, or the error.
+#[test]
+fn formats() {
+    check(TABLE, "formats", |text| match lower_hex(Global, text) {
+        Ok(text) => text.as_str().to_owned(),
+        Err(FormatError::Source(RestyleError::Script)) => "script".to_owned(),
+        Err(FormatError::Source(RestyleError::Source(error))) => {
+            format!("{} at {}", error.kind, error.at)
+        }
+        Err(FormatError::Source(RestyleError::Memory)) => "out of memory".to_owned(),
+        Err(FormatError::Token) => "token".to_owned(),
     });
 }
 
@@ -185,22 +216,11 @@ fn numbers() {
     });
 }
 
-/// Shows the settings of a configuration: the port, `verbose`, and the name.
+/// Shows the settings of a job: how often it is tried, whether it reports, and its name.
 #[test]
-fn config() {
-    check(TABLE, "config", |text| {
-        match read_config(Global, text, FILE) {
-            Ok(it) => format!("{} {} {}", it.port, it.verbose, it.name.as_str()),
-            Err(error) => format!("{} {error}", at(error.span())),
-        }
-    });
-}
-
-/// Shows the settings of a mount: the path, and whether writing is forbidden.
-#[test]
-fn mount() {
-    check(TABLE, "mount", |text| match read_mount(Global, text) {
-        Ok(it) => format!("{} {}", it.path.as_str(), it.read_only),
+fn jobs() {
+    check(TABLE, "jobs", |text| match read_job(Global, text, FILE) {
+        Ok(it) => format!("{} {} {}", it.tries, it.reports, it.name.as_str()),
         Err(error) => format!("{} {error}", at(error.span())),
     });
 }
