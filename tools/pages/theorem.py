@@ -19,7 +19,7 @@ This page has all that the headline rests on: the contracts of [rl_theorem](../c
 that they need, in groups, and the names of Rattle's standard library. `rt check` in `crates/rl_theorem` proves the contracts.
 `tools/docs --write` writes the page from the sources, and counts:
 
-- The contracts without the loop over a list (`literal_at`, `both_ways`) and `read_again` need {headline_n} definitions in
+- All contracts but `literal_at`, `both_ways` and `read_again` need {headline_n} definitions in
   {headline_n_lines} lines, of which {headline_n_code} aren't comments.
 - All contracts need {all} definitions in {all_lines} lines, of which {all_code} aren't comments, and {types} types of the code in
   {types_lines} lines.
@@ -44,17 +44,18 @@ How to read it:
   `digits_onto m 10 false n []` is the digits of `n` in base ten, if `m` is above the number of the digits.
 - `IsTrue b` states that a test succeeds. `IfOk result (λ x. P)` states `P` of the value `x` if the result is `Ok`, and
   `IfErr result (λ e. P)` states `P` of the error `e` if it is `Err`.
-- `Memory` is the error for a failed allocation. No contract states that an allocation fails if `Memory` is returned, or that one
-  succeeds: Rattle's allocators promise neither. So a function that always returned `Memory` would fulfill each contract except that
+- `Memory` is the error for a failed allocation. No contract states that an allocation failed if `Memory` is returned, or that a
+  call succeeds: Rattle's allocators promise neither. So a function that always returned `Memory` would fulfill each contract except that
   of `literal_at`, which allocates nothing, and that of `suffix_of`.
-- Each grammar consists of rules. Rust's are those of the Rust Reference, `syn`'s are those of its parser. Not all that `syn` parses is
-  Rust's. That the rules are those of rustc and `syn` isn't proved, but [compared](COMPARISON.md).
+- Each grammar consists of rules. Rust's are those of the Rust Reference, `syn`'s are those of its parser, and
+  [DIFFERENCES.md](DIFFERENCES.md) lists the exceptions. Not all that `syn` parses is Rust's. That the rules are those of rustc and `syn` isn't proved, but [compared](COMPARISON.md).
 - No contract states that an integer above 128 bits has no parse result. It follows from the rules of `syn_literal`: `Int` tests the
   number, and `Float` excludes integers of any size. The lemma `read_within` in `crates/rl_strict/proofs/LimitLemmas.antt` proves it of
   `Reads`, the definition that agrees with these rules by the law `syn_literals_are_by_the_rules`. By the law
   `a_strict_literal_is_a_syn_literal_or_above_128_bits` in `crates/rl_strict/src/laws.rt`, every other strict text has a parse result.
-- The page leaves out the bodies of the functions, which only call the libraries. Except for `read_again`, nothing is stated about
-  reading a text that isn't a printed list.
+- The page leaves out the bodies of the functions, which only call the libraries. Except for `read_again`, no contract
+  states what the loop and `read_all` return for a text that isn't a printed list. That a text has at most one parse result, also
+  without a call, is the law `a_text_has_one_reading` in `crates/rl_syntax/src/laws.rt`.
 """
 # The groups of the definitions: a heading, and the files.
 GROUPS = {
