@@ -6,3 +6,5 @@ pub mod CountLemmas
 pub mod ShortageLemmas
 pub mod CapitalLemmas
 pub mod StringLemmas
+pub mod ParserLemmas
+pub mod PatternLemmas

@@ -11,3 +11,5 @@ pub mod Capitals
 pub mod Formats
 pub mod Jobs
 pub mod Strings
+pub mod Parsers
+pub mod Patterns

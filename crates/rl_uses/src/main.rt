@@ -1,6 +1,6 @@
 //! Small programs that use the libraries, each with its contract: parsers of an attribute, of a number, of a job's settings, of a
-//! path, of a list of literals and of a list of strings; three linters, two formatters, and a count of the literals of a text. The
-//! crate's main function prints a server's settings.
+//! path, of a pattern, of a list of literals and of a list of strings; three linters, two formatters, and a count of the literals
+//! of a text. The crate's main function prints a server's settings.
 #![tactic(auto)]
 
 mod attribute;
@@ -13,6 +13,7 @@ mod jobs;
 mod lint;
 mod list;
 mod path;
+mod patterns;
 mod reasons;
 mod rewrite;
 mod server;
@@ -27,6 +28,7 @@ pub use crate::jobs::{Job, read_job};
 pub use crate::lint::strings_with_control_characters;
 pub use crate::list::{Item, ItemList};
 pub use crate::path::backslash_in_path;
+pub use crate::patterns::{Range, read_range};
 pub use crate::reasons::{Reason, bad_literals};
 pub use crate::rewrite::{format, rewritten};
 pub use crate::setting::read_number;

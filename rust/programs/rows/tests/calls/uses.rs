@@ -42,7 +42,7 @@ use navyspindle_rows::rl_uses::examples::tokens::{
 };
 use navyspindle_rows::rl_uses::{
     backslash_in_path, bad_literals, capital_integers, count_literals, format as formatted,
-    lower_hex, read_attribute, read_job, read_list, read_number, round_trip,
+    lower_hex, read_attribute, read_job, read_list, read_number, read_range, round_trip,
     strings_with_control_characters, Attribute, FormatError, Item, ItemList, LintError, ListError,
 };
 use std::fmt::Debug;
@@ -112,6 +112,16 @@ fn rejected_list() {
         let list = value_or_error(input.parse::<ItemList>(Global), |_| "ok\n".to_owned());
         let item = value_or_error(input.parse::<Item>(Global), |_| "ok\n".to_owned());
         format!("{list}{item}next {}", at(input.span()))
+    });
+}
+
+#[test]
+fn patterns() {
+    check(TABLE, "patterns", |text| {
+        value_or_error(read_range(Global, text, FILE), |range| match &range.hi {
+            Some(hi) => format!("{} to {}", range.lo.text(), hi.text()),
+            None => range.lo.text().to_owned(),
+        })
     });
 }
 
