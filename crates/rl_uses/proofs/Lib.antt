@@ -1,4 +1,3 @@
-pub mod ItemLemmas
 pub mod LintLemmas
 pub mod ReasonLemmas
 pub mod RewriteLemmas
@@ -7,4 +6,7 @@ pub mod ShortageLemmas
 pub mod CapitalLemmas
 pub mod JobLemmas
 pub mod NumberLemmas
+pub mod ParserLemmas
+pub mod PatternLemmas
 pub mod StringLemmas
+pub mod SumLemmas

@@ -1,6 +1,5 @@
 pub mod Attributes
 pub mod Settings
-pub mod Lists
 pub mod Paths
 pub mod Shortage
 pub mod Lints
@@ -10,4 +9,7 @@ pub mod Counts
 pub mod Capitals
 pub mod Formats
 pub mod Jobs
+pub mod Parsers
+pub mod Patterns
 pub mod Strings
+pub mod Sums

@@ -7,6 +7,7 @@
 //! leaves out a check because it is proved, Rust makes the check.
 
 pub mod alloc;
+pub mod boxed;
 pub mod collections;
 pub mod env;
 pub mod fs;

@@ -1,6 +1,7 @@
 //! A replacement for Rattle's prelude: names that every Rattle file has, and that Rust lacks or defines differently. Each
 //! translated file imports the names that it uses.
 
+pub use super::boxed::Box;
 pub use super::io::Eprint;
 pub use super::io::Input;
 pub use super::rt::{Alloc, HostRuntime};

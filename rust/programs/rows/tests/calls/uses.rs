@@ -5,7 +5,7 @@ use crate::shown::{self, at, debug_or_error, value_or_error};
 use navyspindle_programs::rattle_std::alloc::Global;
 use navyspindle_programs::rl_grammar::{next_literal, parse_literal};
 use navyspindle_programs::rl_restyle::RestyleError;
-use navyspindle_programs::rl_tokens::{parse_all, ParseBuffer, Span, Tokens};
+use navyspindle_programs::rl_tokens::{ParseBuffer, Span, Tokens};
 use navyspindle_programs::rust_literals::read_all;
 use navyspindle_rows::rl_uses::callers::cursors::skip_literal;
 use navyspindle_rows::rl_uses::callers::grammar::string_lit_value;
@@ -41,8 +41,9 @@ use navyspindle_rows::rl_uses::examples::tokens::{
 };
 use navyspindle_rows::rl_uses::{
     backslash_in_path, bad_literals, capital_integers, count_literals, format as formatted,
-    lower_hex, read_attribute, read_job, read_list, read_number, round_trip,
-    strings_with_control_characters, Attribute, FormatError, Item, ItemList, LintError, ListError,
+    lower_hex, read_attribute, read_job, read_list, read_number, read_range, read_sum, round_trip,
+    strings_with_control_characters, Attribute, FormatError, LintError, ListError, Range, Sum,
+    Term,
 };
 use std::fmt::Debug;
 
@@ -88,29 +89,49 @@ fn attributes() {
     });
 }
 
-/// Shows each item's kind and span.
+/// Shows a term with `neg` for a minus, since a minus of an integer belongs to its text.
+fn term_of(term: &Term) -> String {
+    match term {
+        Term::Number(literal) => literal.text().to_owned(),
+        Term::Negated(term) => format!("neg {}", term_of(term)),
+        Term::Inside(sum) => format!("({})", sum_of(sum)),
+    }
+}
+
+fn sum_of(sum: &Sum) -> String {
+    match sum {
+        Sum::One(term) => term_of(term),
+        Sum::More(term, rest) => format!("{} + {}", term_of(term), sum_of(rest)),
+    }
+}
+
 #[test]
-fn list() {
-    check(TABLE, "list", |text| {
-        value_or_error(parse_all::<ItemList, Global>(Global, text, FILE), |list| {
-            let items = list.items.iter().map(|item| match item {
-                Item::Int(literal) => format!("int {};", at(literal.span())),
-                Item::Str(literal) => format!("str {};", at(literal.span())),
-            });
-            items.collect::<String>() + "\n"
+fn sums() {
+    check(TABLE, "sums", |text| {
+        value_or_error(read_sum(Global, text, FILE), sum_of)
+    });
+}
+
+#[test]
+fn patterns() {
+    check(TABLE, "patterns", |text| {
+        value_or_error(read_range(Global, text, FILE), |range| match &range.hi {
+            Some(hi) => format!("{} to {}", range.lo.text(), hi.text()),
+            None => range.lo.text().to_owned(),
         })
     });
 }
 
-/// Shows the errors of a list and of an item, and the buffer's position after each.
+/// Shows the errors of a pattern and of a sum in one buffer, and the buffer's position after each.
 #[test]
-fn rejected_list() {
-    check(TABLE, "rejected_list", |text| {
+fn rejected() {
+    check(TABLE, "rejected", |text| {
         let stream = shown::trees_of(text, FILE).unwrap();
         let mut input = ParseBuffer::new(stream.trees(), Span::call_site());
-        let list = value_or_error(input.parse::<ItemList>(Global), |_| "ok\n".to_owned());
-        let item = value_or_error(input.parse::<Item>(Global), |_| "ok\n".to_owned());
-        format!("{list}{item}next {}", at(input.span()))
+        let range = value_or_error(input.parse::<Range>(Global), |_| "ok\n".to_owned());
+        let after_range = at(input.span());
+        let sum = value_or_error(input.parse::<Sum>(Global), |_| "ok\n".to_owned());
+        format!("{range}next {after_range}\n{sum}next {}", at(input.span()))
     });
 }
 
