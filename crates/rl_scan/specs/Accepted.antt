@@ -86,12 +86,12 @@ IsIdOfTypeError id text negated reading =
     ((error : TypeError) × HasTypeErrorBy error text negated reading × (id ≡ type_error_id error))
     ⊎ ((flaw : Flaw) × ExplainsLimit (chars text) flaw × (id ≡ flaw_id flaw.kind))
 
--- The literal has a reserved prefix in the edition of the call, and reserved prefixes are allowed. `before` is the text before it.
+-- The edition of the call reserves the literal with the text `before` it, and `--allow` names reserved prefixes.
 abbrev pub HasAllowedPrefix : Job → List ℕ → List ℕ → Type 0
 HasAllowedPrefix job before text = IsTrue (reserved job.edition before text) × Allows job (codes "reserved-prefix")
 
--- A literal with the given parse result is accepted: it has a type, types aren't checked, or its error is allowed. `before` is the
--- text before it.
+-- The literal at the byte offset `at` of the source, which has the given parse result, is accepted: it has a type, types aren't
+-- checked, or its error is allowed.
 abbrev pub IsTyped : Job → List ℕ → ℕ → List ℕ → Reading → Type 0
 IsTyped job source at text reading =
     HasTypeBy text (may_negate (slice_range source 0 at)) reading ⊎ IsTrue job.any_suffix

@@ -55,7 +55,8 @@ plain_reading kind value =
     record { kind = kind; contents = quoted_contents kind value; suffix = [] }
 
 -- The text that is written for a character or byte of a literal of the kind: itself, or an escape. Characters below the
--- space, DEL, and in literals of bytes the bytes above 127 are written as `\x7F`, unless they have a shorter escape.
+-- space, DEL, and in literals of bytes the bytes above 127 are written as `\x` and two hexadecimal digits, unless they have a shorter
+-- escape.
 abbrev pub escaped : Kind → ℕ → List ℕ
 escaped kind c =
     if c == 0 then codes "\\0" else

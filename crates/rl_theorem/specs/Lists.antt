@@ -22,8 +22,8 @@ use Rattle.rl_theorem.specs.SynRules.{str_inside, byte_str_inside, c_str_inside}
 use Rattle.rl_theorem.specs.Headline.{HasTheReading}
 use Rattle.rl_theorem.specs.Printed.{ListItem, IsItemAt}
 
--- The rule of the text between the quotes of a string of the kind: any characters in a raw string, which the first
--- argument tells, and characters and escapes in another string.
+-- The rule of the text between the quotes of a string of the kind. The first argument is `true` for a raw string, which contains
+-- any characters. Another string contains characters and escapes.
 abbrev pub body_rule : Bool → Kind → Rule
 body_rule true Str = Many (One (λ c. true))
 body_rule true _ = As encode_utf8_all (Many (One (λ c. true)))
@@ -31,7 +31,7 @@ body_rule false ByteStr = Many byte_str_inside
 body_rule false CStr = Many c_str_inside
 body_rule false _ = Many str_inside
 
--- The parse result that the code returns for the text has the value: by the magnitude of an integer, the `bool`, the
+-- `contents` is the value that the parse result of the code gives for the text: by the magnitude of an integer, the `bool`, the
 -- character or byte, or the range of a string's body. The minus of an integer, and a float, are read from the text.
 abbrev pub GivesContents : Kind → List ℕ → Found → Contents → Type 0
 GivesContents Int text f contents =
@@ -67,7 +67,7 @@ IsStepAt at (i ∷ is) zero step =
     (l : NextLiteral) × (step ≡ Literal l) × IsItemReturned (at + byte_len i.gap) i l
 IsStepAt at (i ∷ is) (suc n) step = IsStepAt (at + byte_len i.gap + byte_len i.text) is n step
 
--- The step number `n` and the literal of this number are one item of a list. If there are at most `n` literals, the step
+-- The step number `n` and the literal number `n` of the list describe one item. If there are at most `n` literals, the step
 -- is the end.
 abbrev pub IsAlsoAt : {A : Type 0} → ℕ → List (Lit A) → ℕ → ListStep → Type 0
 IsAlsoAt file [] n step = step ≡ End

@@ -3,7 +3,7 @@ use Rattle.std.specs.Prelude.{◌≡◌, ◌⊎◌, ℕ, Bool, true, not, List, 
 use Rattle.rl_syntax.specs.Texts.{is_among}
 
 -- A rule has texts, and each text of a rule has a value: the characters, bytes or digits that it represents. The text that
--- follows may decide whether a text is one of the rule's. There are nine forms of rules.
+-- follows may decide whether a text belongs to a rule. There are nine forms of rules.
 infixr 30 ◌⋅◌
 infixr 20 ◌∣◌
 pub data Rule : Type 0 where
@@ -21,12 +21,12 @@ pub data Rule : Type 0 where
   As : (change : List ℕ → List ℕ) (rule : Rule) → Rule
   -- A text of the rule whose value passes the test.
   If : (test : List ℕ → Bool) (rule : Rule) → Rule
-  -- A text of the rule that is given for some number.
+  -- A text of `rule_of n` for some number `n`.
   Some : (rule_of : ℕ → Rule) → Rule
   -- The empty text, if no text of the rule follows.
   Unless : (rule : Rule) → Rule
 
--- The parts, each a text and its value, have the meaning, one after another.
+-- `text` is the texts of the parts, one after another, and `value` is their values. Each part has the meaning.
 abbrev pub Follow : (List ℕ → List ℕ → List ℕ → Type 0) → List (List ℕ × List ℕ) → List ℕ → List ℕ → List ℕ
     → Type 0
 Follow means [] text after value = (text ≡ []) × (value ≡ [])

@@ -30,7 +30,8 @@ pub record IsNegative (text : List ℕ) (r : Reading) : Type 0 where
   pub strict : IsLiteral number (record { kind = r.kind; contents = Digits digits; suffix = r.suffix })
 
 -- The item has its parse result by Rust's grammar, which also allows a minus before a number here. The item has it by
--- `syn`'s grammar too. This excludes integers above 128 bits and nothing else, by a law of `rl_syntax`.
+-- `syn`'s grammar too. This excludes integers above 128 bits and nothing else, by the laws `a_strict_text_reads` and
+-- `a_strict_number_reads_after_a_minus` of `rl_syntax`.
 pub record IsListItem (i : ListItem) : Type 0 where
   pub gap : IsTrivia i.gap
   pub strict : IsLiteral i.text i.reading ⊎ IsNegative i.text i.reading

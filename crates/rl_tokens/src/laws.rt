@@ -47,7 +47,8 @@ pub fn steps_join()
 {}
 
 /// Proves that one list of token trees follows a punctuation character, punctuation characters with nothing between them,
-/// or a group, and one list is inside the group. A group isn't a punctuation character, and `peek_punct` returns `true` exactly before the character.
+/// or a group, and one list is inside the group. A group isn't a punctuation character, and `peek_punct` returns `true` exactly
+/// before the character.
 pub fn one_list_follows_a_token()
     ensures mark { AMarkHasOneRest }
     ensures joint { JointMarksHaveOneRest }
