@@ -1,16 +1,12 @@
 -- The number of bytes that a writer of a quoted literal has written so far is at most that of the whole literal.
 use Rattle.rl_syntax.proofs.Common.{◌≡◌, ◌<◌, ◌≤◌, ◌+◌, ℕ, List, [], ◌∷◌, ◌++◌, map, length, length-append, take, drop, get_or, refl, sym, ap, ◌∙◌, arith, append_assoc, append-nil, map-append, take-append-drop, take_more, encode_utf8}
+use Rattle.std.proofs.lemmas.List.Concat.{flat_map-append}
 use Rattle.rl_lexer.proofs.CutLemmas.{byte_len-append}
 use Rattle.rl_syntax.proofs.WritingLemmas.{begun, begun_more}
 use Rattle.rl_syntax.specs.declared.kind.Kind.{Kind}
-use Rattle.rl_syntax.specs.Quoted.{QuotedUnit, opener, texts, unit_text}
+use Rattle.rl_syntax.specs.Quoted.{opener, texts, unit_text}
 use Rattle.rl_syntax.specs.Texts.{byte_len}
 use Rattle.rl_syntax.specs.Written.{closer, written_text, written_unit}
-
-texts_append : (us vs : List QuotedUnit) → texts (us ++ vs) ≡ texts us ++ texts vs
-texts_append [] vs = refl
-texts_append (u ∷ us) vs = ap (λ z. unit_text u ++ z) (texts_append us vs)
-    ∙ sym (append_assoc (unit_text u) (texts us) (texts vs))
 
 -- The bytes of a literal are those written for its first characters, those of the other characters, and the closing delimiter.
 parts : (k : Kind) (xs ys : List ℕ) → byte_len (written_text k (xs ++ ys))
@@ -19,7 +15,7 @@ parts k xs ys =
     let first = texts (map (written_unit k) xs) in
     let later = texts (map (written_unit k) ys) in
     let both : texts (map (written_unit k) (xs ++ ys)) ≡ first ++ later = ap texts (map-append (written_unit k) xs ys)
-    ∙ texts_append (map (written_unit k) xs) (map (written_unit k) ys) in
+    ∙ flat_map-append unit_text (map (written_unit k) xs) (map (written_unit k) ys) in
     let all : written_text k (xs ++ ys) ≡ (opener k ++ first) ++ (later ++ (closer k ∷ [])) =
     ap (λ z. opener k ++ (z ++ (closer k ∷ []))) both ∙ ap (λ z. opener k ++ z) (append_assoc first later (closer k ∷ []))
     ∙ sym (append_assoc (opener k) first (later ++ (closer k ∷ []))) in
